@@ -1,0 +1,26 @@
+-- Document 01, "Where a call is refused": how a refusal's number and a result become an answer, for every call alike.
+-- A refusal is its number in document 01's table, and 0 where there is none.
+use Prim.Native.Nat.{ℕ, zero, suc}
+use mathlib.Core.Bool.{Bool, true, false}
+use Rattle.base.specs.Over.{between}
+use Rattle.rules.specs.declared.Answer.{Answer}
+use Rattle.rules.specs.declared.Answer.the-variants.{Accepted, Refused}
+
+-- refusal n where the test fails, else what the later tests say
+abbrev pub unless : Bool → ℕ → ℕ → ℕ
+unless true n rest = rest
+unless false n rest = n
+
+-- refusal n where x is not 1 to count, else what the later tests say
+abbrev pub oneTo : ℕ → ℕ → ℕ → ℕ → ℕ
+oneTo x count n rest = unless (between 1 count x) n rest
+
+-- the answer: a value where nothing refuses it, else the number, marked as a refusal
+unfoldable pub answerOf : ℕ → ℕ → Answer
+answerOf zero value = Accepted value
+answerOf (suc n) value = Refused (suc n)
+
+-- what is held after it: the new where nothing refuses it, else what stood there
+unfoldable pub accepting : {A : Type 0} → ℕ → A → A → A
+accepting zero new old = new
+accepting (suc n) new old = old

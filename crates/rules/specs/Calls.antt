@@ -1,0 +1,93 @@
+-- Document 01, "The calls" and "Where a call is refused": what each call answers, and what unit and buffer then hold.
+use Prim.Native.Nat.{ℕ, _+_, _-_}
+use mathlib.Core.Bool.{Bool, true, false}
+use mathlib.Core.List.{List, [], _++_}
+use lib.Dec.{leb}
+use lib.ListN.{length, drop}
+use Rattle.rules.specs.District.{District, segmentsOf, strategiesOf, distressesOf, resourcesOf, withLimit, withBar, withoutBar, withRating, freshDistrict}
+use Rattle.rules.specs.Format.{inside, limitField, segmentField}
+use Rattle.rules.specs.File.{Read, refused, found, decode, encode}
+use Rattle.rules.specs.Plan.{planOf}
+use Rattle.rules.specs.Answers.{unless, oneTo, answerOf, accepting}
+use Rattle.rules.specs.declared.Programme.{Programme}
+use Rattle.rules.specs.declared.Unit.{Unit}
+use Rattle.rules.specs.declared.Reply.{Reply}
+use Rattle.rules.specs.declared.Answer.{Answer}
+
+-- ---- the refusal of each call, the first condition that it meets
+
+unfoldable pub loadRefusalOf : Read → ℕ
+loadRefusalOf (refused n) = n
+loadRefusalOf (found d rest) = 0
+
+unfoldable pub loadRefusal : List ℕ → ℕ
+loadRefusal file = loadRefusalOf (decode file)
+
+-- of bar and unbar
+unfoldable pub barRefusal : District → ℕ → ℕ → ℕ
+barRefusal d i j = oneTo i (segmentsOf d) 6 (oneTo j (strategiesOf d) 7 0)
+
+-- a limit, and below a rating, has the range that the file gives it
+unfoldable pub limitRefusal : District → ℕ → ℕ → ℕ
+limitRefusal d r limit = oneTo r (resourcesOf d) 7 (unless (inside (limitField d (r - 1)) limit) 8 0)
+
+unfoldable pub ratingRefusal : District → ℕ → ℕ → ℕ → ℕ
+ratingRefusal d i k rating =
+    oneTo i (segmentsOf d) 6 (oneTo k (distressesOf d) 7 (unless (inside (segmentField d (6 + (k - 1))) rating) 8 0))
+
+unfoldable pub exportRefusal : District → List ℕ → ℕ
+exportRefusal d buffer = unless (leb (length (encode d)) (length buffer)) 9 0
+
+-- ---- the calls that change the district
+
+-- the district that a file loads as, where it loads
+unfoldable pub loadedOf : Read → District
+loadedOf (refused n) = []
+loadedOf (found d rest) = d
+
+unfoldable pub districtIn : List ℕ → District
+districtIn file = loadedOf (decode file)
+
+-- a unit that holds a district, with programme and ceiling worked out afresh
+unfoldable pub unitOf : District → Unit
+unitOf d = record { district = d; programme = planOf d }
+
+unfoldable pub freshUnit : Unit
+freshUnit = unitOf freshDistrict
+
+-- accepted, the call returns 0 and the district replaces the one held
+unfoldable pub answered : Unit → ℕ → District → Reply
+answered u n d = record { answer = answerOf n 0; unit = accepting n (unitOf d) u }
+
+unfoldable pub loadOf : Unit → List ℕ → Reply
+loadOf u file = answered u (loadRefusal file) (districtIn file)
+
+unfoldable pub barOf : Unit → ℕ → ℕ → Reply
+barOf u i j = answered u (barRefusal (u .district) i j) (withBar (u .district) i j)
+
+unfoldable pub unbarOf : Unit → ℕ → ℕ → Reply
+unbarOf u i j = answered u (barRefusal (u .district) i j) (withoutBar (u .district) i j)
+
+unfoldable pub setLimitOf : Unit → ℕ → ℕ → Reply
+setLimitOf u r limit = answered u (limitRefusal (u .district) r limit) (withLimit (u .district) r limit)
+
+unfoldable pub setRatingOf : Unit → ℕ → ℕ → ℕ → Reply
+setRatingOf u i k rating = answered u (ratingRefusal (u .district) i k rating) (withRating (u .district) i k rating)
+
+-- ---- export and show, which leave the unit as it is
+
+-- an export's answer, and what the buffer then holds
+pub record Export : Type 0 where
+  pub answer : Answer
+  pub buffer : List ℕ
+
+-- accepted, it returns the file's length and writes the file over the front of the buffer
+unfoldable pub exported : ℕ → List ℕ → List ℕ → Export
+exported n file buffer =
+    record { answer = answerOf n (length file); buffer = accepting n (file ++ drop (length file) buffer) buffer }
+
+unfoldable pub exportOf : Unit → List ℕ → Export
+exportOf u buffer = exported (exportRefusal (u .district) buffer) (encode (u .district)) buffer
+
+unfoldable pub showOf : Unit → Programme
+showOf u = u .programme

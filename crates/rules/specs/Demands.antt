@@ -1,0 +1,105 @@
+-- The three demands, as statements.
+use Prim.Native.Nat.{ℕ, suc, _-_, _*_, _≤_, _<_}
+use mathlib.Core.Path.{_≡_}
+use mathlib.Core.Bool.{Bool, true, false, _&&_, _||_}
+use mathlib.Core.List.{List, _++_}
+use mathlib.Core.Option.{none}
+use lib.Dec.{leb, eqb}
+use lib.IntN.{ℤ, pos}
+use lib.Signed.{_≤ℤ_}
+use lib.ListN.{getD, length, drop}
+use Rattle.base.specs.Over.{all}
+use Rattle.base.specs.Search.{Run}
+use Rattle.rules.specs.District.{District, segmentsOf, strategiesOf}
+use Rattle.rules.specs.File.{encode}
+use Rattle.rules.specs.Rating.{permitted, withinLimits, totalOf}
+use Rattle.rules.specs.Table.{Table, tableOf}
+use Rattle.rules.specs.Phases.{step, pickUp, change}
+use Rattle.rules.specs.Plan.{reduced, filled, improved, programmeOf}
+use Rattle.rules.specs.Calls.{loadRefusal, loadOf, Export, exportOf, showOf}
+use Rattle.rules.specs.Lists.{Call, refusalOf, lentTo, Outcome, outcomeOf, districtAfter, unitAfter}
+use Rattle.rules.specs.declared.Programme.{Programme}
+use Rattle.rules.specs.declared.Unit.{Unit}
+use Rattle.rules.specs.declared.Reply.{Reply}
+use Rattle.rules.specs.declared.Answer.{Answer}
+use Rattle.rules.specs.declared.Answer.the-variants.{Accepted, Refused}
+
+-- ---- Demand 1, every answer is settled: of a unit in any state and any call
+pub record Settled (u : Unit) (c : Call) : Type 0 where
+  -- a call that meets no condition for a refusal gives a full result;
+  pub accepted : refusalOf (u .district) c ≡ 0 → (value : ℕ) × (outcomeOf u c .answer ≡ Accepted value)
+  -- any other gives the number of the first condition, and unit and lent bytes stay as they were
+  pub refused :
+      (n : ℕ) → refusalOf (u .district) c ≡ suc n
+      → outcomeOf u c ≡ record { answer = Refused (suc n); unit = u; bytes = lentTo c }
+
+-- ---- Demand 2, the rules exactly
+
+-- each phase ends because its rule finds nothing more to do, never because its bound is used up
+pub record Finished (t : Table) : Type 0 where
+  pub steps : step t (reduced t .last) ≡ none
+  pub pickups : pickUp t (filled t .last) ≡ none
+  pub changes : change t (improved t .last) ≡ none
+
+-- of the unit after any list of calls
+pub record ByTheRules (cs : List Call) : Type 0 where
+  pub district : unitAfter cs .district ≡ districtAfter cs
+  pub programme : showOf (unitAfter cs) ≡ programmeOf (tableOf (districtAfter cs))
+  pub finished : Finished (tableOf (districtAfter cs))
+  -- its export, loaded into a unit in any state, gives the same district and the same programme
+  pub reloaded : (u : Unit) → loadOf u (encode (unitAfter cs .district)) ≡ record { answer = Accepted 0; unit = unitAfter cs }
+
+abbrev pub Bytes : List ℕ → Type 0
+Bytes file = (n : ℕ) → getD file n 0 < 256
+
+-- of every file that loads, into a unit in any state: the export that follows, into any buffer with room, is the file
+pub record ByteForByte (file : List ℕ) : Type 0 where
+  pub same :
+      Bytes file → loadRefusal file ≡ 0 → (u : Unit) (buffer : List ℕ) → length file ≤ length buffer
+      → exportOf (loadOf u file .unit) buffer ≡ record { answer = Accepted (length file); buffer = file ++ drop (length file) buffer }
+
+-- ---- Demand 3, one claim over every list of calls. A programme c gives segment i the strategy c i.
+
+-- segment i has nothing, or one strategy that is permitted for it
+unfoldable pub permittedAt : District → (ℕ → ℕ) → ℕ → Bool
+permittedAt d c i = eqb (c i) 0 || (leb (c i) (strategiesOf d) && permitted d i (c i))
+
+unfoldable pub allPermitted : District → (ℕ → ℕ) → Bool
+allPermitted d c = all (segmentsOf d) (permittedAt d c)
+
+-- a programme over permitted strategies, within the limits
+pub record Feasible (d : District) (c : ℕ → ℕ) : Type 0 where
+  pub permitted : allPermitted d c ≡ true
+  pub within : withinLimits d c ≡ true
+
+-- two programmes that differ in no segments but i and k: one or two segments apart
+pub record Apart (d : District) (i k : ℕ) (c e : ℕ → ℕ) : Type 0 where
+  pub elsewhere : (m : ℕ) → 1 ≤ m → m ≤ segmentsOf d → ¬ (m ≡ i) → ¬ (m ≡ k) → c m ≡ e m
+
+abbrev pub strategyIn : Programme → ℕ → ℕ
+strategyIn p i = getD (p .strategies) (i - 1) 0
+
+-- the claim, of a district and the programme shown for it
+pub record Sound (d : District) (p : Programme) : Type 0 where
+  -- the programme is permitted and within the limits;
+  pub feasible : Feasible d (strategyIn p)
+  -- of the programmes one or two segments away, over permitted strategies, none has a greater total;
+  pub neighbours :
+      (c : ℕ → ℕ) → Feasible d c → (i k : ℕ) → Apart d i k (strategyIn p) c → totalOf d c ≤ℤ totalOf d (strategyIn p)
+  -- of all programmes, none has a total above the ceiling
+  pub ceiling : (c : ℕ → ℕ) → Feasible d c → totalOf d c ≤ℤ pos (p .ceiling)
+
+-- what else "The calls" says of a show
+pub record Shown (d : District) (p : Programme) : Type 0 where
+  pub total : totalOf d (strategyIn p) ≡ pos (p .total)
+  pub places : length (p .strategies) ≡ 64
+  pub past : (i : ℕ) → segmentsOf d < i → strategyIn p i ≡ 0
+  pub changes : p .changes ≤ p .total - p .«after_pickups»
+
+-- the programme held and the ceiling shown are those of a show made next
+pub record Claim (cs : List Call) : Type 0 where
+  pub sound : Sound (districtAfter cs) (showOf (unitAfter cs))
+  pub shown : Shown (districtAfter cs) (showOf (unitAfter cs))
+
+abbrev pub OneClaim : Type 0
+OneClaim = (cs : List Call) → Claim cs

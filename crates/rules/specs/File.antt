@@ -1,0 +1,104 @@
+-- Document 01, "The district and its file" and the upper half of "Where a call is refused": what any bytes load as, and a district's file.
+use Prim.Native.Nat.{ℕ, zero, suc, _+_, _-_, _^_, _<_}
+use mathlib.Core.Path.{_≡_}
+use mathlib.Core.Bool.{Bool, true, false, _&&_}
+use mathlib.Core.List.{List, [], _∷_, _++_}
+use lib.Dec.{ltb, eqb}
+use lib.ListN.{length, getD, take, drop}
+use Rattle.base.specs.Choice.{pick}
+use Rattle.base.specs.Bytes.{bytesOf, numberOf}
+use Rattle.rules.specs.District.{District}
+use Rattle.rules.specs.Format.{fieldAt, present, slotOf, inside}
+use Rattle.rules.specs.declared.Slot.{Slot}
+use Rattle.rules.specs.declared.Field.{Field}
+
+-- what bytes are read as: a refusal by its number, or values and the bytes that follow
+pub data Read : Type 0 where
+  refused : ℕ → Read
+  found : List ℕ → List ℕ → Read
+
+-- the number that stands first in the bytes
+abbrev pub value : Field → List ℕ → ℕ
+value f bs = numberOf (take (f .width) bs)
+
+-- the bytes of m numbers of the record s, from its n-th on; d are the values of the records before
+abbrev pub widths : ℕ → District → Slot → ℕ → ℕ
+widths zero d s n = 0
+widths (suc m) d s n = fieldAt d s n .width + widths m d s (n + 1)
+
+-- a record's length: its payload's bytes
+abbrev pub size : District → Slot → ℕ
+size d s = widths (s .places) d s 0
+
+-- m numbers of the record s, from its n-th on, after the numbers vs; refusal 4: one is out of range
+unfoldable pub readNumbers : ℕ → District → Slot → ℕ → List ℕ → List ℕ → Read
+readNumbers zero d s n vs bs = found vs bs
+readNumbers (suc m) d s n vs bs =
+    let f = fieldAt d s n in
+    let x = value f bs in
+    pick (inside f x) (readNumbers m d s (n + 1) (vs ++ x ∷ []) (drop (f .width) bs)) (refused 4)
+
+-- the record s. Refusals in their order: 1, its first 4 bytes are cut short; 2, another kind; 3, another length; 1, its payload is cut short
+unfoldable pub readRecord : District → Slot → List ℕ → Read
+readRecord d s bs =
+    pick (present d s)
+    (pick (ltb (length bs) 4) (refused 1)
+    (pick (eqb (numberOf (take 2 (drop 2 bs))) (s .kind))
+    (pick (eqb (numberOf (take 2 bs)) (size d s))
+    (pick (ltb (length bs - 4) (size d s)) (refused 1)
+    (readNumbers (s .places) d s 0 [] (drop 4 bs)))
+    (refused 3))
+    (refused 2)))
+    (readNumbers (s .places) d s 0 [] bs)
+
+-- what follows a reading that is not refused
+abbrev pub andThen : Read → (List ℕ → List ℕ → Read) → Read
+andThen (refused n) next = refused n
+andThen (found vs bs) next = next vs bs
+
+-- m records, from the n-th of the file on, where d are the values before; refusal 5: something follows the last
+unfoldable pub readRecords : ℕ → ℕ → District → List ℕ → Read
+readRecords zero n d [] = found d []
+readRecords zero n d (b ∷ bs) = refused 5
+readRecords (suc m) n d bs = andThen (readRecord d (slotOf n) bs) (λ vs rest. readRecords m (n + 1) (d ++ vs) rest)
+
+-- what the bytes of a file load as
+unfoldable pub decode : List ℕ → Read
+decode bs = readRecords 83 0 [] bs
+
+-- ---- the file of a district
+
+-- m numbers of the record s, from its n-th on, which stand in the district from a place on
+unfoldable pub numberBytes : ℕ → District → Slot → ℕ → ℕ → List ℕ
+numberBytes zero d s n place = []
+numberBytes (suc m) d s n place = bytesOf (fieldAt d s n .width) (getD d place 0) ++ numberBytes m d s (n + 1) (place + 1)
+
+abbrev pub headerBytes : District → Slot → List ℕ
+headerBytes d s = pick (present d s) (bytesOf 2 (size d s) ++ bytesOf 2 (s .kind)) []
+
+abbrev pub recordBytes : District → Slot → ℕ → List ℕ
+recordBytes d s place = headerBytes d s ++ numberBytes (s .places) d s 0 place
+
+unfoldable pub recordsBytes : ℕ → District → ℕ → ℕ → List ℕ
+recordsBytes zero d n place = []
+recordsBytes (suc m) d n place = recordBytes d (slotOf n) place ++ recordsBytes m d (n + 1) (place + slotOf n .places)
+
+unfoldable pub encode : District → List ℕ
+encode d = recordsBytes 83 d 0 0
+
+-- ---- a district in the file's ranges
+
+-- m numbers of the record s, from its n-th on, with which vs begins
+unfoldable pub numbersInRange : ℕ → District → Slot → ℕ → List ℕ → Bool
+numbersInRange zero d s n vs = true
+numbersInRange (suc m) d s n vs = inside (fieldAt d s n) (getD vs 0 0) && numbersInRange m d s (n + 1) (drop 1 vs)
+
+-- m records, from the n-th of the file on
+unfoldable pub recordsInRange : ℕ → District → ℕ → List ℕ → Bool
+recordsInRange zero d n vs = true
+recordsInRange (suc m) d n vs =
+    numbersInRange (slotOf n .places) d (slotOf n) 0 vs && recordsInRange m d (n + 1) (drop (slotOf n .places) vs)
+
+-- every number of the district is one that the file may hold
+unfoldable pub inRange : District → Bool
+inRange d = eqb (length d) 2620 && recordsInRange 83 d 0 d

@@ -1,0 +1,104 @@
+-- Document 01, "The district and its file": the records in order, and how many bytes and what range each of their numbers has.
+-- A number that the district does not have takes no byte of the file, and its place in the district holds 0.
+use Prim.Native.Nat.{ℕ, _+_, _-_, _*_, _/_, _%_, _^_, min}
+use mathlib.Core.Bool.{Bool, true, false, _&&_, _||_}
+use mathlib.Core.List.{List, [], _∷_}
+use lib.Dec.{leb, ltb, eqb}
+use lib.ListN.{getD}
+use Rattle.base.specs.Choice.{pick}
+use Rattle.rules.specs.District.{District, segmentsOf, strategiesOf, yearsOf, distressesOf, pavementsOf, resourcesOf, greatestOf}
+use Rattle.rules.specs.declared.Field.{Field}
+use Rattle.rules.specs.declared.Slot.{Slot}
+
+-- a number of w bytes, from lo to hi; where hi < lo the range runs from lo through the largest number to 0 and on to hi
+abbrev pub number : ℕ → ℕ → ℕ → Field
+number w lo hi = record { width = w; lo = lo; hi = hi }
+
+-- a number that the district does not have
+abbrev pub absent : Field
+absent = number 0 0 0
+
+-- x is from lo to hi, the range that runs past the largest number included
+unfoldable pub ranged : ℕ → ℕ → ℕ → Bool
+ranged lo hi x = pick (leb lo hi) (leb lo x && leb x hi) (leb lo x || leb x hi)
+
+abbrev pub inside : Field → ℕ → Bool
+inside f x = ranged (f .lo) (f .hi) x
+
+-- ---- the records in order
+
+abbrev pub slot : ℕ → ℕ → ℕ → Slot
+slot kind places nth = record { kind = kind; places = places; nth = nth }
+
+-- 83 records: kinds 1, 2 and 3, then 11 of kind 4, 4 of kind 5, 64 of kind 6, and kind 7
+abbrev pub slotOf : ℕ → Slot
+slotOf n =
+    pick (eqb n 0) (slot 1 6 0)
+    (pick (eqb n 1) (slot 2 16 0)
+    (pick (eqb n 2) (slot 3 9 0)
+    (pick (ltb n 14) (slot 4 115 (n - 3))
+    (pick (ltb n 18) (slot 5 91 (n - 14))
+    (pick (ltb n 82) (slot 6 15 (n - 18))
+    (slot 7 0 0))))))
+
+-- kind 4 stands S times, kind 5 Y times, kind 6 N times, each other once
+abbrev pub present : District → Slot → Bool
+present d s =
+    pick (eqb (s .kind) 4) (ltb (s .nth) (strategiesOf d))
+    (pick (eqb (s .kind) 5) (ltb (s .nth) (pavementsOf d))
+    (pick (eqb (s .kind) 6) (ltb (s .nth) (segmentsOf d))
+    true))
+
+-- ---- the numbers of each kind; n counts a record's places from 0
+
+-- kind 1: N 0 to 64, S 1 to 11, T 1 to 10, D 1 to 9, Y 1 to 4, R 1 to 16
+abbrev pub countField : ℕ → Field
+countField n = number 1 (getD (0 ∷ 1 ∷ 1 ∷ 1 ∷ 1 ∷ 1 ∷ []) n 0) (getD (64 ∷ 11 ∷ 10 ∷ 9 ∷ 4 ∷ 16 ∷ []) n 0)
+
+-- kind 2: R limits, 4 bytes each, 0 to 999,999,999
+abbrev pub limitField : District → ℕ → Field
+limitField d n = pick (ltb n (resourcesOf d)) (number 4 0 999_999_999) absent
+
+-- kind 3: D greatest ratings, 1 byte each, 1 to 50
+abbrev pub greatestField : District → ℕ → Field
+greatestField d n = pick (ltb n (distressesOf d)) (number 1 1 50) absent
+
+-- D rows of T bytes, 0 to most, at places for 9 rows of 10
+abbrev pub rowsField : District → ℕ → ℕ → Field
+rowsField d most n = pick (ltb (n / 10) (distressesOf d)) (pick (ltb (n % 10) (yearsOf d)) (number 1 0 most) absent) absent
+
+-- kind 4: R requirements, 4 bytes each, 0 to 999,999; D gains, signed bytes, −50 (byte 206) to 50; D rows of T percents, 0 to 100
+abbrev pub strategyField : District → ℕ → Field
+strategyField d n =
+    pick (ltb n 16) (pick (ltb n (resourcesOf d)) (number 4 0 999_999) absent)
+    (pick (ltb n 25) (pick (ltb (n - 16) (distressesOf d)) (number 1 206 50) absent)
+    (rowsField d 100 (n - 25)))
+
+-- kind 5: overall requirement, 2 bytes, 0 to 450; D rows of T minimum ratings, 0 to 50
+abbrev pub pavementField : District → ℕ → Field
+pavementField d n = pick (eqb n 0) (number 2 0 450) (rowsField d 50 (n - 1))
+
+-- kind 6: pavement type 1 byte, 1 to Y; the two indexes 2 bytes each, 100 to 1,000; length 2 bytes, 1 to 9,999; width 1 byte, 1 to 200; bars 2
+-- bytes, bits from S upward 0 (of 16); D ratings, 1 byte each, 0 to the greatest
+abbrev pub segmentField : District → ℕ → Field
+segmentField d n =
+    pick (eqb n 0) (number 1 1 (pavementsOf d))
+    (pick (ltb n 3) (number 2 100 1_000)
+    (pick (eqb n 3) (number 2 1 9_999)
+    (pick (eqb n 4) (number 1 1 200)
+    (pick (eqb n 5) (number 2 0 (2 ^ min (strategiesOf d) 16 - 1))
+    (pick (ltb (n - 6) (distressesOf d)) (number 1 0 (greatestOf d (n - 5))) absent)))))
+
+abbrev pub kindField : District → ℕ → ℕ → Field
+kindField d kind n =
+    pick (eqb kind 1) (countField n)
+    (pick (eqb kind 2) (limitField d n)
+    (pick (eqb kind 3) (greatestField d n)
+    (pick (eqb kind 4) (strategyField d n)
+    (pick (eqb kind 5) (pavementField d n)
+    (pick (eqb kind 6) (segmentField d n)
+    absent)))))
+
+-- the n-th number of a record that the file may not have
+unfoldable pub fieldAt : District → Slot → ℕ → Field
+fieldAt d s n = pick (present d s) (kindField d (s .kind) n) absent

@@ -1,0 +1,15 @@
+pub mod District
+pub mod Format
+pub mod File
+pub mod Rating
+pub mod Table
+pub mod Phases
+pub mod Ceiling
+pub mod Plan
+pub mod Answers
+pub mod Survey
+pub mod Calls
+pub mod Lists
+pub mod Demands
+pub mod Results
+pub mod Marked

@@ -1,0 +1,91 @@
+-- Document 01, "The calls", on demand 3: lists of calls on a fresh unit.
+use Prim.Native.Nat.{ℕ}
+use mathlib.Core.List.{List, [], _∷_}
+use Rattle.rules.specs.District.{District, freshDistrict, withLimit, withBar, withoutBar, withRating}
+use Rattle.rules.specs.Answers.{accepting}
+use Rattle.rules.specs.Calls.{barRefusal, limitRefusal, ratingRefusal, loadRefusal, exportRefusal, districtIn, freshUnit, loadOf, barOf, unbarOf, setLimitOf, setRatingOf, Export, exportOf}
+use Rattle.rules.specs.declared.Unit.{Unit}
+use Rattle.rules.specs.declared.Reply.{Reply}
+use Rattle.rules.specs.declared.Answer.{Answer}
+use Rattle.rules.specs.declared.Answer.the-variants.{Accepted, Refused}
+
+-- a load with its file, any bytes at all; an export with its buffer, of any length
+pub data Call : Type 0 where
+  Load : List ℕ → Call
+  Bar : ℕ → ℕ → Call
+  Unbar : ℕ → ℕ → Call
+  SetLimit : ℕ → ℕ → Call
+  SetRating : ℕ → ℕ → ℕ → Call
+  ExportTo : List ℕ → Call
+  Show : Call
+
+-- the number of the first condition for a refusal that the call meets; 0 where it meets none
+unfoldable pub refusalOf : District → Call → ℕ
+refusalOf d (Load file) = loadRefusal file
+refusalOf d (Bar i j) = barRefusal d i j
+refusalOf d (Unbar i j) = barRefusal d i j
+refusalOf d (SetLimit r limit) = limitRefusal d r limit
+refusalOf d (SetRating i k rating) = ratingRefusal d i k rating
+refusalOf d (ExportTo buffer) = exportRefusal d buffer
+refusalOf d Show = 0
+
+-- ---- the district after a list, from the calls alone
+
+-- how a call that is not refused alters it
+unfoldable pub altered : District → Call → District
+altered d (Load file) = districtIn file
+altered d (Bar i j) = withBar d i j
+altered d (Unbar i j) = withoutBar d i j
+altered d (SetLimit r limit) = withLimit d r limit
+altered d (SetRating i k rating) = withRating d i k rating
+altered d (ExportTo buffer) = d
+altered d Show = d
+
+unfoldable pub districtFrom : District → List Call → District
+districtFrom d [] = d
+districtFrom d (c ∷ cs) = districtFrom (accepting (refusalOf d c) (altered d c) d) cs
+
+unfoldable pub districtAfter : List Call → District
+districtAfter cs = districtFrom freshDistrict cs
+
+-- ---- the unit after a list, from what each call does
+
+-- all that a call does: its answer, and the unit and the lent bytes as it leaves them
+pub record Outcome : Type 0 where
+  pub answer : Answer
+  pub unit : Unit
+  pub bytes : List ℕ
+
+-- the bytes that a call is lent: a load's file, an export's buffer
+unfoldable pub lentTo : Call → List ℕ
+lentTo (Load file) = file
+lentTo (Bar i j) = []
+lentTo (Unbar i j) = []
+lentTo (SetLimit r limit) = []
+lentTo (SetRating i k rating) = []
+lentTo (ExportTo buffer) = buffer
+lentTo Show = []
+
+abbrev pub replied : Reply → List ℕ → Outcome
+replied r bytes = record { answer = r .answer; unit = r .unit; bytes = bytes }
+
+abbrev pub written : Export → Unit → Outcome
+written e u = record { answer = e .answer; unit = u; bytes = e .buffer }
+
+-- a show is always accepted, and what it gives is showOf
+unfoldable pub outcomeOf : Unit → Call → Outcome
+outcomeOf u (Load file) = replied (loadOf u file) file
+outcomeOf u (Bar i j) = replied (barOf u i j) []
+outcomeOf u (Unbar i j) = replied (unbarOf u i j) []
+outcomeOf u (SetLimit r limit) = replied (setLimitOf u r limit) []
+outcomeOf u (SetRating i k rating) = replied (setRatingOf u i k rating) []
+outcomeOf u (ExportTo buffer) = written (exportOf u buffer) u
+outcomeOf u Show = record { answer = Accepted 0; unit = u; bytes = [] }
+
+-- each call gets the unit as the one before left it
+unfoldable pub unitFrom : Unit → List Call → Unit
+unitFrom u [] = u
+unitFrom u (c ∷ cs) = unitFrom (outcomeOf u c .unit) cs
+
+unfoldable pub unitAfter : List Call → Unit
+unitAfter cs = unitFrom freshUnit cs

@@ -1,0 +1,49 @@
+// The types that the rules speak of. The rules themselves, document 01 as definitions, are in specs/.
+
+// A district: 2,620 numbers, each at its place (specs/District.antt).
+pub type District = [usize; 2620];
+
+// One number of a record: how many bytes it has, and its range. Where hi < lo the range runs from lo through the
+// largest number to 0 and on to hi: a signed byte.
+pub struct Field {
+    pub width: usize,
+    pub lo: usize,
+    pub hi: usize,
+}
+
+// A record of the file: its kind, how many places its numbers have in a district, and which of its kind it is, from 0.
+pub struct Slot {
+    pub kind: usize,
+    pub places: usize,
+    pub nth: usize,
+}
+
+// What a show gives: a strategy number for each of 64 places (0 for nothing and past N), the total, the total after
+// phase 2, the ceiling, and how many steps, pick-ups and changes the three phases made.
+pub struct Programme {
+    pub strategies: [usize; 64],
+    pub total: u64,
+    pub after_pickups: u64,
+    pub ceiling: u64,
+    pub steps: u64,
+    pub pickups: u64,
+    pub changes: u64,
+}
+
+// The planning unit: the district held and the programme worked out for it.
+pub struct Unit {
+    pub district: District,
+    pub programme: Programme,
+}
+
+// What a call returns: a value (0, a length, points), or the number of a refusal.
+pub enum Answer {
+    Accepted(usize),
+    Refused(usize),
+}
+
+// An answer and the unit as the call leaves it.
+pub struct Reply {
+    pub answer: Answer,
+    pub unit: Unit,
+}

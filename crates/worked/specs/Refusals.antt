@@ -1,0 +1,90 @@
+-- Refusals in the order of document 01's table, the card's file given back, and entries of Table 1, computed.
+use Prim.Native.Nat.{ℕ}
+use mathlib.Core.Path.{_≡_, refl}
+use mathlib.Core.Bool.{true}
+use mathlib.Core.List.{List, [], _∷_, _++_, map}
+use lib.ListN.{take, set}
+use Rattle.rules.specs.District.{freshDistrict}
+use Rattle.rules.specs.File.{encode, inRange}
+use Rattle.rules.specs.Calls.{barRefusal, limitRefusal, ratingRefusal, exportRefusal, loadRefusal, districtIn}
+use Rattle.rules.specs.Survey.{deductPoints, blockOf, pointsOf, surveyRefusal, surveyOf}
+use Rattle.rules.specs.Results.{resultOf}
+use Rattle.rules.specs.Marked.{card}
+use Rattle.rules.specs.declared.Answer.{Answer}
+use Rattle.rules.specs.declared.Answer.the-variants.{Accepted, Refused}
+
+unfoldable pub files : List (List ℕ)
+files =
+    -- the card
+    card
+    -- no byte, and 3 bytes
+    ∷ []
+    ∷ (take 3 card)
+    -- a kind, and a kind and a length, that are not due
+    ∷ (set card 2 2)
+    ∷ (set (set card 0 7) 2 2)
+    -- a length that is not required, where the file ends too
+    ∷ (take 8 (set card 0 7))
+    -- the end within a payload, before a number out of range
+    ∷ (take 9 (set card 4 65))
+    -- 65 segments, no strategy, greatest rating 51
+    ∷ (set card 4 65)
+    ∷ (set card 5 0)
+    ∷ (set card 22 51)
+    -- gains of −50, −51 and 51
+    ∷ (set card 31 206)
+    ∷ (set card 31 205)
+    ∷ (set card 31 51)
+    -- bars of both strategies, and a bit past them
+    ∷ (set card 65 3)
+    ∷ (set card 65 4)
+    -- a rating above the greatest
+    ∷ (set card 67 21)
+    -- a byte after kind 7
+    ∷ (card ++ 0 ∷ [])
+    ∷ []
+
+pub loads : map loadRefusal files ≡ 0 ∷ 1 ∷ 1 ∷ 2 ∷ 2 ∷ 3 ∷ 1 ∷ 4 ∷ 4 ∷ 4 ∷ 0 ∷ 4 ∷ 4 ∷ 0 ∷ 4 ∷ 4 ∷ 5 ∷ []
+unfolding files card resultOf
+loads = refl
+
+-- the card's file, loaded and exported
+pub given-back : encode (districtIn card) ≡ card
+unfolding card resultOf
+given-back = refl
+
+pub fresh-in-range : inRange freshDistrict ≡ true
+unfolding card resultOf
+fresh-in-range = refl
+
+-- segment 3 and 0, strategy 3; resource 2, limit 1,000,000,000; segment 3, distress 2, rating 21; a buffer of 86 bytes
+unfoldable pub callRefusals : List ℕ → List ℕ
+callRefusals d =
+    barRefusal d 3 3
+    ∷ barRefusal d 0 1
+    ∷ barRefusal d 2 3
+    ∷ barRefusal d 2 2
+    ∷ limitRefusal d 2 1_000_000_000
+    ∷ limitRefusal d 1 1_000_000_000
+    ∷ limitRefusal d 1 999_999_999
+    ∷ ratingRefusal d 3 2 21
+    ∷ ratingRefusal d 2 2 21
+    ∷ ratingRefusal d 2 1 21
+    ∷ ratingRefusal d 2 1 20
+    ∷ exportRefusal d (take 86 card)
+    ∷ exportRefusal d card
+    ∷ []
+
+pub calls : callRefusals (districtIn card) ≡ 6 ∷ 6 ∷ 7 ∷ 0 ∷ 7 ∷ 8 ∷ 0 ∷ 6 ∷ 7 ∷ 8 ∷ 0 ∷ 9 ∷ 0 ∷ []
+unfolding callRefusals card resultOf
+calls = refl
+
+unfoldable pub surveys : List Answer
+surveys =
+    surveyOf 6 3 1 0 ∷ surveyOf 8 2 3 2 ∷ surveyOf 7 1 3 3 ∷ surveyOf 1 0 3 0 ∷ surveyOf 7 1 1 0 ∷ surveyOf 6 1 1 1 ∷ surveyOf 9 1 1 1 ∷ surveyOf 1 4 1 0 ∷ surveyOf 1 0 0 0 ∷ []
+
+pub points :
+    surveys
+    ≡ Accepted 7 ∷ Accepted 15 ∷ Accepted 15 ∷ Accepted 0 ∷ Refused 10 ∷ Refused 10 ∷ Refused 10 ∷ Refused 10 ∷ Refused 10 ∷ []
+unfolding surveys deductPoints blockOf pointsOf surveyRefusal surveyOf resultOf
+points = refl
