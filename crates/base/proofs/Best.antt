@@ -1,0 +1,87 @@
+-- Laws of the best of 1 to n. Assumes nothing.
+use Prim.Native.Nat.{ℕ, zero, suc, _+_, _≤_, _<_}
+use mathlib.Core.Path.{_≡_, refl, ap, sym, _∙_}
+use mathlib.Core.Bool.{Bool, true, false, _&&_, _||_, true≢false}
+use mathlib.Core.Logic.{_⊎_, inl, inr}
+use native.Mathlib.Nat.{eq-or-lt-of-le, le-refl}
+use native.Mathlib.Numerals.{add-one}
+use native.Mathlib.Omega.{arith}
+use borrow.Author.Tests.{ltb-true, ltb-false, eqb-true, eqb-false}
+use lib.Dec.{ltb, eqb}
+use lib.ListN.{getD}
+use Rattle.base.specs.Choice.{pick}
+use Rattle.base.specs.Over.{best, betterOf, listedFrom}
+
+pub best-none : (p : ℕ → Bool) (better : ℕ → ℕ → Bool) → 0 ≡ best 0 p better
+unfolding best
+best-none p better = refl
+
+pub best-next : (n : ℕ) (p : ℕ → Bool) (better : ℕ → ℕ → Bool) {b : ℕ} → b ≡ best n p better → betterOf p better b (n + 1) ≡ best (n + 1) p better
+unfolding best
+best-next n p better e = rw (add-one, e)
+
+-- ---- the best by a number f: it passes where there is one, and none that passes has a greater number
+
+module _ (p : ℕ → Bool) (f : ℕ → ℕ) where
+  abbrev pub more-by : ℕ → ℕ → Bool
+  more-by a b = ltb (f b) (f a)
+
+  -- the two cases of a turn
+  turn : (P : ℕ → Type 0) (b m : ℕ) → (p m ≡ true → (b ≡ 0) ⊎ (f b < f m) → P m) → ((p m ≡ false) ⊎ ((1 ≤ b) × (f m ≤ f b)) → P b) → P (betterOf p more-by b m)
+  unfolding betterOf
+  turn P b m taken kept = go (p m) refl (eqb b 0) refl (ltb (f b) (f m)) refl
+    where
+      go : (x : Bool) → p m ≡ x → (y : Bool) → eqb b 0 ≡ y → (z : Bool) → ltb (f b) (f m) ≡ z → P (betterOf p more-by b m)
+      go false e y ey z ez = rw e (kept (inl e))
+      go true e true ey z ez = rw (e, ey) (taken e (inl (eqb-true b 0 ey)))
+      go true e false ey true ez = rw (e, ey, ez) (taken e (inr (ltb-true (f b) (f m) ez)))
+      go true e false ey false ez =
+          let some-b : 1 ≤ b = omega (arith, eqb-false b 0 ey) in
+          rw (e, ey, ez) (kept (inr (some-b, ltb-false (f b) (f m) ez)))
+
+  -- b is one, and has no smaller number than k
+  abbrev pub Most : ℕ → ℕ → Type 0
+  Most k b = (1 ≤ b) × (f k ≤ f b)
+
+  most-taken : (n k b : ℕ) → (k < suc n → Most k b) → (k ≡ suc n) ⊎ (k < suc n) → (b ≡ 0) ⊎ (f b < f (suc n)) → Most k (suc n)
+  most-taken n k b earlier (inl q) w = (omega arith, rw q (le-refl (f (suc n))))
+  most-taken n k b earlier (inr lt) (inl z) = absurd (omega (arith, earlier lt .0))
+  most-taken n k b earlier (inr lt) (inr g) = (omega arith, omega (arith, earlier lt .1))
+
+  most-kept : (n k b : ℕ) → p k ≡ true → (k < suc n → Most k b) → (k ≡ suc n) ⊎ (k < suc n) → (p (suc n) ≡ false) ⊎ ((1 ≤ b) × (f (suc n) ≤ f b)) → Most k b
+  most-kept n k b e earlier (inl q) (inl z) = absurd (true≢false (sym e ∙ ap p q ∙ z))
+  most-kept n k b e earlier (inl q) (inr w) = (w .0, rw q (w .1))
+  most-kept n k b e earlier (inr lt) w = earlier lt
+
+  pub best-most : (n k : ℕ) → 1 ≤ k → k ≤ n → p k ≡ true → Most k (best n p more-by)
+  unfolding best
+  best-most zero k l h e = absurd (omega arith)
+  best-most (suc n) k l h e =
+      let earlier : k < suc n → Most k (best n p more-by) = λ lt. best-most n k l (omega arith) e in
+      turn (Most k) (best n p more-by) (suc n) (λ pm. most-taken n k (best n p more-by) earlier (eq-or-lt-of-le h))
+      (most-kept n k (best n p more-by) e earlier (eq-or-lt-of-le h))
+
+  -- and it passes
+  pub best-passes : (n : ℕ) → 1 ≤ best n p more-by → p (best n p more-by) ≡ true
+  unfolding best
+  best-passes zero h = absurd (omega arith)
+  best-passes (suc n) h =
+      turn (λ b. 1 ≤ b → p b ≡ true) (best n p more-by) (suc n) (λ pm w l. pm) (λ w l. best-passes n l) h
+
+pick-le : (t : Bool) (x y b : ℕ) → x ≤ b → y ≤ b → pick t x y ≤ b
+pick-le true x y b p q = p
+pick-le false x y b p q = q
+
+pub best-le : (n : ℕ) (p : ℕ → Bool) (better : ℕ → ℕ → Bool) → best n p better ≤ n
+unfolding best betterOf
+best-le zero p better = omega arith
+best-le (suc n) p better =
+    pick-le (p (suc n) && (eqb (best n p better) 0 || better (suc n) (best n p better))) (suc n) (best n p better) (suc n) (omega arith) (omega (arith, best-le n p better))
+
+-- ---- a list of f 1, .. f n
+
+pub listed-at : (n m k : ℕ) (f : ℕ → ℕ) → k < n → getD (listedFrom n m f) k 0 ≡ f (m + k)
+unfolding listedFrom
+listed-at zero m k f h = absurd (omega arith)
+listed-at (suc n) m zero f h = let e : m ≡ m + 0 = omega arith in ap f e
+listed-at (suc n) m (suc k) f h = let e : suc m + k ≡ m + suc k = omega arith in listed-at n (suc m) k f (omega arith) ∙ ap f e

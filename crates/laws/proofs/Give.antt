@@ -1,0 +1,33 @@
+-- What a segment's new strategy does to a programme, its total and its uses. Assumes nothing.
+use Prim.Native.Nat.{ℕ, _+_, _-_, _≤_, _<_}
+use mathlib.Core.Path.{_≡_, ap, sym}
+use mathlib.Core.List.{List}
+use native.Mathlib.Omega.{arith}
+use lib.ListN.{getD, length, set}
+use lib.Seq.{getD-set-same, getD-set-other}
+use Rattle.base.specs.Over.{sum}
+use Rattle.base.proofs.Sums.{sum-change}
+use Rattle.rules.specs.Table.{Table}
+use Rattle.rules.specs.Phases.{strategyAt, give, chosenBenefit, total, chosenUsage, used}
+
+pub given : (c : List ℕ) (i j : ℕ) → 1 ≤ i → i ≤ length c → strategyAt (give c i j) i ≡ j
+given c i j l h = getD-set-same c (i - 1) j 0 (omega arith)
+
+pub kept : (c : List ℕ) (i j k : ℕ) → 1 ≤ i → 1 ≤ k → (k ≡ i → ⊥) → strategyAt (give c i j) k ≡ strategyAt c k
+kept c i j k l m ne = getD-set-other c (i - 1) (k - 1) j 0 (λ e. ne (omega arith))
+
+module _ (t : Table) (c : List ℕ) (i j : ℕ) (l : 1 ≤ i) (h : i ≤ t .segments) (room : t .segments ≤ length c) where
+  -- what a sum over the segments loses and gains
+  sum-give : (f : ℕ → ℕ → ℕ) → sum (t .segments) (λ k. f k (strategyAt (give c i j) k)) + f i (strategyAt c i) ≡ sum (t .segments) (λ k. f k (strategyAt c k)) + f i j
+  sum-give f =
+      let new : f i (strategyAt (give c i j) i) ≡ f i j = ap (f i) (given c i j l (omega arith)) in
+      let moved = sum-change (t .segments) (λ k. f k (strategyAt (give c i j) k)) (λ k. f k (strategyAt c k)) i l h (λ k lk hk ne. ap (f k) (kept c i j k l lk ne)) in
+      omega arith
+
+  pub total-give : total t (give c i j) + chosenBenefit t c i ≡ total t c + t .benefit i j
+  unfolding total chosenBenefit
+  total-give = sum-give (t .benefit)
+
+  pub used-give : (r : ℕ) → used t (give c i j) r + chosenUsage t c r i ≡ used t c r + t .usage i j r
+  unfolding used chosenUsage
+  used-give r = sum-give (λ k m. t .usage k m r)

@@ -1,0 +1,1 @@
+// Laws of the rules' definitions that code and theorems share; they are in proofs/.

@@ -1,0 +1,61 @@
+-- A table that arrays hold: 12 benefits for each of 64 segments (nothing, then strategies 1 to 11), 16 uses for each of those, 16 limits.
+use Prim.Native.Nat.{ℕ, _+_, _-_, _*_, _^_, _≤_, _<_}
+use mathlib.Core.Path.{_≡_}
+use mathlib.Core.Bool.{Bool, true, false, _&&_}
+use mathlib.Core.List.{List}
+use lib.ListN.{getD, length}
+use Rattle.base.specs.Choice.{pick}
+use Rattle.base.specs.Over.{between}
+use Rattle.rules.specs.Table.{Table}
+use Rattle.rules.specs.Phases.{strategyAt, used}
+use Rattle.tables.specs.declared.Size.{Size}
+
+-- where segment i's entry for strategy j stands
+abbrev pub entry : ℕ → ℕ → ℕ
+entry i j = 12 * (i - 1) + j
+
+unfoldable pub benefitAt : List ℕ → ℕ → ℕ → ℕ
+benefitAt b i j = pick (between 1 64 i && between 1 11 j) (getD b (entry i j) 0) 0
+
+unfoldable pub usageAt : List ℕ → ℕ → ℕ → ℕ → ℕ
+usageAt u i j r = pick (between 1 64 i && (between 1 11 j && between 1 16 r)) (getD u (16 * entry i j + (r - 1)) 0) 0
+
+unfoldable pub limitAt : List ℕ → ℕ → ℕ
+limitAt l r = pick (between 1 16 r) (getD l (r - 1) 0) 0
+
+abbrev pub tables : Size → List ℕ → List ℕ → List ℕ → Table
+tables z b u l =
+    record {
+      segments = z .segments;
+      strategies = z .strategies;
+      resources = z .resources;
+      benefit = benefitAt b;
+      usage = usageAt u;
+      limit = limitAt l;
+    }
+
+-- the sizes, bounds under which no sum wraps, and nothing's entries
+pub record Sound (z : Size) (b u l : List ℕ) : Type 0 where
+  pub segments : z .segments ≤ 64
+  pub strategies : z .strategies ≤ 11
+  pub resources : z .resources ≤ 16
+  pub benefits-length : length b ≡ 768
+  pub uses-length : length u ≡ 12_288
+  pub limits-length : length l ≡ 16
+  pub benefit-small : (k : ℕ) → getD b k 0 < 2 ^ 40
+  pub use-small : (k : ℕ) → getD u k 0 < 2 ^ 41
+  pub limit-small : (k : ℕ) → getD l k 0 < 2 ^ 47
+  pub nothing-gains : (i : ℕ) → 1 ≤ i → i ≤ 64 → getD b (entry i 0) 0 ≡ 0
+  pub nothing-uses : (i r : ℕ) → 1 ≤ i → i ≤ 64 → 1 ≤ r → r ≤ 16 → getD u (16 * entry i 0 + (r - 1)) 0 ≡ 0
+
+-- a programme has one strategy number for each of 64 places
+pub record Chosen (z : Size) (c : List ℕ) : Type 0 where
+  pub places : length c ≡ 64
+  pub numbers : (i : ℕ) → strategyAt c i ≤ z .strategies
+
+-- a programme over sound tables, with the running sum of what it uses of each resource
+pub record Ready (z : Size) (b u l c sums : List ℕ) : Type 0 where
+  pub sound : Sound z b u l
+  pub chosen : Chosen z c
+  pub sums-length : length sums ≡ 16
+  pub sums-are : (r : ℕ) → 1 ≤ r → r ≤ z .resources → getD sums (r - 1) 0 ≡ used (tables z b u l) c r
