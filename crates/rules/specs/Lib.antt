@@ -13,3 +13,4 @@ pub mod Lists
 pub mod Demands
 pub mod Results
 pub mod Marked
+pub mod Refusals
