@@ -1,0 +1,52 @@
+-- What an entry of the table is, and where there is none. Assumes nothing.
+use Prim.Native.Nat.{ℕ, _<_, _≤_}
+use mathlib.Core.Path.{_≡_, refl}
+use mathlib.Core.Bool.{Bool, true, false, _&&_, and-false}
+use native.Mathlib.Omega.{arith}
+use borrow.Author.Tests.{lt-leb, le-leb, eq-eqb, ne-eqb}
+use lib.Dec.{leb, eqb}
+use Rattle.base.specs.Over.{between}
+use Rattle.base.proofs.Choice.{pick-yes, pick-no}
+use Rattle.rules.specs.Answers.{answerOf}
+use Rattle.rules.specs.Survey.{blockOf, pointsOf, surveyRefusal, surveyOf}
+use Rattle.rules.specs.declared.Answer.the-variants.{Accepted, Refused}
+
+pub both : (s t : Bool) → s ≡ true → t ≡ true → (s && t) ≡ true
+both s t p q = rw (p, q)
+
+pub first-fails : (s t : Bool) → s ≡ false → (s && t) ≡ false
+first-fails s t p = rw p
+
+pub second-fails : (s t : Bool) → t ≡ false → (s && t) ≡ false
+second-fails s t p = rw p (and-false s)
+
+pub lt-eqb : (a b : ℕ) → a < b → eqb a b ≡ false
+lt-eqb a b l = ne-eqb a b (λ e. omega arith)
+
+pub gt-eqb : (a b : ℕ) → b < a → eqb a b ≡ false
+gt-eqb a b l = ne-eqb a b (λ e. omega arith)
+
+-- finds the case of a choice between tests
+pub ruleset cases = (refl, pick-yes, pick-no, both, first-fails, second-fails, le-leb, lt-leb, eq-eqb, ne-eqb, lt-eqb, gt-eqb, arith)
+
+-- the table has the block, the degree and the extent
+abbrev pub tabled : ℕ → ℕ → ℕ → Bool
+tabled block degree extent = leb 1 block && (leb degree 3 && between 1 3 extent)
+
+-- codes below the table, and a seal where none is
+pub no-code : (code seal : ℕ) → code < 1 → 0 ≡ blockOf code seal
+unfolding blockOf
+no-code code seal l = rw (lt-leb 1 code l, lt-eqb code 7 (omega arith), lt-eqb code 8 (omega arith))
+
+pub no-seal : (code seal : ℕ) → code ≤ 6 → (seal ≡ 0 → ⊥) → 0 ≡ blockOf code seal
+unfolding blockOf
+no-seal code seal l some = simp (ne-eqb seal 0 some, and-false, lt-eqb code 7 (omega arith), lt-eqb code 8 (omega arith))
+
+module _ (code degree extent seal block : ℕ) (at : block ≡ blockOf code seal) where
+  pub no-entry : tabled block degree extent ≡ false → Refused 10 ≡ surveyOf code degree extent seal
+  unfolding surveyOf surveyRefusal answerOf
+  no-entry e = rw (← at) (rw e)
+
+  pub points : (x : ℕ) → tabled block degree extent ≡ true → x ≡ pointsOf block degree extent → Accepted x ≡ surveyOf code degree extent seal
+  unfolding surveyOf surveyRefusal answerOf
+  points x e q = rw (← at) (rw (e, q))
