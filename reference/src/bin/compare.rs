@@ -1,0 +1,359 @@
+//! Compares other programs with this library, case by case:
+//! `compare [--plan PATH] [--panel PATH] [--codec PATH] --count N --seed S`.
+//!
+//! The cases are dealt out among the programs given. A case is made from the
+//! seed and its number alone. Where answers differ, the case's files and both
+//! answers stay in the work folder.
+
+use reference::console;
+use reference::district::District;
+use reference::listing;
+use reference::make;
+use reference::options::Given;
+use reference::random::Random;
+use reference::tables::Tables;
+use reference::unit::{plan, Plan, Unit};
+use reference::{example, file};
+use std::collections::BTreeMap;
+use std::fs;
+use std::io::{Read, Write};
+use std::path::{Path, PathBuf};
+use std::process::{Child, Command, ExitCode, Stdio};
+use std::sync::mpsc;
+use std::thread;
+use std::time::Duration;
+
+const USAGE: &str = "usage: compare [--plan PATH] [--panel PATH] [--codec PATH] [--count N] [--seed S]
+               [--work DIR] [--case K]
+";
+const PATIENCE: Duration = Duration::from_secs(120);
+
+fn main() -> ExitCode {
+    let arguments: Vec<String> = std::env::args().skip(1).collect();
+    match run(&arguments) {
+        Ok(0) => ExitCode::SUCCESS,
+        Ok(_) => ExitCode::FAILURE,
+        Err(message) => {
+            eprint!("compare: {message}\n{USAGE}");
+            ExitCode::FAILURE
+        }
+    }
+}
+
+#[derive(Clone, Copy, PartialEq, Eq, PartialOrd, Ord)]
+enum Kind {
+    Plan,
+    Codec,
+    Panel,
+}
+
+impl Kind {
+    fn name(self) -> &'static str {
+        match self {
+            Kind::Plan => "plan",
+            Kind::Codec => "codec",
+            Kind::Panel => "panel",
+        }
+    }
+
+    /// How many of ten cases it gets when all three are there.
+    fn weight(self) -> usize {
+        match self {
+            Kind::Plan => 5,
+            Kind::Codec => 3,
+            Kind::Panel => 2,
+        }
+    }
+}
+
+/// What was compared of one kind, and what came up in it.
+#[derive(Default)]
+struct Tally {
+    agreed: u64,
+    differed: u64,
+    seen: BTreeMap<String, u64>,
+}
+
+impl Tally {
+    fn see(&mut self, feature: impl Into<String>) {
+        *self.seen.entry(feature.into()).or_default() += 1;
+    }
+
+    fn see_if(&mut self, feature: &str, there: bool) {
+        if there {
+            self.see(feature);
+        }
+    }
+}
+
+struct Run {
+    seed: u64,
+    work: PathBuf,
+    tallies: BTreeMap<Kind, Tally>,
+}
+
+/// The number of differences.
+fn run(arguments: &[String]) -> Result<u64, String> {
+    let given = Given::read(arguments, &["plan", "panel", "codec", "count", "seed", "work", "case"])?;
+    let (seed, count) = (given.number("seed", 1)?, given.number("count", 300)?);
+    let cases = match given.text("case") {
+        None => 0..count,
+        Some(_) => {
+            let case = given.number("case", 0)?;
+            case..case + 1
+        }
+    };
+    let mut programs: BTreeMap<Kind, PathBuf> = BTreeMap::new();
+    for kind in [Kind::Plan, Kind::Codec, Kind::Panel] {
+        if let Some(path) = given.text(kind.name()) {
+            // Programs are run from other folders too, so the path must be whole.
+            let path = fs::canonicalize(path).map_err(|error| format!("{path}: {error}"))?;
+            programs.insert(kind, path);
+        }
+    }
+    let turns: Vec<Kind> = programs.keys().flat_map(|&kind| vec![kind; kind.weight()]).collect();
+    if turns.is_empty() {
+        return Err("no program to compare with".to_string());
+    }
+    let work = PathBuf::from(given.text("work").unwrap_or("compare-work"));
+    fs::create_dir_all(&work).map_err(|error| error.to_string())?;
+    let mut run = Run {
+        seed,
+        work: fs::canonicalize(&work).map_err(|error| error.to_string())?,
+        tallies: programs.keys().map(|&kind| (kind, Tally::default())).collect(),
+    };
+
+    let mut frames: Vec<(u64, Vec<u8>)> = Vec::new();
+    for case in cases {
+        let kind = turns[(case % turns.len() as u64) as usize];
+        match kind {
+            Kind::Plan => run.plan_case(&programs[&kind], case)?,
+            Kind::Panel => run.panel_case(&programs[&kind], case)?,
+            Kind::Codec => frames.push((case, make::any_frame(&mut Random::for_case(seed, case)))),
+        }
+    }
+    if let Some(program) = programs.get(&Kind::Codec) {
+        run.codec_cases(program, &frames)?;
+    }
+
+    let mut compared = 0;
+    let mut differences = 0;
+    for (kind, tally) in &run.tallies {
+        let seen: Vec<String> = tally.seen.iter().map(|(what, count)| format!("{what} {count}")).collect();
+        println!("{}: {} agreed, {} differed; seen: {}", kind.name(), tally.agreed, tally.differed, seen.join(", "));
+        compared += tally.agreed + tally.differed;
+        differences += tally.differed;
+    }
+    // Empty unless something differed.
+    let _ = fs::remove_dir(&run.work);
+    println!("compared {compared} cases, {differences} differences");
+    Ok(differences)
+}
+
+impl Run {
+    fn tally(&mut self, kind: Kind) -> &mut Tally {
+        self.tallies.entry(kind).or_default()
+    }
+
+    fn agreed(&mut self, kind: Kind) {
+        self.tally(kind).agreed += 1;
+    }
+
+    /// Reports a difference and keeps what is needed to look into it.
+    fn differed(&mut self, kind: Kind, case: u64, kept: &[(&str, &[u8])]) -> Result<(), String> {
+        self.tally(kind).differed += 1;
+        let name = format!("{}-{}-{case}", kind.name(), self.seed);
+        println!(
+            "difference: {} case {case} of seed {}, kept as {}/{name}.*",
+            kind.name(),
+            self.seed,
+            self.work.display()
+        );
+        for (what, bytes) in kept {
+            fs::write(self.work.join(format!("{name}.{what}")), bytes).map_err(|error| error.to_string())?;
+        }
+        Ok(())
+    }
+
+    fn plan_case(&mut self, program: &Path, case: u64) -> Result<(), String> {
+        let mut random = Random::for_case(self.seed, case);
+        // The first case is the report's own example.
+        let bytes = match case {
+            0 => file::encode(&example::district()),
+            _ => make::any_file(&mut random),
+        };
+        let expected = match file::decode(&bytes[..bytes.len().min(4_096)]) {
+            Ok(district) => {
+                let plan = plan(&district);
+                features(self.tally(Kind::Plan), &district, &plan);
+                listing::listing(&plan, district.segments.len())
+            }
+            Err(refusal) => {
+                self.tally(Kind::Plan).see(format!("refused {}", refusal.number()));
+                format!("refused {}\n", refusal.number())
+            }
+        };
+        let got = call(program, Path::new("."), &bytes)?;
+        if got == expected.as_bytes() {
+            self.agreed(Kind::Plan);
+            return Ok(());
+        }
+        self.differed(Kind::Plan, case, &[("bin", &bytes), ("expected", expected.as_bytes()), ("got", &got)])
+    }
+
+    /// All frames go through one run of the program.
+    fn codec_cases(&mut self, program: &Path, frames: &[(u64, Vec<u8>)]) -> Result<(), String> {
+        let mut input = Vec::new();
+        for (_, frame) in frames {
+            input.extend((frame.len() as u32).to_le_bytes());
+            input.extend(frame);
+        }
+        let output = call(program, Path::new("."), &input)?;
+        let mut rest = &output[..];
+        for (case, frame) in frames {
+            let (feature, expected) = match file::decode(frame) {
+                Ok(district) => {
+                    let bytes = file::encode(&district);
+                    let head = [&[0][..], &(bytes.len() as u32).to_le_bytes()].concat();
+                    ("accepted".to_string(), [head, bytes].concat())
+                }
+                Err(refusal) => (format!("refused {}", refusal.number()), vec![refusal.number()]),
+            };
+            self.tally(Kind::Codec).see(feature);
+            self.tally(Kind::Codec).see_if("largest file", expected.len() == 5 + file::LONGEST);
+            if !rest.starts_with(&expected) {
+                // From here on the answers can't be told apart.
+                return self.differed(Kind::Codec, *case, &[("bin", frame), ("expected", &expected), ("got", rest)]);
+            }
+            self.agreed(Kind::Codec);
+            rest = &rest[expected.len()..];
+        }
+        if !rest.is_empty() {
+            let last = frames.last().map_or(0, |(case, _)| *case);
+            return self.differed(Kind::Codec, last, &[("got-more", rest)]);
+        }
+        Ok(())
+    }
+
+    /// Both sides run the script, each in a folder of its own; the answers
+    /// and the files left behind must agree.
+    fn panel_case(&mut self, program: &Path, case: u64) -> Result<(), String> {
+        let script = make::script(&mut Random::for_case(self.seed, case));
+        let name = format!("panel-{}-{case}", self.seed);
+        let ours = self.work.join(format!("{name}.ours"));
+        let theirs = self.work.join(format!("{name}.theirs"));
+        for folder in [&ours, &theirs] {
+            script.write(folder).map_err(|error| error.to_string())?;
+        }
+        let expected = self.expected_answers(&script.text, &ours);
+        let got = call(program, &theirs, &script.text)?;
+        let mut same = got == expected;
+        for folder in ["", "folder"] {
+            same &= contents(&ours.join(folder)) == contents(&theirs.join(folder));
+        }
+        if same {
+            self.agreed(Kind::Panel);
+            for folder in [&ours, &theirs] {
+                fs::remove_dir_all(folder).map_err(|error| error.to_string())?;
+            }
+            return Ok(());
+        }
+        self.differed(Kind::Panel, case, &[("script", &script.text), ("expected", &expected), ("got", &got)])
+    }
+
+    fn expected_answers(&mut self, text: &[u8], folder: &Path) -> Vec<u8> {
+        let tally = self.tally(Kind::Panel);
+        let mut unit = Unit::fresh();
+        let mut answers = Vec::new();
+        let lines = text.strip_suffix(b"\n").unwrap_or(text).split(|&byte| byte == b'\n');
+        for line in lines {
+            let Some(answer) = console::answer(&mut unit, line, folder) else {
+                tally.see("passed over");
+                continue;
+            };
+            if line == b"show" {
+                tally.see("show");
+                features(tally, unit.district(), unit.show());
+            } else {
+                // The first word says enough, but for refusals and failures.
+                let text = String::from_utf8_lossy(&answer);
+                let words: Vec<&str> = text.split_whitespace().take(2).collect();
+                tally.see(match words[0] {
+                    "ok" | "points" => words[0].to_string(),
+                    _ => words.join(" "),
+                });
+            }
+            answers.extend(answer);
+        }
+        answers
+    }
+}
+
+/// Notes what a district and its plan have that is worth having tested.
+fn features(tally: &mut Tally, district: &District, plan: &Plan) {
+    let tables = Tables::fill(district);
+    let n = district.segments.len();
+    tally.see("planned");
+    tally.see_if("N=0", n == 0);
+    tally.see_if("N=64", n == 64);
+    tally.see_if("widest", file::encode(district).len() == file::LONGEST);
+    tally.see_if("steps>0", plan.steps > 0);
+    tally.see_if("pickups>0", plan.pickups > 0);
+    tally.see_if("changes>0", plan.changes > 0);
+    tally.see_if("all phases", plan.steps > 0 && plan.pickups > 0 && plan.changes > 0);
+    tally.see_if("total>0", plan.total > 0);
+    tally.see_if("total<ceiling", plan.total < plan.ceiling);
+    tally.see_if("negative gains", district.strategies.iter().any(|s| s.gains.iter().any(|&gain| gain < 0)));
+    tally.see_if("zero limits", district.limits.contains(&0));
+    let all = (1u16 << district.strategies.len()) - 1;
+    tally.see_if("all strategies barred", n > 0 && district.segments.iter().all(|s| s.bars == all));
+    tally.see_if("minimum demanded", district.types.iter().any(|t| t.minimum.iter().any(|&m| m > 0)));
+    tally.see_if("overall demanded", district.types.iter().any(|t| t.overall > 0));
+    let twice = |values: Vec<i64>| {
+        let mut sorted = values;
+        sorted.sort_unstable();
+        sorted.windows(2).any(|pair| pair[0] == pair[1])
+    };
+    let ties_within = tables.segments.iter().any(|s| twice(s.benefit[1..].to_vec()));
+    let bests = tables.segments.iter().filter_map(|s| s.benefit[1..].iter().max().copied());
+    tally.see_if("ties", ties_within || twice(bests.collect()));
+}
+
+/// Names and contents of a folder's files. New files left over from an
+/// export that failed are not compared.
+fn contents(folder: &Path) -> BTreeMap<std::ffi::OsString, Vec<u8>> {
+    let entries = fs::read_dir(folder).into_iter().flatten().flatten();
+    entries
+        .filter(|entry| entry.path().is_file() && !entry.file_name().to_string_lossy().ends_with(".new"))
+        .map(|entry| (entry.file_name(), fs::read(entry.path()).unwrap_or_default()))
+        .collect()
+}
+
+/// Runs a program in a folder with this input; gives what it printed. One
+/// that doesn't end is stopped, and what it printed till then is lost.
+fn call(program: &Path, folder: &Path, input: &[u8]) -> Result<Vec<u8>, String> {
+    let spawned = Command::new(program)
+        .current_dir(folder)
+        .stdin(Stdio::piped())
+        .stdout(Stdio::piped())
+        .stderr(Stdio::null())
+        .spawn();
+    let mut child: Child = spawned.map_err(|error| format!("{}: {error}", program.display()))?;
+    let (mut stdin, mut stdout) = (child.stdin.take().unwrap(), child.stdout.take().unwrap());
+    let input = input.to_vec();
+    // It may end before it has read everything: a failed write is no matter.
+    let writer = thread::spawn(move || drop(stdin.write_all(&input)));
+    let (sender, receiver) = mpsc::channel();
+    let reader = thread::spawn(move || {
+        let mut output = Vec::new();
+        let _ = stdout.read_to_end(&mut output);
+        let _ = sender.send(output);
+    });
+    let output = receiver.recv_timeout(PATIENCE).unwrap_or_else(|_| {
+        let _ = child.kill();
+        b"(took too long)".to_vec()
+    });
+    let _ = child.wait();
+    let _ = (writer.join(), reader.join());
+    Ok(output)
+}

@@ -1,0 +1,21 @@
+//! An independent implementation of the planning unit's rules in plain Rust.
+//!
+//! It is the yardstick for another implementation: programs here make
+//! districts, damaged files and lists of calls, run both sides and compare.
+
+pub mod ceiling;
+pub mod console;
+pub mod district;
+pub mod example;
+
+pub mod file;
+pub mod listing;
+pub mod make;
+pub mod options;
+pub mod phases;
+pub mod random;
+pub mod rating;
+pub mod refusal;
+pub mod survey;
+pub mod tables;
+pub mod unit;

@@ -1,0 +1,743 @@
+//! Makes districts, damaged files and panel scripts at random.
+
+use crate::district::*;
+use crate::file;
+use crate::random::Random;
+use crate::rating;
+use std::path::Path;
+use std::{fs, io};
+
+/// The six counts.
+#[derive(Clone, Copy, Debug, PartialEq, Eq)]
+pub struct Shape {
+    pub segments: usize,
+    pub strategies: usize,
+    pub years: usize,
+    pub distress_types: usize,
+    pub pavement_types: usize,
+    pub resources: usize,
+}
+
+pub const WIDEST: Shape = Shape {
+    segments: MOST_SEGMENTS,
+    strategies: MOST_STRATEGIES,
+    years: MOST_YEARS,
+    distress_types: MOST_DISTRESS_TYPES,
+    pavement_types: MOST_PAVEMENT_TYPES,
+    resources: MOST_RESOURCES,
+};
+
+/// Any shape, small ones more often.
+pub fn shape(random: &mut Random) -> Shape {
+    match random.below(100) {
+        0..=49 => shape_up_to(random, [8, 4, 4, 3, 2, 4]),
+        50..=84 => shape_up_to(random, [24, 11, 10, 9, 4, 16]),
+        85..=96 => shape_up_to(random, [64, 11, 10, 9, 4, 16]),
+        97 => Shape { segments: 0, ..shape_up_to(random, [64, 11, 10, 9, 4, 16]) },
+        _ => WIDEST,
+    }
+}
+
+/// A small shape, for lists of calls and for brute force.
+pub fn small_shape(random: &mut Random, segments: usize, strategies: usize) -> Shape {
+    shape_up_to(random, [segments, strategies, 3, 3, 2, 3])
+}
+
+fn shape_up_to(random: &mut Random, most: [usize; 6]) -> Shape {
+    Shape {
+        segments: random.size(0, most[0]),
+        strategies: random.size(1, most[1]),
+        years: random.size(1, most[2]),
+        distress_types: random.size(1, most[3]),
+        pavement_types: random.size(1, most[4]),
+        resources: random.size(1, most[5]),
+    }
+}
+
+/// A valid district of this shape. Each group of values is drawn in one of
+/// several manners, so that ties, ends of ranges, demands that bite and
+/// limits that bind all come up.
+pub fn district(random: &mut Random, shape: Shape) -> District {
+    loop {
+        let made = any_district(random, shape);
+        let can_plan = (0..shape.segments).any(|i| (0..shape.strategies).any(|j| rating::candidate(&made, i, j)));
+        // Most often one without any candidate is drawn again.
+        if can_plan || shape.segments == 0 || random.chance(25) {
+            return made;
+        }
+    }
+}
+
+/// Values that belong together.
+#[derive(Clone, Copy, PartialEq, Eq)]
+enum Family {
+    /// Each group of values in a manner of its own.
+    Mixed,
+    /// Round sizes and requirements: uses are whole units, and much ties.
+    Round,
+    /// Large gains and losses that last or vanish at once, from rating 0, with
+    /// nothing demanded: ratings below 0 come up.
+    Sharp,
+}
+
+fn any_district(random: &mut Random, shape: Shape) -> District {
+    let family = match random.below(100) {
+        0..=14 => Family::Round,
+        15..=20 => Family::Sharp,
+        _ => Family::Mixed,
+    };
+    let greatest = greatest(random, shape);
+    let mut district = District {
+        years: shape.years,
+        limits: vec![LIMIT_MOST; shape.resources],
+        strategies: strategies(random, shape, family, &greatest),
+        types: (0..shape.pavement_types).map(|_| pavement_type(random, shape, family, &greatest)).collect(),
+        segments: segments(random, shape, family, &greatest),
+        greatest,
+    };
+    set_limits(random, &mut district);
+    district
+}
+
+fn greatest(random: &mut Random, shape: Shape) -> Vec<u8> {
+    let manner = random.below(10);
+    let one = random.within(1, 50) as u8;
+    (0..shape.distress_types)
+        .map(|_| match manner {
+            0 => 1,
+            1 => RATING_MOST,
+            2 => one,
+            3 => *random.pick(&[1, 50]),
+            4..=6 => *random.pick(&[15, 20, 25, 40, 50]),
+            _ => random.within(1, 50) as u8,
+        })
+        .collect()
+}
+
+fn strategies(random: &mut Random, shape: Shape, family: Family, greatest: &[u8]) -> Vec<Strategy> {
+    let (gain_manner, survival_manner) = match family {
+        Family::Sharp => (2, 2),
+        _ => (random.below(16), random.below(8)),
+    };
+    let requirement_manner = if family == Family::Round { 11 } else { random.below(16) };
+    let scale = *random.pick(&[50, 1_000, 5_000, 5_000, 40_000, 400_000]);
+    let cells = shape.distress_types * shape.years;
+    let mut made: Vec<Strategy> = Vec::new();
+    for j in 0..shape.strategies {
+        // Now and then a strategy is another one over again: all its values tie.
+        if j > 0 && random.chance(8) {
+            let twin = random.pick(&made).clone();
+            made.push(twin);
+            continue;
+        }
+        // Later strategies give more and cost more, roughly.
+        let weight = (j as u64 + 1) * 100 / shape.strategies as u64;
+        let gains = greatest
+            .iter()
+            .map(|&most| match gain_manner {
+                0 => most as i8,
+                1 if j % 2 == 0 => -(random.within(0, 50) as i8),
+                2 => *random.pick(&[-GAIN_MOST, 0, GAIN_MOST]),
+                3 | 4 => random.within(0, 100) as i8 - 50,
+                5 => random.within(0, 60) as i8 - 10,
+                6..=11 => (u64::from(most) * random.within(weight / 2, weight) / 100) as i8,
+                _ => random.within(0, u64::from(most)) as i8,
+            })
+            .collect();
+        let mut survival = Vec::with_capacity(cells);
+        for _ in 0..shape.distress_types {
+            let mut percent = 100;
+            for _ in 0..shape.years {
+                survival.push(match survival_manner {
+                    0 => 100,
+                    1 => random.within(0, 100) as u8,
+                    2 => *random.pick(&[0, 100]),
+                    3 => random.within(90, 100) as u8,
+                    _ => {
+                        percent -= random.within(0, u64::from(percent) / 3) as u8;
+                        percent
+                    }
+                });
+            }
+        }
+        let requirements = (0..shape.resources)
+            .map(|_| match requirement_manner {
+                0 => scale,
+                1 => *random.pick(&[0, REQUIREMENT_MOST]),
+                2 => random.within(0, u64::from(REQUIREMENT_MOST)) as u32,
+                3 => random.within(0, 3) as u32,
+                4..=9 => (u64::from(scale) * random.within(weight / 3, weight) / 100) as u32,
+                10 => {
+                    if random.chance(40) {
+                        0
+                    } else {
+                        random.within(1, u64::from(scale)) as u32
+                    }
+                }
+                11 => 1_000 * random.below(5) as u32,
+                _ => random.within(0, u64::from(scale)) as u32,
+            })
+            .collect();
+        made.push(Strategy { requirements, gains, survival });
+    }
+    made
+}
+
+fn pavement_type(random: &mut Random, shape: Shape, family: Family, greatest: &[u8]) -> PavementType {
+    let cells = shape.distress_types * shape.years;
+    if family == Family::Sharp {
+        return PavementType { overall: 0, minimum: vec![0; cells] };
+    }
+    let manner = random.below(16);
+    let minimum = (0..cells)
+        .map(|cell| {
+            let most = u64::from(greatest[cell / shape.years]);
+            match manner {
+                0 if random.chance(5) => random.within(0, 50) as u8,
+                1 if random.chance(20) => random.within(0, most) as u8,
+                2 => random.within(0, most / 3) as u8,
+                3 if random.chance(3) => RATING_MOST,
+                _ => 0,
+            }
+        })
+        .collect();
+    let together: u64 = greatest.iter().map(|&most| u64::from(most)).sum();
+    let overall = match random.below(14) {
+        0 => random.within(0, together) as u16,
+        1 => random.within(together / 2, together) as u16,
+        2 => *random.pick(&[1, OVERALL_MOST]),
+        _ => 0,
+    };
+    PavementType { overall, minimum }
+}
+
+fn segments(random: &mut Random, shape: Shape, family: Family, greatest: &[u8]) -> Vec<Segment> {
+    let index_manner = random.below(12);
+    let (length_manner, width_manner) = match family {
+        Family::Round => (2, 3),
+        _ => (random.below(9), random.below(6)),
+    };
+    let bar_manner = random.below(30);
+    let rating_manner = if family == Family::Sharp { 0 } else { random.below(10) };
+    let (one_length, one_width) = (random.within(1, 9_999) as u16, random.within(1, 200) as u8);
+    let all = (1u16 << shape.strategies) - 1;
+    let mut made: Vec<Segment> = Vec::new();
+    for i in 0..shape.segments {
+        // Now and then a segment is another one over again: all its values tie.
+        if i > 0 && random.chance(10) {
+            let twin = random.pick(&made).clone();
+            made.push(twin);
+            continue;
+        }
+        let mut index = || match index_manner {
+            0..=4 => INDEX_LEAST,
+            5..=8 => random.within(100, 110) as u16,
+            9 => random.within(100, 200) as u16,
+            10 => *random.pick(&[INDEX_LEAST, INDEX_MOST]),
+            _ => random.within(100, 1_000) as u16,
+        };
+        let (traffic, environment) = (index(), index());
+        made.push(Segment {
+            pavement: random.size(1, shape.pavement_types) as u8,
+            traffic,
+            environment,
+            length: match length_manner {
+                0 => one_length,
+                1 => *random.pick(&[1, LENGTH_MOST]),
+                2 => 100 * random.within(1, 3) as u16,
+                3 => random.within(1, 9_999) as u16,
+                _ => random.within(50, 1_500) as u16,
+            },
+            width: match width_manner {
+                0 => one_width,
+                1 => *random.pick(&[1, WIDTH_MOST]),
+                2 => random.within(1, 200) as u8,
+                3 => 20,
+                _ => *random.pick(&[20, 22, 24, 26, 28]),
+            },
+            bars: match bar_manner {
+                0 => all,
+                1 => random.draw() as u16 & all,
+                2..=8 => random.draw() as u16 & random.draw() as u16 & random.draw() as u16 & all,
+                9 if random.chance(30) => all,
+                _ => 0,
+            },
+            ratings: greatest
+                .iter()
+                .map(|&most| match rating_manner {
+                    0 => 0,
+                    1 => *random.pick(&[0, most]),
+                    2 => {
+                        if random.chance(90) {
+                            most
+                        } else {
+                            0
+                        }
+                    }
+                    _ => random.within(0, u64::from(most)) as u8,
+                })
+                .collect(),
+        });
+    }
+    made
+}
+
+/// Sets limits by what the best candidates would use: most often a fraction
+/// of it, so that not everything fits; also none, exactly enough, and plenty.
+pub fn set_limits(random: &mut Random, district: &mut District) {
+    district.limits.fill(LIMIT_MOST);
+    let wanted = wanted(district);
+    let fraction = random.within(15, 110);
+    let manner = random.below(40);
+    for (r, &use_of_all) in wanted.iter().enumerate() {
+        // A limit of 1 is worth 100,000 in the unit of the uses.
+        let whole = use_of_all / 100_000;
+        let limit = match manner {
+            0 => 0,
+            1 | 2 => LIMIT_MOST.into(),
+            3 => *random.pick(&[0, u64::from(LIMIT_MOST), whole, whole / 2]),
+            4 | 5 => whole + random.below(2),
+            6 => {
+                let most = *random.pick(&[1_000, u64::from(LIMIT_MOST)]);
+                random.within(0, most)
+            }
+            7 | 8 => {
+                if random.chance(15) {
+                    0
+                } else {
+                    whole * random.within(30, 100) / 100
+                }
+            }
+            9..=14 => whole * random.within(10, 120) / 100,
+            15..=20 => whole * fraction / 100 + random.below(2),
+            _ => whole * random.within(fraction * 4 / 5, fraction) / 100,
+        };
+        district.limits[r] = limit.min(LIMIT_MOST.into()) as u32;
+    }
+}
+
+/// What each resource would be used by every segment's best candidate.
+fn wanted(district: &District) -> Vec<u64> {
+    let mut wanted = vec![0; district.limits.len()];
+    for (i, segment) in district.segments.iter().enumerate() {
+        let best = (0..district.strategies.len())
+            .filter(|&j| rating::candidate(district, i, j))
+            .max_by_key(|&j| rating::benefit(district, segment, &district.strategies[j]));
+        if let Some(j) = best {
+            for (r, sum) in wanted.iter_mut().enumerate() {
+                *sum += rating::usage(segment, &district.strategies[j], r);
+            }
+        }
+    }
+    wanted
+}
+
+/// A district in which planning is long: nothing is barred or demanded,
+/// stronger strategies cost more, sizes differ, and all limits bind.
+pub fn busy_district(random: &mut Random, shape: Shape) -> District {
+    let greatest = vec![RATING_MOST; shape.distress_types];
+    let cells = shape.distress_types * shape.years;
+    let scale = random.within(200, 900);
+    let spread = random.within(5, 60);
+    let strategies = (0..shape.strategies as u64)
+        .map(|j| {
+            let weight = 20 + 80 * (j + 1) / shape.strategies as u64;
+            let mut around = |value: u64| value * random.within(100 - spread, 100) / 100;
+            Strategy {
+                requirements: (0..shape.resources).map(|_| around(scale * weight) as u32).collect(),
+                gains: (0..shape.distress_types).map(|_| around(weight / 2) as i8).collect(),
+                survival: (0..cells).map(|_| around(100) as u8).collect(),
+            }
+        })
+        .collect();
+    let types = vec![PavementType { overall: 0, minimum: vec![0; cells] }; shape.pavement_types];
+    let segments = (0..shape.segments)
+        .map(|_| Segment {
+            pavement: 1,
+            traffic: 100,
+            environment: random.within(100, 105) as u16,
+            length: random.within(50, 1_500) as u16,
+            width: random.within(18, 40) as u8,
+            bars: 0,
+            ratings: (0..shape.distress_types).map(|_| random.within(0, 25) as u8).collect(),
+        })
+        .collect();
+    let mut district = District {
+        years: shape.years,
+        limits: vec![LIMIT_MOST; shape.resources],
+        greatest,
+        strategies,
+        types,
+        segments,
+    };
+    let fraction = random.within(15, 70);
+    let slack = random.within(1, 30);
+    let wanted = wanted(&district);
+    for (limit, wanted) in district.limits.iter_mut().zip(wanted) {
+        *limit = (wanted / 100_000 * random.within(fraction, fraction + slack) / 100) as u32;
+    }
+    district
+}
+
+/// The same district with fewer segments, strategies or resources; limits
+/// shrink with the segments, so that they bind as before.
+pub fn cut(whole: &District, shape: Shape) -> District {
+    let mut district = whole.clone();
+    let (kept, of) = (shape.segments as u64, whole.segments.len() as u64);
+    district.segments.truncate(shape.segments);
+    district.strategies.truncate(shape.strategies);
+    district.limits.truncate(shape.resources);
+    for limit in &mut district.limits {
+        *limit = (u64::from(*limit) * kept / of) as u32;
+    }
+    for strategy in &mut district.strategies {
+        strategy.requirements.truncate(shape.resources);
+    }
+    for segment in &mut district.segments {
+        segment.bars &= (1 << shape.strategies) - 1;
+    }
+    district
+}
+
+/// Any bytes a load might bring: a sound file, a damaged one, or noise.
+pub fn any_file(random: &mut Random) -> Vec<u8> {
+    match random.below(100) {
+        0..=54 => {
+            let shape = shape(random);
+            file::encode(&district(random, shape))
+        }
+        55..=94 => damaged_file(random),
+        95..=96 => {
+            let length = random.size(0, 200);
+            random.bytes(length)
+        }
+        97 => Vec::new(),
+        // Longer than any valid file, with a sound beginning.
+        98 => {
+            let mut bytes = file::encode(&district(random, WIDEST));
+            let length = random.size(1, 400);
+            bytes.extend(random.bytes(length));
+            bytes
+        }
+        _ => {
+            let length = random.size(4_000, 9_000);
+            random.bytes(length)
+        }
+    }
+}
+
+/// A frame for the codec: any file, now and then a long one.
+pub fn any_frame(random: &mut Random) -> Vec<u8> {
+    let mut frame = any_file(random);
+    if random.chance(1) {
+        frame.resize(random.size(frame.len(), 65_536), 0);
+    }
+    frame
+}
+
+/// A sound file with one thing wrong (or, seldom, still right).
+pub fn damaged_file(random: &mut Random) -> Vec<u8> {
+    let shape = match random.chance(80) {
+        true => small_shape(random, 6, 4),
+        false => shape(random),
+    };
+    let mut made = district(random, shape);
+    if random.chance(30) {
+        to_an_end(random, &mut made);
+        return file::encode(&made);
+    }
+    let mut bytes = file::encode(&made);
+    let starts = record_starts(&bytes);
+    let start = *random.pick(&starts);
+    let length = usize::from(u16::from_le_bytes([bytes[start], bytes[start + 1]]));
+    match random.below(11) {
+        // Cut anywhere, or just behind a record.
+        0 => bytes.truncate(random.size(0, bytes.len() - 1)),
+        1 => bytes.truncate(start),
+        2 => bytes[start + 2] = *random.pick(&[0, 1, 2, 3, 4, 5, 6, 7, 8, 255]),
+        3 => bytes[start + 3] = random.within(1, 255) as u8,
+        4 => bytes[start] = bytes[start].wrapping_add(*random.pick(&[1, 2, 255])),
+        5 => bytes[start + 1] = random.within(1, 255) as u8,
+        // One byte of a payload, often to an end of its range.
+        6 | 7 if length > 0 => {
+            let at = start + 4 + random.size(0, length - 1);
+            bytes[at] = match random.chance(70) {
+                true => *random.pick(&[0, 1, 11, 12, 16, 17, 50, 51, 100, 101, 127, 128, 201, 205, 206, 255]),
+                false => random.draw() as u8,
+            };
+        }
+        8 => {
+            let extra = random.size(1, 5);
+            bytes.extend(random.bytes(extra));
+        }
+        // A count at an end of its range or beyond it.
+        10 => {
+            let (at, most) = *random.pick(&[(4, 64), (5, 11), (6, 10), (7, 9), (8, 4), (9, 16)]);
+            bytes[at] = *random.pick(&[0, 1, most, most + 1, 255]);
+        }
+        // A record left out or there twice.
+        9 => {
+            let record = bytes[start..start + 4 + length].to_vec();
+            if random.chance(50) {
+                bytes.drain(start..start + 4 + length);
+            } else {
+                bytes.splice(start..start, record);
+            }
+        }
+        _ => {
+            let at = random.size(0, bytes.len() - 1);
+            bytes[at] ^= 1 << random.below(8);
+        }
+    }
+    bytes
+}
+
+/// Puts one value at an end of its range, most often one step beyond it.
+fn to_an_end(random: &mut Random, district: &mut District) {
+    let beyond = u8::from(random.chance(75));
+    let wide = u16::from(beyond);
+    let upper = random.chance(50);
+    let (s, y) = (district.strategies.len(), district.types.len() as u8);
+    let strategy = random.size(0, s - 1);
+    let strategy = &mut district.strategies[strategy];
+    let pavement = random.size(0, district.types.len() - 1);
+    let pavement = &mut district.types[pavement];
+    let limit = random.size(0, district.limits.len() - 1);
+    let k = random.size(0, district.greatest.len() - 1);
+    let cell = random.size(0, pavement.minimum.len() - 1);
+    let fields = if district.segments.is_empty() { 7 } else { 14 };
+    let which = random.below(fields);
+    if which >= 7 {
+        let i = random.size(0, district.segments.len() - 1);
+        let segment = &mut district.segments[i];
+        match which {
+            7 => segment.pavement = if upper { y + beyond } else { 1 - beyond },
+            8 => segment.traffic = if upper { INDEX_MOST + wide } else { INDEX_LEAST - wide },
+            9 => segment.environment = if upper { INDEX_MOST + wide } else { INDEX_LEAST - wide },
+            10 => segment.length = if upper { LENGTH_MOST + wide } else { 1 - wide },
+            11 => segment.width = if upper { WIDTH_MOST + beyond } else { 1 - beyond },
+            12 => segment.bars |= 1 << (s - 1 + usize::from(beyond)),
+            _ => segment.ratings[k] = district.greatest[k] + beyond,
+        }
+        return;
+    }
+    match which {
+        0 => district.limits[limit] = LIMIT_MOST + u32::from(beyond),
+        1 => district.greatest[k] = if upper { RATING_MOST + beyond } else { 1 - beyond },
+        2 => strategy.requirements[limit] = REQUIREMENT_MOST + u32::from(beyond),
+        3 => strategy.gains[k] = (GAIN_MOST + beyond as i8) * if upper { 1 } else { -1 },
+        4 => strategy.survival[cell] = 100 + beyond,
+        5 => pavement.overall = OVERALL_MOST + wide,
+        _ => pavement.minimum[cell] = RATING_MOST + beyond,
+    }
+}
+
+/// Where the records of a sound file begin.
+fn record_starts(bytes: &[u8]) -> Vec<usize> {
+    let mut starts = Vec::new();
+    let mut at = 0;
+    while at < bytes.len() {
+        starts.push(at);
+        at += 4 + usize::from(u16::from_le_bytes([bytes[at], bytes[at + 1]]));
+    }
+    starts
+}
+
+/// A panel script and the files it loads, with paths relative to one folder.
+pub struct Script {
+    pub text: Vec<u8>,
+    pub files: Vec<(String, Vec<u8>)>,
+    /// Folders to make, for loads and exports that can't succeed.
+    pub folders: Vec<String>,
+}
+
+impl Script {
+    /// Puts files and folders in place below `folder`.
+    pub fn write(&self, folder: &Path) -> io::Result<()> {
+        fs::create_dir_all(folder)?;
+        for name in &self.folders {
+            fs::create_dir_all(folder.join(name))?;
+        }
+        for (name, bytes) in &self.files {
+            fs::write(folder.join(name), bytes)?;
+        }
+        Ok(())
+    }
+}
+
+pub fn script(random: &mut Random) -> Script {
+    let mut files = Vec::new();
+    let mut largest = [4, 3, 3, 3, 2, 3];
+    for at in 0..random.size(1, 3) {
+        let shape = match random.below(20) {
+            0 => shape(random),
+            1..=4 => shape_up_to(random, [20, 11, 5, 5, 4, 8]),
+            _ => small_shape(random, 6, 4),
+        };
+        let made = district(random, shape);
+        let counts = [shape.segments, shape.strategies, shape.years, shape.distress_types, 0, shape.resources];
+        for (most, count) in largest.iter_mut().zip(counts) {
+            *most = count.max(*most);
+        }
+        files.push((format!("d{at}.bin"), file::encode(&made)));
+    }
+    if random.chance(60) {
+        files.push(("bad.bin".to_string(), damaged_file(random)));
+    }
+    if random.chance(10) {
+        files.push(("any file.bin".to_string(), any_file(random)));
+    }
+    let folders = vec!["folder".to_string()];
+
+    let mut text = Vec::new();
+    for at in 0..random.size(5, 40) {
+        if at == 0 && random.chance(80) {
+            text.extend(b"load d0.bin\n");
+            continue;
+        }
+        text.extend(script_line(random, &files, largest));
+        text.extend(match random.below(60) {
+            0 => &b"\r\n"[..],
+            1 => b"\n\n",
+            _ => b"\n",
+        });
+    }
+    if random.chance(90) {
+        text.extend(b"show\nexport last.bin\n");
+    }
+    // The last line may lack its line feed.
+    if random.chance(15) {
+        text.pop();
+    }
+    Script { text, files, folders }
+}
+
+/// One line of a script, without its line feed.
+fn script_line(random: &mut Random, files: &[(String, Vec<u8>)], largest: [usize; 6]) -> Vec<u8> {
+    let [n, s, _, d, _, r] = largest.map(|count| count as u64);
+    let line = match random.below(100) {
+        0..=9 => format!("load {}", random.pick(files).0),
+        10..=11 => {
+            format!("load {}", random.pick(&["missing.bin", "folder", "folder/none", "out0.bin", " d0.bin", "d0.bin "]))
+        }
+        12..=19 => format!("export {}", random.pick(&["out0.bin", "out1.bin", "folder/out 2.bin", "d0.bin"])),
+        20..=21 => format!("export {}", random.pick(&["folder", "none/out.bin", "folder/", "."])),
+        22..=33 => format!("bar {} {}", numeral(random, n), numeral(random, s)),
+        34..=41 => format!("unbar {} {}", numeral(random, n), numeral(random, s)),
+        42..=53 => {
+            let value = match random.below(12) {
+                0 => 999_999_999,
+                1 => 1_000_000_000,
+                2 => random.draw(),
+                3 => 0,
+                4..=6 => random.within(0, 200),
+                _ => random.within(0, 100_000),
+            };
+            format!("limit {} {value}", numeral(random, r))
+        }
+        54..=63 => format!("rating {} {} {}", numeral(random, n), numeral(random, d), numeral(random, 50)),
+        64..=75 => "show".to_string(),
+        76..=87 => {
+            let code = numeral(random, 8);
+            let degree = random.below(4);
+            let extent = numeral(random, 3);
+            let seal = match random.chance(50) {
+                true => random.below(4).to_string(),
+                false => u64::from(code.parse::<u64>().unwrap_or(0) > 6).to_string(),
+            };
+            format!("points {code} {degree} {extent} {seal}")
+        }
+        _ => return odd_line(random),
+    };
+    line.into_bytes()
+}
+
+/// A number from 1 to `most` as text, now and then one that is not.
+fn numeral(random: &mut Random, most: u64) -> String {
+    match random.below(40) {
+        0 => "0".to_string(),
+        1 => (most + 1).to_string(),
+        2 => random.draw().to_string(),
+        3 => format!("{:020}", random.within(1, most)),
+        4 => random.pick(&["18446744073709551615", "255", "256", "257", "65537", "4294967297"]).to_string(),
+        5 if random.chance(30) => random
+            .pick(&[
+                "18446744073709551616",
+                "99999999999999999999",
+                "000000000000000000001",
+                "-1",
+                "+1",
+                "1.0",
+                "",
+                "x",
+                "0x1",
+                "1\t",
+            ])
+            .to_string(),
+        _ => random.within(1, most).to_string(),
+    }
+}
+
+/// Lines at the edge of the console's language and beyond it.
+fn odd_line(random: &mut Random) -> Vec<u8> {
+    match random.below(14) {
+        0 => b"# a remark".to_vec(),
+        1 => [b"#".to_vec(), vec![b'x'; random.size(400, 2_000)]].concat(),
+        2 => random.pick(&[&b""[..], b" ", b"\t \r", b"   "]).to_vec(),
+        3 => random
+            .pick(&[
+                &b"load"[..],
+                b"load ",
+                b"export",
+                b"export ",
+                b"show ",
+                b" show",
+                b"Show",
+                b"show 1",
+                b"bar",
+                b"bar 1",
+                b"bar 1 1 1",
+                b"bar  1 1",
+                b"bar 1 1 ",
+                b"unbar 1,1",
+                b"limit 1",
+                b"limit 1 -5",
+                b"rating 1 1",
+                b"rating 1 1 1 1",
+                b"points 1 1 1",
+                b"points",
+                b"quit",
+                b"load\td0.bin",
+                b" # no remark",
+            ])
+            .to_vec(),
+        4 => {
+            // Around the longest line: blank, then not.
+            let length = random.size(510, 515);
+            vec![*random.pick(b" x"); length]
+        }
+        5 => {
+            // Around the longest path; no file has such a name.
+            let length = random.size(253, 258);
+            [b"load ".to_vec(), vec![b'p'; length]].concat()
+        }
+        6 => {
+            let length = random.size(253, 258);
+            [b"export none/".to_vec(), vec![b'p'; length - 5]].concat()
+        }
+        7 => b"load d0\0.bin".to_vec(),
+        8 => vec![b'9'; random.size(1, 3_000)],
+        9 => {
+            let length = random.size(60_000, 70_000);
+            vec![b'a'; length]
+        }
+        10 => "load stra\u{df}e.bin".as_bytes().to_vec(),
+        _ => {
+            let length = random.size(1, 40);
+            let mut bytes = random.bytes(length);
+            // One line stays one line, and noise is no command.
+            bytes.iter_mut().filter(|byte| **byte == b'\n').for_each(|byte| *byte = 0);
+            bytes
+        }
+    }
+}

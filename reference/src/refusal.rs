@@ -1,0 +1,31 @@
+//! The grounds on which a call is refused, with their numbers.
+
+#[derive(Clone, Copy, Debug, PartialEq, Eq)]
+pub enum Refusal {
+    /// The file ends inside a record's head or its payload.
+    FileEnds = 1,
+    /// A record is not of the kind due at its place.
+    Kind = 2,
+    /// A record's length is not the one its kind and the counts require.
+    Length = 3,
+    /// A value in a payload is out of its range.
+    Value = 4,
+    /// Something follows the last record.
+    ByteFollows = 5,
+    /// No such segment.
+    Segment = 6,
+    /// No such strategy, resource or distress type.
+    Number = 7,
+    /// A new limit or rating is out of range.
+    NewValue = 8,
+    /// The export buffer is shorter than the file.
+    Buffer = 9,
+    /// Survey points: code, degree, extent or seal is not in the table.
+    Survey = 10,
+}
+
+impl Refusal {
+    pub fn number(self) -> u8 {
+        self as u8
+    }
+}

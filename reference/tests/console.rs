@@ -1,0 +1,147 @@
+//! The panel's language, line by line.
+
+mod common;
+
+use common::{card_bytes, CARD_LISTING};
+use reference::console;
+use std::fs;
+use std::path::PathBuf;
+
+/// A folder of its own for each test, with the card in it.
+fn folder(name: &str) -> PathBuf {
+    let folder = std::env::temp_dir().join(format!("reference-{}-{name}", std::process::id()));
+    let _ = fs::remove_dir_all(&folder);
+    fs::create_dir_all(&folder).unwrap();
+    fs::write(folder.join("card.bin"), card_bytes()).unwrap();
+    folder
+}
+
+fn answers(name: &str, input: &[u8]) -> String {
+    let folder = folder(name);
+    let mut output = Vec::new();
+    console::run(&mut &input[..], &mut output, &folder).unwrap();
+    fs::remove_dir_all(&folder).unwrap();
+    String::from_utf8_lossy(&output).into_owned()
+}
+
+#[test]
+fn the_card_at_work() {
+    let input = b"# the card\n\nload card.bin\nshow\nbar 2 2\nshow\nunbar 2 2\nlimit 1 180\nshow\n\
+        rating 2 1 20\nshow\npoints 6 3 1 0\nexport out.bin\nload out.bin\nshow";
+    let expected = format!(
+        "ok\n{CARD_LISTING}ok\n1 2\n2 1\nbenefit 7200000\nceiling 7200000\nsteps 0 0 0\n\
+         ok\nok\n1 2\n2 2\nbenefit 8000000\nceiling 8000000\nsteps 0 0 0\n\
+         ok\n1 2\n2 0\nbenefit 4800000\nceiling 4800000\nsteps 0 0 0\n\
+         points 7\nok 87\nok\n1 2\n2 0\nbenefit 4800000\nceiling 4800000\nsteps 0 0 0\n"
+    );
+    assert_eq!(answers("card", input), expected);
+}
+
+#[test]
+fn a_fresh_unit() {
+    let input = b"show\nbar 1 1\nlimit 1 5\nlimit 2 5\nlimit 1 1000000000\nrating 1 1 0\n";
+    let expected = "benefit 0\nceiling 0\nsteps 0 0 0\nrefused 6\nok\nrefused 7\nrefused 8\nrefused 6\n";
+    assert_eq!(answers("fresh", input), expected);
+}
+
+#[test]
+fn refusals_and_failures() {
+    let folder = folder("failures");
+    fs::create_dir(folder.join("there")).unwrap();
+    fs::write(folder.join("cut"), &card_bytes()[..50]).unwrap();
+    let long = [card_bytes(), vec![0; 5_000]].concat();
+    fs::write(folder.join("long"), long).unwrap();
+    fs::write(folder.join("old"), b"old").unwrap();
+    let input = b"load none\nload there\nload cut\nload long\nexport there\nexport none/out\nexport old\nshow\n";
+    let mut output = Vec::new();
+    console::run(&mut &input[..], &mut output, &folder).unwrap();
+    let expected = "cannot open none\ncannot read there\nrefused 1\nrefused 5\ncannot write there\n\
+        cannot write none/out\nok 44\nbenefit 0\nceiling 0\nsteps 0 0 0\n";
+    assert_eq!(String::from_utf8(output).unwrap(), expected);
+    assert_eq!(fs::read(folder.join("old")).unwrap().len(), 44);
+    assert!(!folder.join("there.new").exists() && !folder.join("old.new").exists());
+    fs::remove_dir_all(&folder).unwrap();
+}
+
+#[test]
+fn numbers() {
+    let ones = ["1", "01", "00000000000000000001"];
+    let too_large = ["18446744073709551615", "999999999999999999"];
+    let wrong = [
+        "18446744073709551616",
+        "99999999999999999999",
+        "000000000000000000001",
+        "-1",
+        "+1",
+        "",
+        "1.",
+        "x",
+        "1\t",
+        "0x1",
+    ];
+    for word in ones {
+        assert_eq!(answers("one", format!("limit {word} 5\n").as_bytes()), "ok\n");
+    }
+    for word in too_large {
+        assert_eq!(answers("large", format!("limit {word} 5\n").as_bytes()), "refused 7\n");
+    }
+    for word in wrong {
+        assert_eq!(answers("wrong", format!("limit {word} 5\n").as_bytes()), "unknown command\n");
+    }
+}
+
+#[test]
+fn lines_that_are_no_commands() {
+    for line in [
+        "load",
+        "load ",
+        "export",
+        "export ",
+        "show ",
+        " show",
+        "Show",
+        "show 1",
+        "bar",
+        "bar 1",
+        "bar 1 1 1",
+        "bar  1 1",
+        "bar 1 1 ",
+        "bar 1\t1",
+        "limit 1",
+        "points 1 1 1",
+        "rating 1 1",
+        "quit",
+        " # x",
+        "show\r",
+        "load a\0b",
+    ] {
+        assert_eq!(answers("unknown", format!("{line}\n").as_bytes()), "unknown command\n", "{line:?}");
+    }
+    for line in ["", " ", "\t", "\r", " \t\r ", "#", "# show", "#\0"] {
+        assert_eq!(answers("blank", format!("{line}\n").as_bytes()), "", "{line:?}");
+    }
+}
+
+#[test]
+fn long_lines() {
+    let line = |byte: u8, length: usize| [vec![byte; length], b"\nlimit 1 1\n".to_vec()].concat();
+    assert_eq!(answers("512", &line(b' ', 512)), "ok\n");
+    assert_eq!(answers("513", &line(b' ', 513)), "unknown command\nok\n");
+    assert_eq!(answers("many", &line(b'x', 300_000)), "unknown command\nok\n");
+    assert_eq!(answers("remark", &line(b'#', 300_000)), "ok\n");
+    let load = |length: usize| [b"load ".to_vec(), vec![b'p'; length]].concat();
+    assert_eq!(answers("255", &load(255)), format!("cannot open {}\n", "p".repeat(255)));
+    assert_eq!(answers("256", &load(256)), "unknown command\n");
+}
+
+#[test]
+fn any_bytes() {
+    let input: Vec<u8> = (0..=255).rev().chain(0..=255).collect();
+    assert_eq!(answers("bytes", &input), "unknown command\n".repeat(3));
+}
+
+#[test]
+fn paths_may_hold_blanks() {
+    let input = b"load card.bin\nexport a b \nload a b \nload a b\n";
+    assert_eq!(answers("blanks", input), "ok\nok 87\nok\ncannot open a b\n");
+}

@@ -1,0 +1,79 @@
+//! The programs themselves, run as a user would.
+
+mod common;
+
+use common::{card_bytes, CARD_LISTING};
+use std::io::Write;
+use std::process::{Command, Stdio};
+
+fn output_of(program: &str, arguments: &[&str], input: &[u8]) -> Vec<u8> {
+    let mut child = Command::new(program).args(arguments).stdin(Stdio::piped()).stdout(Stdio::piped()).spawn().unwrap();
+    child.stdin.take().unwrap().write_all(input).unwrap();
+    child.wait_with_output().unwrap().stdout
+}
+
+#[test]
+fn plan_prints_the_card() {
+    let plan = env!("CARGO_BIN_EXE_plan");
+    assert_eq!(output_of(plan, &[], &card_bytes()), CARD_LISTING.as_bytes());
+    assert_eq!(output_of(plan, &[], b""), b"refused 1\n");
+    let more = [card_bytes(), vec![0; 10_000]].concat();
+    assert_eq!(output_of(plan, &[], &more[..88]), b"refused 5\n");
+}
+
+#[test]
+fn panel_answers() {
+    let panel = env!("CARGO_BIN_EXE_panel");
+    assert_eq!(output_of(panel, &[], b"points 7 2 3 2\nbar 1 1\nx"), b"points 15\nrefused 6\nunknown command\n");
+}
+
+#[test]
+fn codec_answers_frames() {
+    let card = card_bytes();
+    let frame = |bytes: &[u8]| [&(bytes.len() as u32).to_le_bytes(), bytes].concat();
+    let input = [frame(&card), frame(b""), frame(&card[..10]), frame(&card)].concat();
+    let accepted = [&[0][..], &frame(&card)].concat();
+    let expected = [&accepted[..], &[1, 1], &accepted].concat();
+    assert_eq!(output_of(env!("CARGO_BIN_EXE_codec"), &[], &input), expected);
+    assert_eq!(output_of(env!("CARGO_BIN_EXE_codec"), &[], b""), b"");
+}
+
+#[test]
+fn example_has_a_plan() {
+    let bytes = output_of(env!("CARGO_BIN_EXE_generate"), &["example"], b"");
+    let district = reference::file::decode(&bytes).unwrap();
+    assert_eq!(district.segments.len(), 15);
+    assert_eq!(district.limits.len(), 16);
+    let listing = String::from_utf8(output_of(env!("CARGO_BIN_EXE_plan"), &[], &bytes)).unwrap();
+    assert_eq!(listing.lines().count(), 18);
+}
+
+#[test]
+fn generated_frames_are_the_same_each_time() {
+    let generate = env!("CARGO_BIN_EXE_generate");
+    let frames = output_of(generate, &["frames", "--count", "50", "--seed", "5"], b"");
+    assert_eq!(frames, output_of(generate, &["frames", "--count", "50", "--seed", "5"], b""));
+    assert_ne!(frames, output_of(generate, &["frames", "--count", "50", "--seed", "6"], b""));
+}
+
+/// The comparison agrees with its own programs and finds a wrong one.
+#[test]
+fn compare_agrees_and_disagrees() {
+    let compare = env!("CARGO_BIN_EXE_compare");
+    let work = std::env::temp_dir().join(format!("reference-{}-compare", std::process::id()));
+    let work = work.to_str().unwrap();
+    let (plan, panel, codec) = (env!("CARGO_BIN_EXE_plan"), env!("CARGO_BIN_EXE_panel"), env!("CARGO_BIN_EXE_codec"));
+    let run = |plan: &str, panel: &str, codec: &str| {
+        let arguments = ["--plan", plan, "--panel", panel, "--codec", codec, "--count", "60", "--work", work];
+        let output = Command::new(compare).args(arguments).output().unwrap();
+        (output.status.success(), String::from_utf8(output.stdout).unwrap())
+    };
+    let (fine, text) = run(plan, panel, codec);
+    assert!(fine && text.ends_with("compared 60 cases, 0 differences\n"), "{text}");
+    for (plan, panel, codec) in [(panel, panel, codec), (plan, plan, codec), (plan, panel, plan)] {
+        let (fine, text) = run(plan, panel, codec);
+        assert!(!fine && text.contains("difference: "), "{text}");
+        assert!(!text.ends_with(" 0 differences\n"));
+    }
+    std::fs::remove_dir_all(work).unwrap();
+}
