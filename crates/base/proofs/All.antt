@@ -37,6 +37,12 @@ unfolding all
 all-cong zero f g h = refl
 all-cong (suc n) f g h = rw (all-cong n f g (λ k l u. h k l (omega arith)), h (suc n) (omega arith) (omega arith))
 
+-- all hold where each does
+pub all-true : (n : ℕ) (f : ℕ → Bool) → ((k : ℕ) → 1 ≤ k → k ≤ n → f k ≡ true) → all n f ≡ true
+unfolding all
+all-true zero f h = refl
+all-true (suc n) f h = rw (all-true n f (λ k l u. h k l (omega arith))) (h (suc n) (omega arith) (omega arith))
+
 -- ---- what a loop found of each number passed
 
 module _ (P : ℕ → Type 0) where

@@ -8,9 +8,10 @@ use native.Mathlib.Numerals.{add-one}
 use native.Mathlib.Omega.{arith}
 use borrow.Author.Tests.{ltb-true, ltb-false, eqb-true, eqb-false}
 use lib.Dec.{ltb, eqb}
-use lib.ListN.{getD}
+use lib.ListN.{getD, length}
 use Rattle.base.specs.Choice.{pick}
 use Rattle.base.specs.Over.{best, betterOf, listedFrom}
+use Rattle.base.proofs.Sums.{up-to}
 
 pub best-none : (p : ℕ → Bool) (better : ℕ → ℕ → Bool) → 0 ≡ best 0 p better
 unfolding best
@@ -19,6 +20,34 @@ best-none p better = refl
 pub best-next : (n : ℕ) (p : ℕ → Bool) (better : ℕ → ℕ → Bool) {b : ℕ} → b ≡ best n p better → betterOf p better b (n + 1) ≡ best (n + 1) p better
 unfolding best
 best-next n p better e = rw (add-one, e)
+
+-- ---- the best by any comparison
+
+module _ (p : ℕ → Bool) (better : ℕ → ℕ → Bool) where
+  -- it is 0, or one of 1 to n that passes
+  pub best-ind : (P : ℕ → Type 0) (n : ℕ) → P 0 → ((k : ℕ) → 1 ≤ k → k ≤ n → p k ≡ true → P k) → P (best n p better)
+  unfolding best betterOf
+  best-ind P zero none each = none
+  best-ind P (suc n) none each =
+      go (best-ind P n none (λ k l h. each k l (omega arith))) (p (suc n)) refl (eqb (best n p better) 0 || better (suc n) (best n p better))
+    where
+      go : P (best n p better) → (x : Bool) → p (suc n) ≡ x → (y : Bool) → P (pick (x && y) (suc n) (best n p better))
+      go earlier true e true = each (suc n) (omega arith) (omega arith) e
+      go earlier true e false = earlier
+      go earlier false e y = earlier
+
+  -- it is not 0 where one passes
+  pub best-some : (n k : ℕ) → 1 ≤ k → k ≤ n → p k ≡ true → 1 ≤ best n p better
+  unfolding best betterOf
+  best-some zero k l h e = absurd (omega arith)
+  best-some (suc n) k l h e = go (λ u. best-some n k l u e) (p (suc n)) refl (eqb (best n p better) 0) refl (better (suc n) (best n p better))
+    where
+      go : (k ≤ n → 1 ≤ best n p better) → (x : Bool) → p (suc n) ≡ x → (y : Bool) → eqb (best n p better) 0 ≡ y → (z : Bool)
+          → 1 ≤ pick (x && (y || z)) (suc n) (best n p better)
+      go earlier true pn true e0 z = omega arith
+      go earlier true pn false e0 true = omega arith
+      go earlier true pn false e0 false = omega (arith, eqb-false (best n p better) 0 e0)
+      go earlier false pn y e0 z = up-to h (λ q. absurd (true≢false (sym e ∙ ap p q ∙ pn))) earlier
 
 -- ---- the best by a number f: it passes where there is one, and none that passes has a greater number
 
@@ -85,3 +114,8 @@ unfolding listedFrom
 listed-at zero m k f h = absurd (omega arith)
 listed-at (suc n) m zero f h = let e : m ≡ m + 0 = omega arith in ap f e
 listed-at (suc n) m (suc k) f h = let e : suc m + k ≡ m + suc k = omega arith in listed-at n (suc m) k f (omega arith) ∙ ap f e
+
+pub listed-length : (n m : ℕ) (f : ℕ → ℕ) → length (listedFrom n m f) ≡ n
+unfolding listedFrom
+listed-length zero m f = refl
+listed-length (suc n) m f = ap suc (listed-length n (suc m) f)

@@ -32,7 +32,7 @@ give-numbers c i j s h before k = set-le c (i - 1) j s h (λ m. rw (← add-sub 
 
 module _ (t : Table) (c : List ℕ) (i j : ℕ) (l : 1 ≤ i) (h : i ≤ t .segments) (room : t .segments ≤ length c) where
   -- what a sum over the segments loses and gains
-  sum-give : (f : ℕ → ℕ → ℕ) → sum (t .segments) (λ k. f k (strategyAt (give c i j) k)) + f i (strategyAt c i) ≡ sum (t .segments) (λ k. f k (strategyAt c k)) + f i j
+  pub sum-give : (f : ℕ → ℕ → ℕ) → sum (t .segments) (λ k. f k (strategyAt (give c i j) k)) + f i (strategyAt c i) ≡ sum (t .segments) (λ k. f k (strategyAt c k)) + f i j
   sum-give f =
       let new : f i (strategyAt (give c i j) i) ≡ f i j = ap (f i) (given c i j l (omega arith)) in
       let moved = sum-change (t .segments) (λ k. f k (strategyAt (give c i j) k)) (λ k. f k (strategyAt c k)) i l h (λ k lk hk ne. ap (f k) (kept c i j k l lk ne)) in

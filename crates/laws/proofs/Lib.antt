@@ -1,2 +1,4 @@
 pub mod Give
 pub mod Changes
+pub mod Steps
+pub mod Shares
