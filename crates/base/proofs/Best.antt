@@ -97,6 +97,48 @@ module _ (p : ℕ → Bool) (f : ℕ → ℕ) where
   best-passes (suc n) h =
       turn (λ b. 1 ≤ b → p b ≡ true) (best n p more-by) (suc n) (λ pm w l. pm) (λ w l. best-passes n l) h
 
+-- ---- a loop that keeps the best so far with its number, where none has 0 and those that pass have more
+
+pub record Leads (p : ℕ → Bool) (f : ℕ → ℕ) (n b v : ℕ) : Type 0 where
+  pub none-has : f 0 ≡ 0
+  pub some-have : (k : ℕ) → p k ≡ true → 1 ≤ f k
+  pub leader : b ≡ best n p (more-by p f)
+  pub number : v ≡ f b
+
+module _ (p : ℕ → Bool) (f : ℕ → ℕ) where
+  pub leads-none : f 0 ≡ 0 → ((k : ℕ) → p k ≡ true → 1 ≤ f k) → Leads p f 0 0 0
+  leads-none z some = record { none-has = z; some-have = some; leader = best-none p (more-by p f); number = sym z }
+
+  module _ (n b v : ℕ) (leads : Leads p f n b v) where
+    pub leads-taken : {w : ℕ} → w ≡ f (n + 1) → p (n + 1) ≡ true → v < w → Leads p f (n + 1) (n + 1) w
+    leads-taken is e h =
+        record {
+          none-has = leads .none-has;
+          some-have = leads .some-have;
+          leader = sym (turn p f (λ m. m ≡ n + 1) b (n + 1) (λ _ _. refl) kept) ∙ best-next n p (more-by p f) (leads .leader);
+          number = is;
+        }
+      where
+        kept : (p (n + 1) ≡ false) ⊎ ((1 ≤ b) × (f (n + 1) ≤ f b)) → b ≡ n + 1
+        kept (inl z) = absurd (true≢false (sym e ∙ z))
+        kept (inr w) = absurd (omega (arith, leads .number))
+
+    pub leads-end : {m : ℕ} → n ≡ m → b ≡ best m p (more-by p f)
+    leads-end e = leads .leader ∙ ap (λ (k : ℕ). best k p (more-by p f)) e
+
+    pub leads-kept : (p (n + 1) ≡ true → f (n + 1) ≤ v) → Leads p f (n + 1) b v
+    leads-kept h =
+        record {
+          none-has = leads .none-has;
+          some-have = leads .some-have;
+          leader = sym (turn p f (λ m. m ≡ b) b (n + 1) taken (λ _. refl)) ∙ best-next n p (more-by p f) (leads .leader);
+          number = leads .number;
+        }
+      where
+        taken : p (n + 1) ≡ true → (b ≡ 0) ⊎ (f b < f (n + 1)) → n + 1 ≡ b
+        taken e (inl z) = absurd (omega (arith, h e, leads .number, ap f z, leads .none-has, leads .some-have (n + 1) e))
+        taken e (inr w) = absurd (omega (arith, h e, leads .number))
+
 pick-le : (t : Bool) (x y b : ℕ) → x ≤ b → y ≤ b → pick t x y ≤ b
 pick-le true x y b p q = p
 pick-le false x y b p q = q
