@@ -1,48 +1,26 @@
 -- What a change of phase 3 is: one segment or two that change, a rise of the total, and limits that hold. Assumes nothing.
-use Prim.Native.Nat.{ℕ, zero, suc, _+_, _-_, _≤_, _<_}
-use mathlib.Core.Path.{_≡_, refl, sym, ap, subst, _∙_}
-use mathlib.Core.Bool.{Bool, true, false, _&&_, true≢false}
+use Prim.Native.Nat.{ℕ, zero, suc, _-_, _≤_, _<_}
+use mathlib.Core.Path.{_≡_, refl, ap, subst, _∙_}
+use mathlib.Core.Bool.{Bool, true, false, not, _&&_, _||_}
 use mathlib.Core.List.{List}
+use mathlib.Core.Logic.{inl, inr}
 use mathlib.Core.Option.{Option, none, some}
 use native.Mathlib.Omega.{arith}
-use borrow.Author.Tests.{ltb-true, ltb-false}
-use lib.Dec.{ltb}
+use borrow.Author.Tests.{ltb-true, ltb-false, eqb-true, eqb-false}
+use lib.Dec.{ltb, eqb}
 use lib.ListN.{length, length-set}
-use Rattle.base.specs.Choice.{pick, only}
-use Rattle.base.specs.Over.{sum, best, listed}
-use Rattle.base.specs.Search.{first, orElse}
+use Rattle.base.specs.Choice.{pick}
+use Rattle.base.specs.Search.{first}
+use Rattle.base.proofs.Choice.{and-both}
 use Rattle.base.proofs.Sums.{sum-le}
 use Rattle.base.proofs.Search.{only-some, first-some, orElse-some}
-use Rattle.base.proofs.Best.{best-most, listed-at}
-use Rattle.laws.proofs.Give.{give-numbers}
+use Rattle.base.proofs.Best.{best-most}
 use Rattle.rules.specs.Table.{Table}
-use Rattle.rules.specs.Phases.{
-  strategyAt,
-  give,
-  isCandidate,
-  greater,
-  chosenBenefit,
-  total,
-  within,
-  topCandidate,
-  start,
-  another,
-  counts,
-  single,
-  pair,
-  firstStrategy,
-  singlesOf,
-  firstSingle,
-  pairsWith,
-  pairsOf,
-  pairsFrom,
-  firstPair,
-  change,
-}
-
-and-true : (x y : Bool) → (x && y) ≡ true → (x ≡ true) × (y ≡ true)
-and-true true y e = (refl, e)
-and-true false y e = absurd (true≢false (sym e))
+use Rattle.rules.specs.Phases.{strategyAt, give, isCandidate, greater, chosenBenefit, total, within, topCandidate, start, another, counts, single, pair, firstStrategy, singlesOf, firstSingle, pairsWith, pairsOf, pairsFrom, firstPair, change}
+use Rattle.laws.specs.Tables.{Allowed}
+use Rattle.laws.proofs.Give.{give-numbers}
+use Rattle.laws.proofs.Gives.{Gives, give-gives, gives-then, Numbers}
+use Rattle.laws.proofs.Steps.{candidate-gains, start-at}
 
 module _ (t : Table) (c : List ℕ) where
   -- one segment or two segments changed, to strategies that the table has
@@ -54,6 +32,16 @@ module _ (t : Table) (c : List ℕ) where
   pub record Counted (e : List ℕ) : Type 0 where
     pub changed : Changed e
     pub counted : counts t c e ≡ true
+    pub gives : Gives t c e
+
+  -- another strategy than the segment has is nothing or a candidate
+  another-allowed : (i j : ℕ) → j ≤ t .strategies → another t c i j ≡ true → Allowed t i j
+  unfolding another
+  another-allowed i j s ok = go (eqb j 0) refl (and-both (not (eqb j (strategyAt c i))) (eqb j 0 || isCandidate t i j) ok .1)
+    where
+      go : (x : Bool) → eqb j 0 ≡ x → (x || isCandidate t i j) ≡ true → Allowed t i j
+      go true e ok = inl (eqb-true j 0 e)
+      go false e ok = inr (let z = eqb-false j 0 e in omega arith, s, candidate-gains t i j ok)
 
   strategy-some : (f : ℕ → Option (List ℕ)) → ((a : ℕ) → a ≤ t .strategies → (e : List ℕ) → f a ≡ some e → Counted e) → (e : List ℕ) → firstStrategy t f ≡ some e → Counted e
   unfolding firstStrategy
@@ -64,15 +52,20 @@ module _ (t : Table) (c : List ℕ) where
   unfolding single
   single-some i a l h s e q =
       let w = only-some (another t c i a && counts t c (give c i a)) q in
-      subst Counted (w .1) (record { changed = one i a l h s; counted = and-true (another t c i a) (counts t c (give c i a)) (w .0) .1 })
+      let x = and-both (another t c i a) (counts t c (give c i a)) (w .0) in
+      let g = give-gives t c i a l h (another-allowed i a s (x .0)) in
+      subst Counted (w .1) (record { changed = one i a l h s; counted = x .1; gives = g })
 
   pair-some : (i k a b : ℕ) → 1 ≤ i → i < k → k ≤ t .segments → a ≤ t .strategies → b ≤ t .strategies → (e : List ℕ) → pair t c i k a b ≡ some e → Counted e
   unfolding pair
   pair-some i k a b l m h s v e q =
       let d = give (give c i a) k b in
       let w = only-some (another t c i a && (another t c k b && counts t c d)) q in
-      let x = and-true (another t c i a) (another t c k b && counts t c d) (w .0) in
-      subst Counted (w .1) (record { changed = two i k a b l m h s v; counted = and-true (another t c k b) (counts t c d) (x .1) .1 })
+      let x = and-both (another t c i a) (another t c k b && counts t c d) (w .0) in
+      let y = and-both (another t c k b) (counts t c d) (x .1) in
+      let g = give-gives t c i a l (omega arith) (another-allowed i a s (x .0)) in
+      let f = give-gives t (give c i a) k b (omega arith) h (another-allowed k b v (y .0)) in
+      subst Counted (w .1) (record { changed = two i k a b l m h s v; counted = y .1; gives = gives-then t c (give c i a) d g f })
 
   pick-some : (x : Bool) (f : Option (List ℕ)) (e : List ℕ) → (x ≡ true → f ≡ some e → Counted e) → pick x f none ≡ some e → Counted e
   pick-some true f e h q = h refl q
@@ -95,11 +88,11 @@ module _ (t : Table) (c : List ℕ) where
 
   pub change-rises : (e : List ℕ) → change t c ≡ some e → total t c < total t e
   unfolding counts
-  change-rises e q = ltb-true (total t c) (total t e) (and-true (ltb (total t c) (total t e)) (within t e) (change-some e q .counted) .0)
+  change-rises e q = ltb-true (total t c) (total t e) (and-both (ltb (total t c) (total t e)) (within t e) (change-some e q .counted) .0)
 
   pub change-within : (e : List ℕ) → change t c ≡ some e → within t e ≡ true
   unfolding counts
-  change-within e q = and-true (ltb (total t c) (total t e)) (within t e) (change-some e q .counted) .1
+  change-within e q = and-both (ltb (total t c) (total t e)) (within t e) (change-some e q .counted) .1
 
   pub changed-length : (e : List ℕ) → Changed e → length e ≡ length c
   changed-length e (one i a l h s) = length-set c (i - 1) a
@@ -118,20 +111,24 @@ module _ (t : Table) (c : List ℕ) where
 
 -- ---- no programme has a greater total than that of the best candidates, which bounds the changes
 
-module _ (t : Table) (nothing : (i : ℕ) → t .benefit i 0 ≡ 0) where
-  top-most : (i j : ℕ) → j ≤ t .strategies → t .benefit i j ≤ t .benefit i (topCandidate t i)
+module _ (t : Table) (few : t .segments ≤ 64) (nothing : (i : ℕ) → 1 ≤ i → i ≤ t .segments → t .benefit i 0 ≡ 0) where
+  top-most : (i j : ℕ) → 1 ≤ i → i ≤ t .segments → j ≤ t .strategies → t .benefit i j ≤ t .benefit i (topCandidate t i)
   unfolding topCandidate isCandidate greater
-  top-most i zero h = omega (arith, nothing i)
-  top-most i (suc j) h = go (ltb 0 (t .benefit i (suc j))) refl
+  top-most i zero l h s = omega (arith, nothing i l h)
+  top-most i (suc j) l h s = go (ltb 0 (t .benefit i (suc j))) refl
     where
       go : (x : Bool) → ltb 0 (t .benefit i (suc j)) ≡ x → t .benefit i (suc j) ≤ t .benefit i (topCandidate t i)
-      go true e = best-most (isCandidate t i) (t .benefit i) (t .strategies) (suc j) (omega arith) h e .1
+      go true e = best-most (isCandidate t i) (t .benefit i) (t .strategies) (suc j) (omega arith) s e .1
       go false e = omega (arith, ltb-false 0 (t .benefit i (suc j)) e)
 
-  pub total-most : (c : List ℕ) → t .segments ≤ 64 → ((k : ℕ) → strategyAt c k ≤ t .strategies) → total t c ≤ total t (start t)
-  unfolding total chosenBenefit start
-  total-most c few numbers =
-      sum-le (t .segments) (chosenBenefit t c) (chosenBenefit t (start t))
-      (λ i l h.
-      let at : strategyAt (start t) i ≡ topCandidate t i = listed-at 64 1 (i - 1) (topCandidate t) (omega arith) ∙ ap (topCandidate t) (omega arith) in
-      subst (λ (j : ℕ). t .benefit i (strategyAt c i) ≤ t .benefit i j) (sym at) (top-most i (strategyAt c i) (numbers i)))
+  chosen-le : (c : List ℕ) → Numbers t c → (i : ℕ) → 1 ≤ i → i ≤ t .segments → chosenBenefit t c i ≤ chosenBenefit t (start t) i
+  unfolding chosenBenefit
+  chosen-le c n i l h = let e = ap (t .benefit i) (start-at t i l (omega arith)) in omega (arith, top-most i (strategyAt c i) l h (n i l h))
+
+  pub total-le : (c : List ℕ) → Numbers t c → total t c ≤ total t (start t)
+  unfolding total
+  total-le c n = sum-le (t .segments) (chosenBenefit t c) (chosenBenefit t (start t)) (chosen-le c n)
+
+-- of a table and a programme that say this of every place
+pub total-most : (t : Table) (nothing : (i : ℕ) → t .benefit i 0 ≡ 0) (c : List ℕ) → t .segments ≤ 64 → ((k : ℕ) → strategyAt c k ≤ t .strategies) → total t c ≤ total t (start t)
+total-most t nothing c few numbers = total-le t few (λ i l h. nothing i) c (λ i l h. numbers i)

@@ -1,4 +1,6 @@
 pub mod Give
-pub mod Changes
+pub mod Gives
 pub mod Steps
 pub mod Shares
+pub mod PickUps
+pub mod Changes

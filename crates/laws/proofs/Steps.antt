@@ -1,24 +1,19 @@
 -- Phase 1 step by step: what a step is, and that programmes of candidates stay such. Assumes nothing.
 use Prim.Native.Nat.{ℕ, zero, suc, _+_, _-_, _≤_}
 use mathlib.Core.Path.{_≡_, refl, ap, subst, _∙_}
-use mathlib.Core.Bool.{Bool, true, false, _&&_}
+use mathlib.Core.Bool.{Bool, true, false}
 use mathlib.Core.List.{List}
 use mathlib.Core.Logic.{inl, inr}
 use mathlib.Core.Option.{Option, none, some}
 use native.Mathlib.Omega.{arith}
-use borrow.Author.Tests.{ltb-true, eqb-true, eqb-false}
-use lib.Dec.{eqb}
-use lib.ListN.{length-set}
+use borrow.Author.Tests.{ltb-true}
 use Rattle.base.specs.Over.{best}
+use Rattle.base.proofs.Choice.{and-both}
 use Rattle.base.proofs.Best.{best-ind, best-le, listed-at, listed-length}
 use Rattle.rules.specs.Table.{Table}
 use Rattle.rules.specs.Phases.{strategyAt, give, isCandidate, greater, topCandidate, start, within, pulls, lesserRatio, weakest, comesAfter, nextCandidate, stepDown, step}
 use Rattle.laws.specs.Tables.{Allowed, OfCandidates}
-use Rattle.laws.proofs.Give.{given, kept}
-
-and-left : (x y : Bool) → (x && y) ≡ true → x ≡ true
-and-left true y e = refl
-and-left false y e = e
+use Rattle.laws.proofs.Gives.{Gives, give-gives, gives-candidates}
 
 pub no-step : {d : List ℕ} → none ≡ some d → ⊥
 no-step e = let z : _≡_ {A = ℕ} 0 1 = cc in omega arith
@@ -38,7 +33,7 @@ module _ (t : Table) where
 
   pub next-allowed : (i a : ℕ) → Allowed t i (nextCandidate t i a)
   unfolding nextCandidate comesAfter
-  next-allowed i a = allowed-best i (comesAfter t i a) (greater t i) (λ k. and-left _ _)
+  next-allowed i a = allowed-best i (comesAfter t i a) (greater t i) (λ k e. and-both (isCandidate t i k) _ e .0)
 
   pub start-at : (i : ℕ) → 1 ≤ i → i ≤ 64 → strategyAt (start t) i ≡ topCandidate t i
   unfolding start
@@ -47,15 +42,6 @@ module _ (t : Table) where
   pub start-allowed : t .segments ≤ 64 → OfCandidates t (start t)
   unfolding start
   start-allowed few = record { places = listed-length 64 1 (topCandidate t); each = λ i l h. rw (start-at i l (omega arith)) (top-allowed i) }
-
-  module _ (c : List ℕ) (i j : ℕ) (l : 1 ≤ i) (h : i ≤ 64) (ok : Allowed t i j) where
-    -- where the segment has a place
-    pub give-allowed : OfCandidates t c → OfCandidates t (give c i j)
-    give-allowed o = record { places = length-set c (i - 1) j ∙ o .places; each = λ k lk hk. known k lk hk (eqb k i) refl }
-      where
-        known : (k : ℕ) → 1 ≤ k → k ≤ t .segments → (v : Bool) → eqb k i ≡ v → Allowed t k (strategyAt (give c i j) k)
-        known k lk hk true e = rw (eqb-true k i e, given c i j l (omega (arith, o .places))) ok
-        known k lk hk false e = rw (kept c i j k l lk (eqb-false k i e)) (o .each k lk hk)
 
   -- ---- what a step is
 
@@ -90,7 +76,10 @@ module _ (t : Table) where
       known false e zero w = rw (step-nobody c e w) (nobody e w)
       known false e (suc i) w = rw (step-some c e (suc i) w (omega arith)) (moves (suc i) w (omega arith) (omega (arith, weakest-le c)))
 
-  pub step-allowed : t .segments ≤ 64 → (c d : List ℕ) → step t c ≡ some d → OfCandidates t c → OfCandidates t d
-  step-allowed few c d e o =
-      step-cases c (λ x. x ≡ some d → OfCandidates t d) (λ w n. absurd (no-step n)) (λ w z n. absurd (no-step n))
-      (λ i w l h q. let is : stepped c i ≡ d = cc in subst (λ (x : List ℕ). OfCandidates t x) is (give-allowed c i (nextCandidate t i (strategyAt c i)) l (omega arith) (next-allowed i (strategyAt c i)) o)) e
+  pub step-gives : (c d : List ℕ) → step t c ≡ some d → Gives t c d
+  step-gives c d e =
+      step-cases c (λ x. x ≡ some d → Gives t c d) (λ w n. absurd (no-step n)) (λ w z n. absurd (no-step n))
+      (λ i w l h q. let is : stepped c i ≡ d = cc in subst (Gives t c) is (give-gives t c i (nextCandidate t i (strategyAt c i)) l h (next-allowed i (strategyAt c i)))) e
+
+  pub step-allowed : (c d : List ℕ) → step t c ≡ some d → OfCandidates t c → OfCandidates t d
+  step-allowed c d e = gives-candidates t c d (step-gives c d e)

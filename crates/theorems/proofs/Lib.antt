@@ -1,1 +1,15 @@
+pub mod Searches
 pub mod Phase1
+pub mod Phase2
+pub mod Phase3
+pub mod Programmes
+pub mod Neighbours
+pub mod Rivals
+pub mod Duality
+pub mod Entries
+pub mod SignedSums
+pub mod Covers
+pub mod Totals
+pub mod Promises
+pub mod Settled
+pub mod Lists

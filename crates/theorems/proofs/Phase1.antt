@@ -15,12 +15,14 @@ use Rattle.base.specs.Over.{sum}
 use Rattle.base.proofs.Sums.{sum-le, sum-lt, sum-bound, sum-part, sum-mul-right}
 use Rattle.base.proofs.Best.{best-ind, best-some}
 use Rattle.base.proofs.All.{all-true}
-use Rattle.base.proofs.Runs.{run-ends, run-count, run-keeps}
+use Rattle.base.proofs.Runs.{run-ends, run-count}
 use Rattle.rules.specs.Table.{Table}
 use Rattle.rules.specs.Phases.{strategyAt, isCandidate, greater, chosenUsage, used, holds, within, chosenShare, surplus, pullBy, pull, pulls, lesserRatio, weakest, comesAfter, nextCandidate, topCandidate, start, step, phase1}
 use Rattle.laws.specs.Tables.{FitAlone, Allowed, OfCandidates}
-use Rattle.laws.proofs.Give.{sum-give, kept}
-use Rattle.laws.proofs.Steps.{top-allowed, start-at, start-allowed, step-cases, step-allowed, stepped, no-step}
+use Rattle.laws.proofs.Give.{sum-give}
+use Rattle.laws.proofs.Gives.{Gives, gives-candidates, PastNothing, gives-past}
+use Rattle.laws.proofs.Steps.{top-allowed, start-at, start-allowed, step-cases, step-gives, step-allowed, stepped, no-step}
+use Rattle.theorems.proofs.Searches.{run-gives}
 use Rattle.laws.proofs.Shares.{share-covers, share-none, chosen-fits}
 
 -- ---- a limit that does not hold has a segment that pulls
@@ -204,15 +206,18 @@ module _ (t : Table) (fit : FitAlone t) where
       (λ i w l h n. absurd (no-step (sym n)))
 
   -- each segment has a candidate or nothing at the end,
-  pub phase1-allowed : OfCandidates t (phase1 t (start t) .last)
+  phase1-gives : Gives t (start t) (phase1 t (start t) .last)
   unfolding phase1
-  phase1-allowed = run-keeps (step t) (OfCandidates t) (step-allowed t (fit .segments)) (t .segments * t .strategies) (start t) (start-allowed t (fit .segments))
+  phase1-gives = run-gives t (step t) (t .segments * t .strategies) (start t) (step-gives t)
+
+  pub phase1-allowed : OfCandidates t (phase1 t (start t) .last)
+  phase1-allowed = gives-candidates t (start t) (phase1 t (start t) .last) phase1-gives (start-allowed t (fit .segments))
 
   -- there is no step from there,
   pub phase1-ends : step t (phase1 t (start t) .last) ≡ none
   unfolding phase1
   phase1-ends =
-      run-ends (step t) (OfCandidates t) (step-allowed t (fit .segments)) (potential t) step-falls (t .segments * t .strategies) (start t) (start-allowed t (fit .segments))
+      run-ends (step t) (OfCandidates t) (step-allowed t) (potential t) step-falls (t .segments * t .strategies) (start t) (start-allowed t (fit .segments))
       (potential-small t (start t) (start-allowed t (fit .segments)))
 
   -- because every limit holds,
@@ -225,29 +230,22 @@ module _ (t : Table) (fit : FitAlone t) where
   phase1-few =
       omega (
         arith,
-        run-count (step t) (OfCandidates t) (step-allowed t (fit .segments)) (potential t) step-falls (t .segments * t .strategies) (start t) (start-allowed t (fit .segments)),
+        run-count (step t) (OfCandidates t) (step-allowed t) (potential t) step-falls (t .segments * t .strategies) (start t) (start-allowed t (fit .segments)),
         potential-small t (start t) (start-allowed t (fit .segments)),
       )
 
-  -- a place past the segments holds nothing where the table has no benefit for it
-  pub phase1-past : (i : ℕ) → t .segments < i → ((j : ℕ) → 1 ≤ j → j ≤ t .strategies → t .benefit i j ≡ 0) → strategyAt (phase1 t (start t) .last) i ≡ 0
-  unfolding phase1
-  phase1-past i past no-benefit = run-keeps (step t) (λ c. strategyAt c i ≡ 0) keep (t .segments * t .strategies) (start t) first-one
-    where
-      keep : (c d : List ℕ) → step t c ≡ some d → strategyAt c i ≡ 0 → strategyAt d i ≡ 0
-      keep c d e z =
-          step-cases t c (λ x. x ≡ some d → strategyAt d i ≡ 0) (λ w n. absurd (no-step n)) (λ w o n. absurd (no-step n))
-          (λ k w l h q.
-          let is : stepped t c k ≡ d = cc in
-          subst (λ (x : List ℕ). strategyAt x i ≡ 0) is (kept c k (nextCandidate t k (strategyAt c k)) i l (omega arith) (λ n. omega arith) ∙ z)) e
+  -- places past the segments hold nothing, where the table has no benefit there
+  module _ (no-benefit : (i j : ℕ) → t .segments < i → t .benefit i j ≡ 0) where
+    none-there : (i j : ℕ) → t .segments < i → Allowed t i j → j ≡ 0
+    none-there i j past (inl e) = e
+    none-there i j past (inr w) = absurd (omega (arith, no-benefit i j past))
 
-      none-there : (j : ℕ) → Allowed t i j → j ≡ 0
-      none-there j (inl e) = e
-      none-there j (inr w) = absurd (omega (arith, no-benefit j (w .0) (w .1), w .2))
+    start-past : PastNothing t (start t)
+    start-past i l past = known (leb i 64) refl
+      where
+        known : (v : Bool) → leb i 64 ≡ v → strategyAt (start t) i ≡ 0
+        known true e = start-at t i l (leb-true i 64 e) ∙ none-there i (topCandidate t i) past (top-allowed t i)
+        known false e = List·getD-eq-default (start t) 0 (omega (arith, leb-false i 64 e, start-allowed t (fit .segments) .places))
 
-      known : (v : Bool) → leb i 64 ≡ v → strategyAt (start t) i ≡ 0
-      known true e = start-at t i (omega arith) (leb-true i 64 e) ∙ none-there (topCandidate t i) (top-allowed t i)
-      known false e = List·getD-eq-default (start t) 0 (omega (arith, leb-false i 64 e, start-allowed t (fit .segments) .places))
-
-      first-one : strategyAt (start t) i ≡ 0
-      first-one = known (leb i 64) refl
+    pub phase1-past : PastNothing t (phase1 t (start t) .last)
+    phase1-past = gives-past t (start t) (phase1 t (start t) .last) phase1-gives start-past
