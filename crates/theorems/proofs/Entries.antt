@@ -15,29 +15,30 @@ use Rattle.rules.specs.Rating.{benefit, usage, scaledLimit, permitted, fitsLimi
 use Rattle.rules.specs.Table.{has, candidateBenefit, usageIn, limitIn, tableOf}
 use Rattle.laws.specs.Tables.{FitAlone}
 
-pub inside : (a b x : ℕ) → a ≤ x → x ≤ b → between a b x ≡ true
-inside a b x l h = rw (le-leb a x l, le-leb x b h)
+-- x is from a to b
+between-yes : (a b x : ℕ) → a ≤ x → x ≤ b → between a b x ≡ true
+between-yes a b x l h = rw (le-leb a x l, le-leb x b h)
 
 module _ (d : District) where
   pub has-both : (i j : ℕ) → 1 ≤ i → i ≤ segmentsOf d → 1 ≤ j → j ≤ strategiesOf d → has d i j ≡ true
-  has-both i j l h lj hj = rw (inside 1 (segmentsOf d) i l h, inside 1 (strategiesOf d) j lj hj)
+  has-both i j l h lj hj = rw (between-yes 1 (segmentsOf d) i l h, between-yes 1 (strategiesOf d) j lj hj)
 
   -- ---- uses and limits are the district's
 
   pub usage-is : (i j r : ℕ) → 1 ≤ i → i ≤ segmentsOf d → j ≤ strategiesOf d → 1 ≤ r → r ≤ resourcesOf d → tableOf d .usage i j r ≡ usage d i j r
   unfolding tableOf usageIn usage
-  usage-is i zero r l h s lr hr = rw (inside 1 (segmentsOf d) i l h)
-  usage-is i (suc j) r l h s lr hr = rw (has-both i (suc j) l h (omega arith) s, inside 1 (resourcesOf d) r lr hr)
+  usage-is i zero r l h s lr hr = rw (between-yes 1 (segmentsOf d) i l h)
+  usage-is i (suc j) r l h s lr hr = rw (has-both i (suc j) l h (omega arith) s, between-yes 1 (resourcesOf d) r lr hr)
 
   pub limit-is : (r : ℕ) → 1 ≤ r → r ≤ resourcesOf d → tableOf d .limit r ≡ scaledLimit d r
   unfolding tableOf limitIn
-  limit-is r lr hr = rw (inside 1 (resourcesOf d) r lr hr)
+  limit-is r lr hr = rw (between-yes 1 (resourcesOf d) r lr hr)
 
   -- ---- benefits are those of candidates
 
   pub nothing-is : (i : ℕ) → 1 ≤ i → i ≤ segmentsOf d → candidateBenefit d i 0 ≡ 0
   unfolding candidateBenefit
-  nothing-is i l h = rw (inside 1 (segmentsOf d) i l h)
+  nothing-is i l h = rw (between-yes 1 (segmentsOf d) i l h)
 
   -- past the segments there are none
   pub past-is : (i j : ℕ) → segmentsOf d < i → candidateBenefit d i j ≡ 0

@@ -4,6 +4,7 @@ pub mod Phase2
 pub mod Phase3
 pub mod Programmes
 pub mod Neighbours
+pub mod Cleaned
 pub mod Rivals
 pub mod Duality
 pub mod Entries
@@ -13,3 +14,4 @@ pub mod Totals
 pub mod Promises
 pub mod Settled
 pub mod Lists
+pub mod Reload

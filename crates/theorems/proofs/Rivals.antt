@@ -4,13 +4,11 @@ use Prim.Native.Nat.{ℕ, zero, suc, _-_, _≤_}
 use mathlib.Core.Path.{_≡_, refl, ap, sym, _∙_, subst}
 use mathlib.Core.Bool.{Bool, true, false}
 use mathlib.Core.List.{List}
-use mathlib.Core.Logic.{inl, inr}
 use mathlib.Core.Option.{none}
 use native.Mathlib.Omega.{arith}
-use borrow.Author.Tests.{ltb-true, ltb-false, leb-true, leb-false, le-leb, eqb-true, eqb-false}
-use lib.Dec.{leb, ltb, eqb}
+use borrow.Author.Tests.{leb-true, leb-false, le-leb, eqb-true, eqb-false}
+use lib.Dec.{leb, eqb}
 use lib.ListN.{length, length-set}
-use Rattle.base.specs.Choice.{pick}
 use Rattle.base.specs.Over.{sum}
 use Rattle.base.proofs.Sums.{sum-le, sum-cong}
 use Rattle.base.proofs.All.{all-true}
@@ -19,44 +17,16 @@ use Rattle.rules.specs.Phases.{strategyAt, give, chosenBenefit, total, chosenUs
 use Rattle.laws.specs.Tables.{FitAlone, Allowed, OfCandidates}
 use Rattle.laws.proofs.Give.{given, kept}
 use Rattle.theorems.specs.Rivals.{totalBy, usedBy, Rival}
+use Rattle.theorems.proofs.Cleaned.{cleaned, cleaned-benefit, cleaned-usage, cleaned-allowed, cleaned-same}
 use Rattle.theorems.proofs.Neighbours.{pair-le}
-
--- ---- a strategy, or nothing in the place of one that is no candidate
-
-module _ (t : Table) (fit : FitAlone t) (i j : ℕ) (l : 1 ≤ i) (h : i ≤ t .segments) where
-  abbrev pub cleaned : ℕ
-  cleaned = pick (ltb 0 (t .benefit i j)) j 0
-
-  by-test : (P : ℕ → Type 0) → (1 ≤ t .benefit i j → P j) → (t .benefit i j ≡ 0 → P 0) → P cleaned
-  by-test P taken left = go (ltb 0 (t .benefit i j)) refl
-    where
-      go : (x : Bool) → ltb 0 (t .benefit i j) ≡ x → P (pick x j 0)
-      go true e = taken (ltb-true 0 (t .benefit i j) e)
-      go false e = left (omega (arith, ltb-false 0 (t .benefit i j) e))
-
-  pub cleaned-benefit : t .benefit i cleaned ≡ t .benefit i j
-  cleaned-benefit = by-test (λ a. t .benefit i a ≡ t .benefit i j) (λ worth. refl) (λ z. omega (arith, fit .nothing-gains i l h))
-
-  pub cleaned-usage : (r : ℕ) → 1 ≤ r → r ≤ t .resources → t .usage i cleaned r ≤ t .usage i j r
-  cleaned-usage r lr hr = by-test (λ a. t .usage i a r ≤ t .usage i j r) (λ worth. omega arith) (λ z. omega (arith, fit .nothing-uses i r l h lr hr))
-
-  pub cleaned-allowed : j ≤ t .strategies → Allowed t i cleaned
-  cleaned-allowed s = by-test (Allowed t i) (λ worth. inr (some-j j refl worth, s, worth)) (λ z. inl refl)
-    where
-      some-j : (a : ℕ) → j ≡ a → 1 ≤ t .benefit i j → 1 ≤ a
-      some-j zero e worth = absurd (omega (arith, fit .nothing-gains i l h, ap (t .benefit i) e))
-      some-j (suc a) e worth = omega arith
-
-  pub cleaned-same : Allowed t i j → cleaned ≡ j
-  cleaned-same (inl z) = by-test (λ a. a ≡ j) (λ worth. refl) (λ none. sym z)
-  cleaned-same (inr ok) = by-test (λ a. a ≡ j) (λ worth. refl) (λ none. absurd (omega arith))
 
 -- ---- the programme that has the rival's strategies on segments i and k, cleaned
 
-module _ (t : Table) (fit : FitAlone t) (p : List ℕ) (o : OfCandidates t p) (c : ℕ → ℕ) (rival : Rival t c) (i k : ℕ) (l : 1 ≤ i) (h : i ≤ t .segments) (lk : 1 ≤ k) (hk : k ≤ t .segments)
+module _ (t : Table) (fit : FitAlone t) (p : List ℕ) (o : OfCandidates t p) (c : ℕ → ℕ) (rival : Rival t c) (i k : ℕ)
+    (l : 1 ≤ i) (h : i ≤ t .segments) (lk : 1 ≤ k) (hk : k ≤ t .segments)
     (elsewhere : (m : ℕ) → 1 ≤ m → m ≤ t .segments → ¬ (m ≡ i) → ¬ (m ≡ k) → strategyAt p m ≡ c m) where
   abbrev clean : ℕ → ℕ
-  clean m = pick (ltb 0 (t .benefit m (c m))) (c m) 0
+  clean m = cleaned t m (c m)
 
   abbrev moved : List ℕ
   moved = give (give p i (clean i)) k (clean k)
@@ -91,14 +61,14 @@ module _ (t : Table) (fit : FitAlone t) (p : List ℕ) (o : OfCandidates t p) (c
   unfolding within holds
   moved-within = all-true (t .resources) (holds t moved) (λ r lr hr. le-leb (used t moved r) (t .limit r) (omega (arith, moved-used r lr hr, rival .within r lr hr)))
 
-  pub two-apart : change t p ≡ none → totalBy t c ≤ total t p
+  two-apart : change t p ≡ none → totalBy t c ≤ total t p
   two-apart ended =
       rw (← moved-total)
       (pair-le t p ended i k (clean i) (clean k) l h lk hk (cleaned-allowed t fit i (c i) l h (rival .numbers i l h)) (cleaned-allowed t fit k (c k) lk hk (rival .numbers k lk hk)) moved-within)
 
 -- ---- segments of any number, also such as the table does not have
 
--- a segment of the table, which no other segment is where it is not i
+-- a segment k of the table in i's place: a segment that is not k is not i
 in-table : {P : Type 0} (n i : ℕ) → 1 ≤ n → ((k : ℕ) → 1 ≤ k → k ≤ n → ((m : ℕ) → 1 ≤ m → m ≤ n → ¬ (m ≡ k) → ¬ (m ≡ i)) → P) → P
 in-table {P} n i some-n go = known (leb 1 i) refl (leb i n) refl
   where
