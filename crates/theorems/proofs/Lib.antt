@@ -11,6 +11,7 @@ pub mod Entries
 pub mod SignedSums
 pub mod Covers
 pub mod Totals
+pub mod Feasible
 pub mod Promises
 pub mod Settled
 pub mod Lists

@@ -17,7 +17,8 @@ use Rattle.laws.specs.Tables.{FitAlone, OfCandidates}
 use Rattle.laws.proofs.Gives.{candidates-numbers}
 use Rattle.theorems.proofs.SignedSums.{below}
 use Rattle.theorems.proofs.Entries.{past-is, table-fit}
-use Rattle.theorems.proofs.Totals as totals
+use Rattle.theorems.proofs.Totals.{total-is, permitted-is, within-is}
+use Rattle.theorems.proofs.Feasible.{feasible-rival, feasible-total}
 use Rattle.theorems.proofs.Duality.{ceiling-bounds}
 use Rattle.theorems.proofs.Rivals.{neighbour}
 use Rattle.theorems.proofs.Programmes as programmes
@@ -34,22 +35,26 @@ module _ (d : District) (few : segmentsOf d ≤ 64) where
 
   total-shown : totalOf d (strategyIn (programmeOf (tableOf d))) ≡ pos (programmeOf (tableOf d) .total)
   unfolding programmeOf total chosenBenefit tableOf
-  total-shown = totals.total-is d (strategyAt (improved (tableOf d) .last)) (candidates .each)
+  total-shown = total-is d (strategyAt (improved (tableOf d) .last)) (candidates .each)
 
   feasible : Feasible d (strategyIn (programmeOf (tableOf d)))
   unfolding programmeOf tableOf
   feasible =
       record {
-        permitted = totals.permitted-is d (strategyAt (improved (tableOf d) .last)) (candidates .each);
-        within = totals.within-is d (improved (tableOf d) .last) (candidates-numbers (tableOf d) (improved (tableOf d) .last) candidates) ∙ programmes.improved-within (tableOf d) fit;
+        permitted = permitted-is d (strategyAt (improved (tableOf d) .last)) (candidates .each);
+        within =
+            within-is d (improved (tableOf d) .last) (candidates-numbers (tableOf d) (improved (tableOf d) .last) candidates)
+            ∙ programmes.improved-within (tableOf d) fit;
       }
 
-  neighbours : (c : ℕ → ℕ) → Feasible d c → (i k : ℕ) → Apart d i k (strategyIn (programmeOf (tableOf d))) c → totalOf d c ≤ℤ totalOf d (strategyIn (programmeOf (tableOf d)))
+  neighbours :
+      (c : ℕ → ℕ) → Feasible d c → (i k : ℕ) → Apart d i k (strategyIn (programmeOf (tableOf d))) c
+      → totalOf d c ≤ℤ totalOf d (strategyIn (programmeOf (tableOf d)))
   unfolding programmeOf tableOf
   neighbours c rival i k apart =
       rw total-shown
-      (below (totalOf d c) (totals.total-le d c rival)
-      (neighbour (tableOf d) fit (improved (tableOf d) .last) candidates (finished .changes) c (totals.rival d c rival) i k (apart .elsewhere)))
+      (below (totalOf d c) (feasible-total d c rival)
+      (neighbour (tableOf d) fit (improved (tableOf d) .last) candidates (finished .changes) c (feasible-rival d c rival) i k (apart .elsewhere)))
 
   pub sound : Sound d (programmeOf (tableOf d))
   unfolding programmeOf
@@ -57,7 +62,7 @@ module _ (d : District) (few : segmentsOf d ≤ 64) where
       record {
         feasible = feasible;
         neighbours = neighbours;
-        ceiling = λ c rival. below (totalOf d c) (totals.total-le d c rival) (ceiling-bounds (tableOf d) fit c (totals.rival d c rival));
+        ceiling = λ c rival. below (totalOf d c) (feasible-total d c rival) (ceiling-bounds (tableOf d) fit c (feasible-rival d c rival));
       }
 
   pub shown : Shown d (programmeOf (tableOf d))
