@@ -8,9 +8,10 @@ use native.Mathlib.Numerals.{add-one}
 use native.Mathlib.Omega.{arith}
 use borrow.Author.Tests.{ltb-true, ltb-false, eqb-true, eqb-false}
 use lib.Dec.{ltb, eqb}
-use lib.ListN.{getD}
+use lib.ListN.{getD, length}
 use Rattle.base.specs.Choice.{pick}
 use Rattle.base.specs.Over.{best, betterOf, listedFrom}
+use Rattle.base.proofs.Sums.{up-to}
 
 pub best-none : (p : ℕ → Bool) (better : ℕ → ℕ → Bool) → 0 ≡ best 0 p better
 unfolding best
@@ -19,6 +20,34 @@ best-none p better = refl
 pub best-next : (n : ℕ) (p : ℕ → Bool) (better : ℕ → ℕ → Bool) {b : ℕ} → b ≡ best n p better → betterOf p better b (n + 1) ≡ best (n + 1) p better
 unfolding best
 best-next n p better e = rw (add-one, e)
+
+-- ---- the best by any comparison
+
+module _ (p : ℕ → Bool) (better : ℕ → ℕ → Bool) where
+  -- it is 0, or one of 1 to n that passes
+  pub best-ind : (P : ℕ → Type 0) (n : ℕ) → P 0 → ((k : ℕ) → 1 ≤ k → k ≤ n → p k ≡ true → P k) → P (best n p better)
+  unfolding best betterOf
+  best-ind P zero none each = none
+  best-ind P (suc n) none each =
+      go (best-ind P n none (λ k l h. each k l (omega arith))) (p (suc n)) refl (eqb (best n p better) 0 || better (suc n) (best n p better))
+    where
+      go : P (best n p better) → (x : Bool) → p (suc n) ≡ x → (y : Bool) → P (pick (x && y) (suc n) (best n p better))
+      go earlier true e true = each (suc n) (omega arith) (omega arith) e
+      go earlier true e false = earlier
+      go earlier false e y = earlier
+
+  -- it is not 0 where one passes
+  pub best-some : (n k : ℕ) → 1 ≤ k → k ≤ n → p k ≡ true → 1 ≤ best n p better
+  unfolding best betterOf
+  best-some zero k l h e = absurd (omega arith)
+  best-some (suc n) k l h e = go (λ u. best-some n k l u e) (p (suc n)) refl (eqb (best n p better) 0) refl (better (suc n) (best n p better))
+    where
+      go : (k ≤ n → 1 ≤ best n p better) → (x : Bool) → p (suc n) ≡ x → (y : Bool) → eqb (best n p better) 0 ≡ y → (z : Bool)
+          → 1 ≤ pick (x && (y || z)) (suc n) (best n p better)
+      go earlier true pn true e0 z = omega arith
+      go earlier true pn false e0 true = omega arith
+      go earlier true pn false e0 false = omega (arith, eqb-false (best n p better) 0 e0)
+      go earlier false pn y e0 z = up-to h (λ q. absurd (true≢false (sym e ∙ ap p q ∙ pn))) earlier
 
 -- ---- the best by a number f: it passes where there is one, and none that passes has a greater number
 
@@ -68,6 +97,48 @@ module _ (p : ℕ → Bool) (f : ℕ → ℕ) where
   best-passes (suc n) h =
       turn (λ b. 1 ≤ b → p b ≡ true) (best n p more-by) (suc n) (λ pm w l. pm) (λ w l. best-passes n l) h
 
+-- ---- a loop that keeps the best so far with its number, where none has 0 and those that pass have more
+
+pub record Leads (p : ℕ → Bool) (f : ℕ → ℕ) (n b v : ℕ) : Type 0 where
+  pub none-has : f 0 ≡ 0
+  pub some-have : (k : ℕ) → p k ≡ true → 1 ≤ f k
+  pub leader : b ≡ best n p (more-by p f)
+  pub number : v ≡ f b
+
+module _ (p : ℕ → Bool) (f : ℕ → ℕ) where
+  pub leads-none : f 0 ≡ 0 → ((k : ℕ) → p k ≡ true → 1 ≤ f k) → Leads p f 0 0 0
+  leads-none z some = record { none-has = z; some-have = some; leader = best-none p (more-by p f); number = sym z }
+
+  module _ (n b v : ℕ) (leads : Leads p f n b v) where
+    pub leads-taken : {w : ℕ} → w ≡ f (n + 1) → p (n + 1) ≡ true → v < w → Leads p f (n + 1) (n + 1) w
+    leads-taken is e h =
+        record {
+          none-has = leads .none-has;
+          some-have = leads .some-have;
+          leader = sym (turn p f (λ m. m ≡ n + 1) b (n + 1) (λ _ _. refl) kept) ∙ best-next n p (more-by p f) (leads .leader);
+          number = is;
+        }
+      where
+        kept : (p (n + 1) ≡ false) ⊎ ((1 ≤ b) × (f (n + 1) ≤ f b)) → b ≡ n + 1
+        kept (inl z) = absurd (true≢false (sym e ∙ z))
+        kept (inr w) = absurd (omega (arith, leads .number))
+
+    pub leads-end : {m : ℕ} → n ≡ m → b ≡ best m p (more-by p f)
+    leads-end e = leads .leader ∙ ap (λ (k : ℕ). best k p (more-by p f)) e
+
+    pub leads-kept : (p (n + 1) ≡ true → f (n + 1) ≤ v) → Leads p f (n + 1) b v
+    leads-kept h =
+        record {
+          none-has = leads .none-has;
+          some-have = leads .some-have;
+          leader = sym (turn p f (λ m. m ≡ b) b (n + 1) taken (λ _. refl)) ∙ best-next n p (more-by p f) (leads .leader);
+          number = leads .number;
+        }
+      where
+        taken : p (n + 1) ≡ true → (b ≡ 0) ⊎ (f b < f (n + 1)) → n + 1 ≡ b
+        taken e (inl z) = absurd (omega (arith, h e, leads .number, ap f z, leads .none-has, leads .some-have (n + 1) e))
+        taken e (inr w) = absurd (omega (arith, h e, leads .number))
+
 pick-le : (t : Bool) (x y b : ℕ) → x ≤ b → y ≤ b → pick t x y ≤ b
 pick-le true x y b p q = p
 pick-le false x y b p q = q
@@ -85,3 +156,8 @@ unfolding listedFrom
 listed-at zero m k f h = absurd (omega arith)
 listed-at (suc n) m zero f h = let e : m ≡ m + 0 = omega arith in ap f e
 listed-at (suc n) m (suc k) f h = let e : suc m + k ≡ m + suc k = omega arith in listed-at n (suc m) k f (omega arith) ∙ ap f e
+
+pub listed-length : (n m : ℕ) (f : ℕ → ℕ) → length (listedFrom n m f) ≡ n
+unfolding listedFrom
+listed-length zero m f = refl
+listed-length (suc n) m f = ap suc (listed-length n (suc m) f)

@@ -19,6 +19,9 @@ pub sum-next : (n : ℕ) (f : ℕ → ℕ) {t : ℕ} → t ≡ sum n f → t + f
 unfolding sum
 sum-next n f e = rw (add-one, e)
 
+pub sum-end : (n m : ℕ) (f : ℕ → ℕ) {t : ℕ} → t ≡ sum m f → m ≤ n → n ≤ m → t ≡ sum n f
+sum-end n m f e l h = let q : n ≡ m = omega arith in rw q e
+
 pub sum-le : (n : ℕ) (f g : ℕ → ℕ) → ((k : ℕ) → 1 ≤ k → k ≤ n → f k ≤ g k) → sum n f ≤ sum n g
 unfolding sum
 sum-le zero f g h = omega arith
@@ -26,6 +29,15 @@ sum-le (suc n) f g h =
     let a = sum-le n f g (λ k l m. h k l (omega arith)) in
     let b = h (suc n) (omega arith) (omega arith) in
     omega arith
+
+-- and one of them is less
+pub sum-lt : (n : ℕ) (f g : ℕ → ℕ) → ((k : ℕ) → 1 ≤ k → k ≤ n → f k ≤ g k) → (k : ℕ) → 1 ≤ k → k ≤ n → f k < g k → sum n f < sum n g
+unfolding sum
+sum-lt zero f g h k l u s = absurd (omega arith)
+sum-lt (suc n) f g h k l u s =
+    up-to u
+    (λ q. let e : f (suc n) < g (suc n) = rw q at s in omega (arith, sum-le n f g (λ j lj uj. h j lj (omega arith))))
+    (λ un. omega (arith, sum-lt n f g (λ j lj uj. h j lj (omega arith)) k l un s, h (suc n) (omega arith) (omega arith)))
 
 pub sum-cong : (n : ℕ) (f g : ℕ → ℕ) → ((k : ℕ) → 1 ≤ k → k ≤ n → f k ≡ g k) → sum n f ≡ sum n g
 unfolding sum

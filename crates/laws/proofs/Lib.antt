@@ -1,1 +1,6 @@
 pub mod Give
+pub mod Gives
+pub mod Steps
+pub mod Shares
+pub mod PickUps
+pub mod Changes

@@ -6,11 +6,12 @@ use mathlib.Core.List.{List, [], _∷_}
 use lib.Dec.{leb, ltb, eqb}
 use lib.ListN.{getD}
 use Rattle.base.specs.Choice.{pick}
+use Rattle.base.specs.Over.{between}
 use Rattle.rules.specs.District.{District, segmentsOf, strategiesOf, yearsOf, distressesOf, pavementsOf, resourcesOf, greatestOf}
 use Rattle.rules.specs.declared.Field.{Field}
 use Rattle.rules.specs.declared.Slot.{Slot}
 
--- a number of w bytes, from lo to hi; where hi < lo the range runs from lo through the largest number to 0 and on to hi
+-- a number of w bytes, from lo to hi; where hi < lo it is a signed byte, whose negative numbers are the bytes from 128 on
 abbrev pub number : ℕ → ℕ → ℕ → Field
 number w lo hi = record { width = w; lo = lo; hi = hi }
 
@@ -18,9 +19,9 @@ number w lo hi = record { width = w; lo = lo; hi = hi }
 abbrev pub absent : Field
 absent = number 0 0 0
 
--- x is from lo to hi, the range that runs past the largest number included
+-- x is from lo to hi; of a signed byte it is from lo to 255, or from 0 to hi
 unfoldable pub ranged : ℕ → ℕ → ℕ → Bool
-ranged lo hi x = pick (leb lo hi) (leb lo x && leb x hi) (leb lo x || leb x hi)
+ranged lo hi x = pick (leb lo hi) (between lo hi x) (between lo 255 x || leb x hi)
 
 abbrev pub inside : Field → ℕ → Bool
 inside f x = ranged (f .lo) (f .hi) x

@@ -35,6 +35,8 @@ files =
     ∷ (set card 31 206)
     ∷ (set card 31 205)
     ∷ (set card 31 51)
+    -- a number that is no byte
+    ∷ (set card 31 300)
     -- bars of both strategies, and a bit past them
     ∷ (set card 65 3)
     ∷ (set card 65 4)
@@ -44,7 +46,7 @@ files =
     ∷ (card ++ 0 ∷ [])
     ∷ []
 
-pub loads : map loadRefusal files ≡ 0 ∷ 1 ∷ 1 ∷ 2 ∷ 2 ∷ 3 ∷ 1 ∷ 4 ∷ 4 ∷ 4 ∷ 0 ∷ 4 ∷ 4 ∷ 0 ∷ 4 ∷ 4 ∷ 5 ∷ []
+pub loads : map loadRefusal files ≡ 0 ∷ 1 ∷ 1 ∷ 2 ∷ 2 ∷ 3 ∷ 1 ∷ 4 ∷ 4 ∷ 4 ∷ 0 ∷ 4 ∷ 4 ∷ 4 ∷ 0 ∷ 4 ∷ 4 ∷ 5 ∷ []
 unfolding files card resultOf
 loads = refl
 

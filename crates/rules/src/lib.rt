@@ -3,8 +3,8 @@
 // A district: 2,620 numbers, each at its place (specs/District.antt).
 pub type District = [usize; 2620];
 
-// One number of a record: how many bytes it has, and its range. Where hi < lo the range runs from lo through the
-// largest number to 0 and on to hi: a signed byte.
+// One number of a record: how many bytes it has, and its range. Where hi < lo it is a signed byte, from lo to 255 and
+// from 0 to hi.
 pub struct Field {
     pub width: usize,
     pub lo: usize,

@@ -1,0 +1,84 @@
+-- `phase1::next_candidate` meets its contract. Assumes nothing.
+use Prim.Native.Nat.{_≤_, _-_}
+use mathlib.Core.Path.{sym, _∙_}
+use mathlib.Core.Logic.{⊎-elim}
+use native.Mathlib.Omega.{arith}
+use borrow.Author.Needs.{needs}
+use Rattle.base.proofs.Best.{Leads}
+use Rattle.tables.specs.Arrays.{benefitAt}
+use Rattle.phase1.proofs.Laws.{later, next-none, next-taken, next-kept, next-passed, next-end}
+use Rattle.phase1.proofs.next_candidate.Statement.{statement}
+use Rattle.phase1.proofs.next_candidate.Tie as tie
+use Rattle.phase1.proofs.next_candidate.Reads as reads
+use Rattle.phase1.proofs.next_candidate.Lts as lts
+use Rattle.phase1.proofs.comes_after.Reads as comes-after-reads
+use Rattle.tables.proofs.benefit.Reads as benefit-reads
+
+abbrev Inv-loop : tie.InvT-loop
+Inv-loop benefits i a next₀ gain₀ strategies old j₀ next gain j =
+    (j ≤ strategies) × Leads (later benefits i a) (benefitAt benefits i) j next gain
+
+abbrev μ-loop : tie.MeasureT-loop
+μ-loop benefits i a next₀ gain₀ strategies old j₀ next gain j = strategies - j
+
+benefit-requires : tie.Need-benefit-requires Inv-loop μ-loop
+benefit-requires c κs = search needs
+
+loop-holds : tie.Need-loop-holds Inv-loop μ-loop
+loop-holds c = (search needs, next-none _ _ _)
+
+add-benefit : tie.Need-add-benefit Inv-loop μ-loop
+add-benefit c = search needs
+
+benefit-requires-2 : tie.Need-benefit-requires-2 Inv-loop μ-loop
+benefit-requires-2 c κs = search needs
+
+add-comes-after : tie.Need-add-comes-after Inv-loop μ-loop
+add-comes-after c = search needs
+
+comes-after-requires : tie.Need-comes-after-requires Inv-loop μ-loop
+comes-after-requires c κs = search needs
+
+add-next : tie.Need-add-next Inv-loop μ-loop
+add-next c = search needs
+
+add-j : tie.Need-add-j Inv-loop μ-loop
+add-j c = search needs
+
+loop-less : tie.Need-loop-less Inv-loop μ-loop
+loop-less c = search needs
+
+loop-again : tie.Need-loop-again Inv-loop μ-loop
+loop-again c =
+    let led = c .before .before .before .loop .inv .1 in
+    let is = c .before .benefit2 .ensures in
+    let was = c .before .before .before .before .benefit .ensures in (
+      search needs,
+      ⊎-elim
+          (λ w. rw (w .3, w .4) (next-taken _ _ _ is _ was led (w .0 .taken) (sym (w .1 .ensures) ∙ w .2 .taken)))
+          (⊎-elim
+          (λ w. rw (w .3, w .4) (next-passed _ _ _ is _ was led (sym (w .1 .ensures) ∙ w .2 .left)))
+          (λ w. rw (w .1, w .2) (next-kept _ _ _ is _ was led (w .0 .left))))
+          (c .if1 .came),
+    )
+
+returns : tie.Need-returns Inv-loop μ-loop
+returns c = λ u l. next-end _ _ u l _ _ (c .before .loop .inv .1) (omega arith)
+
+pub next-candidate-spec : {M : Type 1} → statement M
+next-candidate-spec =
+    tie.close
+    (tie.spec
+    Inv-loop
+    μ-loop
+    benefit-requires
+    loop-holds
+    add-benefit
+    benefit-requires-2
+    add-comes-after
+    comes-after-requires
+    add-next
+    add-j
+    loop-less
+    loop-again
+    returns)

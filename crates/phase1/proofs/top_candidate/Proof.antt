@@ -1,0 +1,56 @@
+-- `phase1::top_candidate` meets its contract. Assumes nothing.
+use Prim.Native.Nat.{ℕ, _≤_, _-_}
+use mathlib.Core.Path.{_≡_, ap, _∙_}
+use mathlib.Core.Logic.{⊎-elim}
+use native.Mathlib.Omega.{arith}
+use borrow.Author.Needs.{needs}
+use Rattle.base.proofs.Best.{Leads}
+use Rattle.base.specs.Over.{best}
+use Rattle.rules.specs.Phases.{topCandidate, isCandidate, greater}
+use Rattle.tables.specs.Arrays.{benefitAt}
+use Rattle.phase1.proofs.Laws.{gainful, top-none, top-taken, top-kept, top-end}
+use Rattle.phase1.proofs.top_candidate.Statement.{statement}
+use Rattle.phase1.proofs.top_candidate.Tie as tie
+use Rattle.phase1.proofs.top_candidate.Reads as reads
+use Rattle.phase1.proofs.top_candidate.Lts as lts
+use Rattle.tables.proofs.benefit.Reads as benefit-reads
+
+abbrev Inv-loop : tie.InvT-loop
+Inv-loop benefits i top₀ gain₀ strategies j₀ top gain j = (j ≤ strategies) × Leads (gainful benefits i) (benefitAt benefits i) j top gain
+
+abbrev μ-loop : tie.MeasureT-loop
+μ-loop benefits i top₀ gain₀ strategies j₀ top gain j = strategies - j
+
+loop-holds : tie.Need-loop-holds Inv-loop μ-loop
+loop-holds c = (search needs, top-none _ _)
+
+add-benefit : tie.Need-add-benefit Inv-loop μ-loop
+add-benefit c = search needs
+
+benefit-requires : tie.Need-benefit-requires Inv-loop μ-loop
+benefit-requires c κs = search needs
+
+add-top : tie.Need-add-top Inv-loop μ-loop
+add-top c = search needs
+
+add-j : tie.Need-add-j Inv-loop μ-loop
+add-j c = search needs
+
+loop-less : tie.Need-loop-less Inv-loop μ-loop
+loop-less c = search needs
+
+loop-again : tie.Need-loop-again Inv-loop μ-loop
+loop-again c =
+    let led = c .before .before .before .loop .inv .1 in
+    let is = c .before .benefit .ensures in (
+      search needs,
+      ⊎-elim (λ w. rw (w .1, w .2) (top-taken _ _ _ is led (w .0 .taken))) (λ w. rw (w .1, w .2) (top-kept _ _ _ is led (w .0 .left))) (c .if1 .came),
+    )
+
+returns : tie.Need-returns Inv-loop μ-loop
+returns c = λ u l. top-end _ _ u l _ (c .before .loop .inv .1) (omega arith)
+
+pub top-candidate-spec : {M : Type 1} → statement M
+top-candidate-spec =
+    tie.close
+    (tie.spec Inv-loop μ-loop loop-holds add-benefit benefit-requires add-top add-j loop-less loop-again returns)

@@ -1,0 +1,55 @@
+-- What the steps of phase 1 read and keep: shares at the places of uses, surpluses, and the weakest segment so far.
+use Prim.Native.Nat.{ℕ, _+_, _-_, _*_, _≤_}
+use mathlib.Core.Path.{_≡_}
+use mathlib.Core.List.{List}
+use mathlib.Core.Bool.{Bool, _&&_, _||_}
+use lib.Dec.{eqb, ltb}
+use lib.ListN.{getD, length}
+use Rattle.rules.specs.Table.{Table}
+use Rattle.rules.specs.Phases.{strategyAt, share, surplus, ratio}
+use Rattle.laws.specs.Tables.{FitAlone, OfCandidates}
+use Rattle.tables.specs.declared.Size.{Size}
+use Rattle.tables.specs.Arrays.{entry, tables, Chosen, Ready}
+use Rattle.phase1.specs.declared.Weak.{Weak}
+
+-- what an array at the places of uses holds for resource r of strategy j on segment i
+abbrev pub shareAt : List ℕ → ℕ → ℕ → ℕ → ℕ
+shareAt s i j r = getD s (16 * entry i j + (r - 1)) 0
+
+-- an array of the table's shares
+pub record Shares (z : Size) (b u l s : List ℕ) : Type 0 where
+  pub places : length s ≡ 12_288
+  pub shares-are :
+      (i j r : ℕ) → 1 ≤ i → i ≤ z .segments → j ≤ z .strategies → 1 ≤ r → r ≤ z .resources
+      → shareAt s i j r ≡ share (tables z b u l) i j r
+
+-- what reduce takes, and keeps from step to step: a programme of candidates with its running sums
+pub record Held (z : Size) (b u l s c sums : List ℕ) : Type 0 where
+  pub ready : Ready z b u l c sums
+  pub fit : FitAlone (tables z b u l)
+  pub shares : Shares z b u l s
+  pub candidates : OfCandidates (tables z b u l) c
+
+-- of the shares alone: sizes, and bounds under which no sum wraps
+pub record Weighed (z : Size) (s c : List ℕ) : Type 0 where
+  pub segments : z .segments ≤ 64
+  pub strategies : z .strategies ≤ 11
+  pub resources : z .resources ≤ 16
+  pub places : length s ≡ 12_288
+  pub chosen : Chosen z c
+  pub small : (i r : ℕ) → 1 ≤ i → i ≤ z .segments → 1 ≤ r → r ≤ z .resources → shareAt s i (strategyAt c i) r ≤ 10_000
+
+-- an array of the surpluses, resource by resource
+pub record Surpluses (z : Size) (b u l c over : List ℕ) : Type 0 where
+  pub surplus-is : (r : ℕ) → 1 ≤ r → r ≤ z .resources → getD over (r - 1) 0 ≡ surplus (tables z b u l) c r
+
+pub record Bounded (z : Size) (over : List ℕ) : Type 0 where
+  pub small : (r : ℕ) → 1 ≤ r → r ≤ z .resources → getD over (r - 1) 0 ≤ 640_000
+
+-- segment i with its ratio; 0 is none
+abbrev pub weakAt : Table → List ℕ → ℕ → Weak
+weakAt t c i = record { segment = i; ratio = ratio t c i }
+
+-- by falling benefit, of value and old, and among equals by number, j comes after a
+unfoldable pub follows : ℕ → ℕ → ℕ → ℕ → Bool
+follows value old a j = ltb value old || (eqb value old && ltb a j)

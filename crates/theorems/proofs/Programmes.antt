@@ -1,0 +1,63 @@
+-- The three phases together, of a table whose candidates fit alone: each ends because there is no next, and keeps what the one before left.
+-- Assumes nothing.
+use Prim.Native.Nat.{ℕ, _+_, _-_, _*_, _≤_, _<_}
+use mathlib.Core.Path.{_≡_}
+use mathlib.Core.Bool.{true}
+use native.Mathlib.Omega.{arith}
+use Rattle.rules.specs.Table.{Table}
+use Rattle.rules.specs.Phases.{total, within}
+use Rattle.rules.specs.Plan.{reduced, filled, improved}
+use Rattle.rules.specs.Demands.{Finished}
+use Rattle.laws.specs.Tables.{FitAlone, OfCandidates}
+use Rattle.laws.proofs.Gives.{PastNothing, gives-candidates, candidates-numbers, gives-past}
+use Rattle.theorems.proofs.Phase1.{phase1-allowed, phase1-ends, phase1-within, phase1-few, phase1-past}
+use Rattle.theorems.proofs.Phase2.{phase2-gives, phase2-ends, phase2-within, phase2-few}
+use Rattle.theorems.proofs.Phase3.{phase3-gives, phase3-ends, phase3-within, phase3-few}
+
+module _ (t : Table) (fit : FitAlone t) where
+  reduced-candidates : OfCandidates t (reduced t .last)
+  unfolding reduced
+  reduced-candidates = phase1-allowed t fit
+
+  filled-candidates : OfCandidates t (filled t .last)
+  unfolding filled
+  filled-candidates = gives-candidates t (reduced t .last) (filled t .last) (phase2-gives t (reduced t .last)) reduced-candidates
+
+  -- each segment has a candidate or nothing,
+  pub improved-candidates : OfCandidates t (improved t .last)
+  unfolding improved
+  improved-candidates = gives-candidates t (filled t .last) (improved t .last) (phase3-gives t (filled t .last)) filled-candidates
+
+  -- every limit holds,
+  pub improved-within : within t (improved t .last) ≡ true
+  unfolding improved filled reduced
+  improved-within = phase3-within t (filled t .last) (phase2-within t (reduced t .last) (phase1-within t fit))
+
+  -- and each phase has come to its end
+  pub finished : Finished t
+  unfolding reduced filled improved
+  finished =
+      record {
+        steps = phase1-ends t fit;
+        pickups = phase2-ends t (reduced t .last) (omega (arith, reduced-candidates .places, fit .segments));
+        changes = phase3-ends t (filled t .last) fit (candidates-numbers t (filled t .last) filled-candidates);
+      }
+
+  pub few-steps : reduced t .count ≤ t .segments * t .strategies
+  unfolding reduced
+  few-steps = phase1-few t fit
+
+  pub few-pickups : filled t .count ≤ t .segments
+  unfolding filled
+  few-pickups = phase2-few t (reduced t .last) (omega (arith, reduced-candidates .places, fit .segments))
+
+  pub few-changes : improved t .count + total t (filled t .last) ≤ total t (improved t .last)
+  unfolding improved
+  few-changes = phase3-few t (filled t .last) fit (candidates-numbers t (filled t .last) filled-candidates)
+
+  -- places past the segments hold nothing, where the table has no benefit there
+  pub improved-past : ((i j : ℕ) → t .segments < i → t .benefit i j ≡ 0) → PastNothing t (improved t .last)
+  unfolding improved filled reduced
+  improved-past no-benefit =
+      gives-past t (filled t .last) (improved t .last) (phase3-gives t (filled t .last))
+      (gives-past t (reduced t .last) (filled t .last) (phase2-gives t (reduced t .last)) (phase1-past t fit no-benefit))

@@ -1,0 +1,55 @@
+-- Demand 1: of a unit in any state, a call that meets no condition for a refusal gives a full result, and any other gives the first condition's
+-- number and changes nothing. Assumes nothing.
+use Prim.Native.Nat.{ℕ, zero, suc}
+use mathlib.Core.List.{List, []}
+use mathlib.Core.Path.{_≡_, refl}
+use native.Mathlib.Omega.{arith}
+use lib.ListN.{length}
+use Rattle.rules.specs.District.{District}
+use Rattle.rules.specs.Answers.{answerOf, accepting}
+use Rattle.rules.specs.Calls.{answered, loadOf, barOf, unbarOf, setLimitOf, setRatingOf, exported, exportOf}
+use Rattle.rules.specs.Lists.{Call, Load, Bar, Unbar, SetLimit, SetRating, ExportTo, Show, refusalOf, Outcome, outcomeOf, lentTo, replied, written}
+use Rattle.rules.specs.Demands.{Settled}
+use Rattle.rules.specs.declared.Unit.{Unit}
+use Rattle.rules.specs.declared.Answer.the-variants.{Accepted, Refused}
+
+-- an answer where nothing refuses it
+accepted-answer : (n value : ℕ) → n ≡ 0 → answerOf n value ≡ Accepted value
+unfolding answerOf
+accepted-answer zero value e = refl
+accepted-answer (suc n) value e = absurd (omega arith)
+
+module _ (u : Unit) (bytes : List ℕ) where
+  -- the outcome of a refusal
+  abbrev refusedWith : ℕ → Outcome
+  refusedWith n = record { answer = Refused n; unit = u; bytes = bytes }
+
+  -- a call that changes the district
+  reply-accepted : (n : ℕ) (d : District) → n ≡ 0 → (value : ℕ) × (replied (answered u n d) bytes .answer ≡ Accepted value)
+  unfolding answered
+  reply-accepted n d e = (0, accepted-answer n 0 e)
+
+  reply-refused : (n : ℕ) (d : District) (m : ℕ) → n ≡ suc m → replied (answered u n d) bytes ≡ refusedWith (suc m)
+  unfolding answered answerOf accepting
+  reply-refused zero d m e = absurd (omega arith)
+  reply-refused (suc n) d m e = rw e
+
+  -- an export into these bytes
+  export-accepted : (n : ℕ) (file : List ℕ) → n ≡ 0 → (value : ℕ) × (written (exported n file bytes) u .answer ≡ Accepted value)
+  unfolding exported
+  export-accepted n file e = (length file, accepted-answer n (length file) e)
+
+  export-refused : (n : ℕ) (file : List ℕ) (m : ℕ) → n ≡ suc m → written (exported n file bytes) u ≡ refusedWith (suc m)
+  unfolding exported answerOf accepting
+  export-refused zero file m e = absurd (omega arith)
+  export-refused (suc n) file m e = rw e
+
+pub settled : (u : Unit) (c : Call) → Settled u c
+unfolding refusalOf outcomeOf lentTo loadOf barOf unbarOf setLimitOf setRatingOf exportOf
+settled u (Load file) = record { accepted = reply-accepted u file _ _; refused = reply-refused u file _ _ }
+settled u (Bar i j) = record { accepted = reply-accepted u [] _ _; refused = reply-refused u [] _ _ }
+settled u (Unbar i j) = record { accepted = reply-accepted u [] _ _; refused = reply-refused u [] _ _ }
+settled u (SetLimit r limit) = record { accepted = reply-accepted u [] _ _; refused = reply-refused u [] _ _ }
+settled u (SetRating i k rating) = record { accepted = reply-accepted u [] _ _; refused = reply-refused u [] _ _ }
+settled u (ExportTo buffer) = record { accepted = export-accepted u buffer _ _; refused = export-refused u buffer _ _ }
+settled u Show = record { accepted = λ e. (0, refl); refused = λ n e. absurd (omega arith) }

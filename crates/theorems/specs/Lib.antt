@@ -1,0 +1,2 @@
+pub mod Rivals
+pub mod Kept

@@ -1,0 +1,16 @@
+-- A programme as demand 3 takes it, a function from segments to strategies, over a table.
+use Prim.Native.Nat.{ℕ, _≤_}
+use Rattle.base.specs.Over.{sum}
+use Rattle.rules.specs.Table.{Table}
+
+module _ (t : Table) (c : ℕ → ℕ) where
+  abbrev pub totalBy : ℕ
+  totalBy = sum (t .segments) (λ i. t .benefit i (c i))
+
+  abbrev pub usedBy : ℕ → ℕ
+  usedBy r = sum (t .segments) (λ i. t .usage i (c i) r)
+
+  -- of strategies of the table, candidates or not, within the limits
+  pub record Rival : Type 0 where
+    pub numbers : (i : ℕ) → 1 ≤ i → i ≤ t .segments → c i ≤ t .strategies
+    pub within : (r : ℕ) → 1 ≤ r → r ≤ t .resources → usedBy r ≤ t .limit r
