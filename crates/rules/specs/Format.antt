@@ -19,9 +19,9 @@ number w lo hi = record { width = w; lo = lo; hi = hi }
 abbrev pub absent : Field
 absent = number 0 0 0
 
--- x is from lo to hi; of a signed byte it is from lo to 255, or from 0 to hi
+-- x is from lo to hi; a signed byte is from 0 to hi, or from lo to 255
 unfoldable pub ranged : ℕ → ℕ → ℕ → Bool
-ranged lo hi x = pick (leb lo hi) (between lo hi x) (between lo 255 x || leb x hi)
+ranged lo hi x = pick (leb lo hi) (between lo hi x) (leb x hi || between lo 255 x)
 
 abbrev pub inside : Field → ℕ → Bool
 inside f x = ranged (f .lo) (f .hi) x

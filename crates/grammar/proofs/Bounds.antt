@@ -1,0 +1,57 @@
+-- What being inside a field's range says of a number, and which range each field has. Assumes nothing.
+use Prim.Native.Nat.{ℕ, _≤_, _<_}
+use mathlib.Core.Path.{_≡_, sym, refl, _∙_}
+use mathlib.Core.Bool.{Bool, true, false, _&&_, _||_}
+use native.Mathlib.Omega.{arith}
+use mathlib.Core.Logic.{_⊎_, inl, inr}
+use lib.Dec.{leb, ltb, lit≤}
+use lib.IntN.{natAbs}
+use borrow.Author.Tests.{leb-true, le-leb, ltb-true, ltb-false, lt-ltb}
+use Rattle.base.specs.Choice.{pick}
+use Rattle.base.specs.Over.{between}
+use Rattle.base.proofs.Choice.{pick-yes, pick-all, and-yes, and-both, or-either}
+use Rattle.base.specs.Bytes.{signed}
+use Rattle.rules.specs.Format.{number, ranged, inside}
+use Rattle.rules.specs.declared.Field.{Field}
+
+-- a field whose range does not run past the largest number, and lies from a to b
+pub record Between (a b : ℕ) (f : Field) : Type 0 where
+  pub straight : leb (f .lo) (f .hi) ≡ true
+  pub least : a ≤ f .lo
+  pub most : f .hi ≤ b
+
+pub between-pick : (a b : ℕ) (t : Bool) (f g : Field) → Between a b f → Between a b g → Between a b (pick t f g)
+between-pick a b t f g h k = pick-all (Between a b) t f g h k
+
+pub between-number : (a b w lo hi : ℕ) → leb lo hi ≡ true → a ≤ lo → hi ≤ b → Between a b (number w lo hi)
+between-number a b w lo hi e h k = record { straight = e; least = h; most = k }
+
+pub ruleset betweens = (tt, refl, lit≤, between-pick, between-number)
+
+pub inside-between : (a b : ℕ) (f : Field) (x : ℕ) → Between a b f → inside f x ≡ true → (a ≤ x) × (x ≤ b)
+unfolding ranged
+inside-between a b f x k e =
+    let lo = f .lo in
+    let hi = f .hi in
+    let both = and-both (leb lo x) (leb x hi) (pick-yes (leb lo hi) (leb lo x && leb x hi) (leb lo x && leb x hi) (leb x hi || between lo 255 x) (k .straight) refl ∙ e) in
+    let l = leb-true lo x (both .0) in
+    let h = leb-true x hi (both .1) in
+    (omega (arith, k .least), omega (arith, k .most))
+
+pub inside-number : (w lo hi x : ℕ) → lo ≤ x → x ≤ hi → inside (number w lo hi) x ≡ true
+unfolding ranged
+inside-number w lo hi x a b =
+    sym (pick-yes (leb lo hi) true (leb lo x && leb x hi) (leb x hi || between lo 255 x) (le-leb lo hi (omega arith)) (and-yes (leb lo x) (leb x hi) true (le-leb lo x a) (sym (le-leb x hi b))))
+
+-- what a number inside the range of a gain stands for
+pub gain-most : (x : ℕ) → inside (number 1 206 50) x ≡ true → natAbs (signed x) ≤ 50
+unfolding ranged
+gain-most x e = go (or-either (leb x 50) (between 206 255 x) e) (ltb x 128) refl
+  where
+    go : (leb x 50 ≡ true) ⊎ (between 206 255 x ≡ true) → (t : Bool) → ltb x 128 ≡ t → natAbs (signed x) ≤ 50
+    go (inr l) true q = absurd (let a = leb-true 206 x (and-both _ (leb x 255) l .0) in let b = ltb-true x 128 q in omega arith)
+    go (inl l) true q = rw q (leb-true x 50 l)
+    go (inr l) false q =
+        let both = and-both (leb 206 x) (leb x 255) l in
+        rw (q, lt-ltb x 256 (omega (arith, leb-true x 255 (both .1)))) (omega (arith, leb-true 206 x (both .0)))
+    go (inl l) false q = absurd (let a = leb-true x 50 l in let b = ltb-false x 128 q in omega arith)

@@ -1,0 +1,6 @@
+pub mod Slots
+pub mod InRange
+pub mod Bounds
+pub mod InRanges
+pub mod Edits
+pub mod Fresh
