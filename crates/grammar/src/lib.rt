@@ -85,7 +85,7 @@ fn count_field(n: usize) -> Field
     number_of(1, 0, 0)
 }
 
-fn limit_field(d: &[usize; 2620], n: usize) -> Field
+pub fn limit_field(d: &[usize; 2620], n: usize) -> Field
     ensures { λ r. ⌜ r ≡ limitField (now (d .entry)) n ⌝ }
 {
     number_if(n < d[5], 4, 0, 999_999_999)

@@ -1,0 +1,151 @@
+// The edits of a district: what refuses each, and the district with the one value altered. Every function is total, for
+// any numbers and any value of the type, so that no call relies on a check made before it.
+ghost use mathlib.Core.Path.{_≡_};
+ghost use Prim.Native.Nat.{_-_, _<_, _^_};
+ghost use lib.ListN.{getD, set};
+ghost use Rattle.base.specs.Bits.{setBit, clearBit};
+ghost use Rattle.rules.specs.Calls.{barRefusal, limitRefusal, ratingRefusal};
+ghost use Rattle.rules.specs.District.{greatestOf, barsOf, withLimit, withBar, withoutBar, withRating, freshDistrict};
+use rules::District;
+
+// The place of the `n`-th of a row, where the first is 1.
+fn place(n: usize) -> usize
+    ensures { λ r. ⌜ r ≡ n - 1 ⌝ }
+{
+    if n < 1 { 0 } else { n - 1 }
+}
+
+// The number at a place, 0 past the last.
+fn value_at(d: District, at: usize) -> usize
+    ensures { λ r. ⌜ r ≡ getD d at 0 ⌝ }
+{
+    if at < 2620 { d[at] } else { 0 }
+}
+
+// The district with another number at a place; there is none past the last.
+fn with_value(d: District, at: usize, value: usize) -> District
+    ensures { λ r. ⌜ r ≡ set d at value ⌝ }
+{
+    if 2620 <= at {
+        return d;
+    }
+    let mut e = d;
+    e[at] = value;
+    e
+}
+
+// ---- limits
+
+pub fn limit_refusal(d: District, resource: usize, limit: usize) -> usize
+    ensures { λ r. ⌜ r ≡ limitRefusal d resource limit ⌝ }
+{
+    let field = grammar::limit_field(&d, place(resource));
+    let range = answers::refuse_unless(grammar::is_inside(field, limit), 8, 0);
+    answers::one_to(resource, d[5], 7, range)
+}
+
+pub fn with_limit(d: District, resource: usize, limit: usize) -> District
+    ensures { λ r. ⌜ r ≡ withLimit d resource limit ⌝ }
+{
+    if 2620 < resource {
+        return d;
+    }
+    with_value(d, 6 + place(resource), limit)
+}
+
+// ---- ratings
+
+// The greatest rating of a distress.
+fn greatest_of(d: District, distress: usize) -> usize
+    ensures { λ r. ⌜ r ≡ greatestOf d distress ⌝ }
+{
+    if 2620 < distress {
+        return 0;
+    }
+    value_at(d, 22 + place(distress))
+}
+
+pub fn rating_refusal(d: District, segment: usize, distress: usize, rating: usize) -> usize
+    ensures { λ r. ⌜ r ≡ ratingRefusal d segment distress rating ⌝ }
+{
+    let most = greatest_of(d, distress);
+    let range = answers::refuse_unless(rating <= most, 8, 0);
+    let number = answers::one_to(distress, d[3], 7, range);
+    answers::one_to(segment, d[0], 6, number)
+}
+
+pub fn with_rating(d: District, segment: usize, distress: usize, rating: usize) -> District
+    ensures { λ r. ⌜ r ≡ withRating d segment distress rating ⌝ }
+{
+    if 64 < segment {
+        return d;
+    }
+    if 2620 < distress {
+        return d;
+    }
+    with_value(d, 1660 + 15 * place(segment) + 6 + place(distress), rating)
+}
+
+// ---- bars
+
+pub fn bar_refusal(d: District, segment: usize, strategy: usize) -> usize
+    ensures { λ r. ⌜ r ≡ barRefusal d segment strategy ⌝ }
+{
+    let number = answers::one_to(strategy, d[1], 7, 0);
+    answers::one_to(segment, d[0], 6, number)
+}
+
+// The mask with bit `n` set.
+fn set_bit(mask: usize, n: usize) -> usize
+    ensures { λ r. ⌜ r ≡ setBit mask n ⌝ }
+{
+    if n < 16 {
+        return mask | (1 << n);
+    }
+    mask
+}
+
+// The mask with bit `n` cleared.
+fn clear_bit(mask: usize, n: usize) -> usize
+    ensures { λ r. ⌜ r ≡ clearBit mask n ⌝ }
+{
+    if n < 16 {
+        return mask & !(1 << n);
+    }
+    mask
+}
+
+pub fn with_bar(d: District, segment: usize, strategy: usize) -> District
+    ensures { λ r. ⌜ r ≡ withBar d segment strategy ⌝ }
+{
+    if 64 < segment {
+        return d;
+    }
+    let at = 1660 + 15 * place(segment) + 5;
+    with_value(d, at, set_bit(value_at(d, at), place(strategy)))
+}
+
+pub fn without_bar(d: District, segment: usize, strategy: usize) -> District
+    ensures { λ r. ⌜ r ≡ withoutBar d segment strategy ⌝ }
+{
+    if 64 < segment {
+        return d;
+    }
+    let at = 1660 + 15 * place(segment) + 5;
+    with_value(d, at, clear_bit(value_at(d, at), place(strategy)))
+}
+
+// ---- the fresh unit's district
+
+pub fn fresh_district() -> District
+    ensures { λ r. ⌜ r ≡ freshDistrict ⌝ }
+{
+    let mut d = [0usize; 2620];
+    d[1] = 1;
+    d[2] = 1;
+    d[3] = 1;
+    d[4] = 1;
+    d[5] = 1;
+    d[22] = 1;
+    d
+}
