@@ -6,11 +6,12 @@ use mathlib.Core.Bool.{Bool, true, false, cond}
 use native.Mathlib.Nat.{le-refl, lt-of-le-of-lt, mul-le-mul, div-le-self, le-of-suc-le-suc, suc-mul, mul-add}
 use native.Mathlib.Numerals.{add-one}
 use native.Mathlib.Omega.{arith}
-use lib.Dec.{T, ltb, ltb→lt}
+use borrow.Author.Tests.{le-ltb}
+use lib.Dec.{T, ltb, ltb→lt, lit<}
 use lib.IntN.{ℤ, pos, negsuc, negℤ, natAbs, subℕ, _+ℤ_, _-ℤ_, _*ℤ_, negℤ-+ℤ, *ℤ-zero}
 use lib.Signed.{mag, quotZ, leZ}
 use mir.Syntax.{Width}
-use mir.Val.{SFits, hbits, toZ, ofZ}
+use mir.Val.{Fits, SFits, bits, hbits, toZ, ofZ}
 use mir.ValLaws.{toZ-ofZ}
 use Rattle.base.specs.Choice.{pick}
 use Rattle.base.specs.Over.{sum, sumZ, minZ}
@@ -57,7 +58,24 @@ pub abs-min : (x y : ℤ) {n : ℕ} → natAbs x ≤ n → natAbs y ≤ n → na
 unfolding minZ
 abs-min x y p q = pick-abs (leZ x y) x y p q
 
--- ---- the machine's signed numbers
+pub min-first : (x y : ℤ) → leZ x y ≡ true → minZ x y ≡ x
+unfolding minZ
+min-first x y e = rw e
+
+pub min-second : (x y : ℤ) → leZ x y ≡ false → minZ x y ≡ y
+unfolding minZ
+min-second x y e = rw e
+
+-- a difference that is not below 0
+pub pos-minus : (a b : ℕ) → b ≤ a → pos a -ℤ pos b ≡ pos (a - b)
+pos-minus a zero h = let e : a + 0 ≡ a - 0 = omega arith in ap pos e
+pos-minus a (suc b) h = rw (le-ltb a (suc b) h)
+
+-- ---- the machine's numbers
+
+-- a product fits where the product of the bounds does
+pub product-fits : {w : Width} (a b m n : ℕ) → a ≤ m → b ≤ n → T (ltb (m * n) (2 ^ bits w)) → Fits w (a * b)
+product-fits a b m n p q t = record { fits = lt-of-le-of-lt (mul-le-mul p q) (lit< t) }
 
 mag-le-abs : (z : ℤ) → mag z ≤ natAbs z
 mag-le-abs (pos n) = le-refl n
@@ -102,10 +120,12 @@ sumZ-abs (suc n) m f h =
     let a = sumZ-abs n m f (λ k l p. h k l (omega arith)) in
     rw suc-mul (omega (arith, h (suc n) (omega arith) (omega arith), abs-add (sumZ n f) (f (suc n))))
 
--- one more term keeps the sum in range, where no term is beyond m
+-- a sum is in range, and so it is with one more term, where no term is beyond m
+pub sumZ-fits : (w : Width) (n m : ℕ) (f : ℕ → ℤ) → ((k : ℕ) → 1 ≤ k → k ≤ n → natAbs (f k) ≤ m) → n * m < 2 ^ hbits w → SFits w (sumZ n f)
+sumZ-fits w n m f h p = sfits-abs (lt-of-le-of-lt (sumZ-abs n m f h) p)
+
 pub next-fits : (w : Width) (n m : ℕ) (f : ℕ → ℤ) → ((k : ℕ) → 1 ≤ k → k ≤ n + 1 → natAbs (f k) ≤ m) → (n + 1) * m < 2 ^ hbits w → SFits w (sumZ n f +ℤ f (n + 1))
-next-fits w n m f h p =
-    sfits-abs (lt-of-le-of-lt (rw (sumZ-next n f refl) (sumZ-abs (n + 1) m f h)) p)
+next-fits w n m f h p = rw (sumZ-next n f refl) (sumZ-fits w (n + 1) m f h p)
 
 distribute : (g : ℤ) (a b : ℕ) → g *ℤ pos a +ℤ g *ℤ pos b ≡ g *ℤ pos (a + b)
 distribute (pos m) a b = ap pos (sym (mul-add m a b))

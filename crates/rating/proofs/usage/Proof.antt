@@ -1,0 +1,43 @@
+-- `rating::usage` meets its contract: at most 1,999,800 × 999,999.
+use mathlib.Core.Path.{_≡_, _∙_, refl, ap₂}
+use Prim.Native.Nat.{ℕ, suc, _*_, _≤_}
+use Rattle.base.proofs.Integers.{product-fits}
+use Rattle.rules.specs.District.{District, requirementOf}
+use Rattle.rules.specs.Rating.{area, usage}
+use Rattle.rating.proofs.Bounds.{area-le}
+use borrow.Author.Needs.{needs}
+use Rattle.rating.proofs.usage.Statement.{statement}
+use Rattle.rating.proofs.usage.Tie as tie
+use Rattle.rating.proofs.usage.Reads as reads
+use Rattle.rating.proofs.usage.Lts as lts
+use Rattle.rating.proofs.area.Reads as area-reads
+use Rattle.rating.proofs.requirement_at.Reads as requirement-at-reads
+
+-- of a strategy, which is not nothing
+of-strategy : (d : District) (i j r : ℕ) → 1 ≤ j → area d i * requirementOf d j r ≡ usage d i j r
+unfolding usage
+of-strategy d i (suc j) r h = refl
+
+-- src/lib.rt:162:5
+area-requires : tie.Need-area-requires
+area-requires c κs = search needs
+
+-- src/lib.rt:162:19
+requirement-at-requires : tie.Need-requirement-at-requires
+requirement-at-requires c κs = search needs
+
+-- src/lib.rt:162:5
+mul-result : tie.Need-mul-result
+unfolding requirementOf
+mul-result c =
+    let s = c .before .before in
+    let p = s .pre in
+    product-fits _ _ 1_999_800 999_999 (rw (c .before .area .ensures) (area-le _ (p .0) _ (p .1))) (rw (c .requirement-at .ensures) (p .0 .requirement _ _ (p .2 .0) (p .2 .1) (p .3 .0) (p .3 .1))) tt
+
+-- src/lib.rt:158:1
+returns : tie.Need-returns
+unfolding requirementOf
+returns c = ap₂ _*_ (c .before .area .ensures) (c .requirement-at .ensures) ∙ of-strategy _ _ _ _ (c .before .before .pre .2 .0)
+
+pub usage-spec : {M : Type 1} → statement M
+usage-spec = tie.close (tie.spec area-requires requirement-at-requires mul-result returns)
