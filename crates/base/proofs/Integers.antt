@@ -6,10 +6,10 @@ use mathlib.Core.Bool.{Bool, true, false, cond}
 use native.Mathlib.Nat.{le-refl, lt-of-le-of-lt, mul-le-mul, div-le-self, le-of-suc-le-suc, suc-mul, mul-add}
 use native.Mathlib.Numerals.{add-one}
 use native.Mathlib.Omega.{arith}
-use borrow.Author.Tests.{le-ltb}
+use borrow.Author.Tests.{le-ltb, lt-ltb, leb-true, leb-false}
 use lib.Dec.{T, ltb, ltb→lt, lit<}
 use lib.IntN.{ℤ, pos, negsuc, negℤ, natAbs, subℕ, _+ℤ_, _-ℤ_, _*ℤ_, negℤ-+ℤ, *ℤ-zero}
-use lib.Signed.{mag, quotZ, leZ}
+use lib.Signed.{mag, quotZ, leZ, ltZ, nonNeg}
 use mir.Syntax.{Width}
 use mir.Val.{Fits, SFits, bits, hbits, toZ, ofZ}
 use mir.ValLaws.{toZ-ofZ}
@@ -70,6 +70,15 @@ min-second x y e = rw e
 pub pos-minus : (a b : ℕ) → b ≤ a → pos a -ℤ pos b ≡ pos (a - b)
 pos-minus a zero h = let e : a + 0 ≡ a - 0 = omega arith in ap pos e
 pos-minus a (suc b) h = rw (le-ltb a (suc b) h)
+
+-- z <= 0, tested
+pub not-above-zero : (z : ℤ) → leZ z (pos 0) ≡ true → ltZ (pos 0) z ≡ false
+not-above-zero (pos n) e = le-ltb 0 n (leb-true n 0 e)
+not-above-zero (negsuc n) e = refl
+
+pub above-zero : (z : ℤ) → leZ z (pos 0) ≡ false → (ltZ (pos 0) z ≡ true) × T (nonNeg z)
+above-zero (pos n) e = (lt-ltb 0 n (leb-false n 0 e), tt)
+above-zero (negsuc n) e = absurd (let z : _≡_ {A = ℕ} 0 1 = cc in omega arith)
 
 -- ---- the machine's numbers
 

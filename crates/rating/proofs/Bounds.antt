@@ -14,9 +14,9 @@ use Rattle.base.specs.Choice.{pick}
 use Rattle.base.specs.Over.{sumZ}
 use Rattle.base.proofs.Integers.{abs-add, abs-min, abs-mul-le, abs-quot, pos-minus, sumZ-abs}
 use Rattle.grammar.specs.Ranges.{Ranges}
-use Rattle.rules.specs.District.{District, valueAt, strategyPlace, distressesOf, yearsOf, limitOf, greatestOf, requirementOf, gainOf, lengthOf, widthOf, ratingOf}
+use Rattle.rules.specs.District.{District, valueAt, strategyPlace, segmentPlace, distressesOf, yearsOf, limitOf, greatestOf, requirementOf, gainOf, lengthOf, widthOf, pavementOf, ratingOf}
 use Rattle.rules.specs.Rating.{gain, survival, improvement, improvements, rating, effect, area, benefit, usage, scaledLimit}
-use Rattle.rating.specs.Numbers.{Segment, Strategy, Distress, Resource}
+use Rattle.rating.specs.Numbers.{Segment, SegmentOf, Pavement, Strategy, Distress, Resource}
 
 -- a byte whose signed number is small
 byte-small : (b : ℕ) → natAbs (signed b) ≤ 50 → b ≤ 306
@@ -36,6 +36,10 @@ module _ (d : District) (ok : Ranges d) where
   pub byte-le : (j k : ℕ) → Strategy j → Distress k → valueAt d (strategyPlace j + 16 + (k - 1)) ≤ 306
   unfolding gainOf
   byte-le j k p q = byte-small _ (ok .gain j k (p .0) (p .1) (q .0) (q .1))
+
+  pub pavement-in : (i : ℕ) → SegmentOf d i → Pavement (valueAt d (segmentPlace i))
+  unfolding pavementOf
+  pavement-in i p = let n = ok .segments in (ok .some-type i (p .0) (p .1), ok .pavement i (p .0) (omega arith))
 
   pub gain-abs : (i j k : ℕ) → Segment i → Strategy j → Distress k → natAbs (gain d i j k) ≤ 50
   unfolding gain

@@ -1,8 +1,13 @@
 -- The numbers that a function may be handed.
 use Prim.Native.Nat.{ℕ, _≤_}
+use Rattle.rules.specs.District.{District, segmentsOf}
 
 abbrev pub Segment : ℕ → Type 0
 Segment i = (1 ≤ i) × (i ≤ 64)
+
+-- one that the district has
+abbrev pub SegmentOf : District → ℕ → Type 0
+SegmentOf d i = (1 ≤ i) × (i ≤ segmentsOf d)
 
 abbrev pub Strategy : ℕ → Type 0
 Strategy j = (1 ≤ j) × (j ≤ 11)

@@ -1,12 +1,14 @@
 // Document 01, "Rating and benefit", of one segment and one strategy of a district. The district is lent: 2,620 numbers at fixed places.
 ghost use mathlib.Core.Path.{_≡_};
 ghost use Prim.Native.Nat.{_+_, _-_, _*_, _≤_};
-ghost use lib.IntN.{pos, _*ℤ_};
-ghost use Rattle.base.specs.Over.{sum};
+ghost use lib.IntN.{natAbs};
+ghost use Rattle.base.specs.Choice.{pick};
+ghost use Rattle.base.specs.Over.{sum, sumZ};
 ghost use Rattle.grammar.specs.Ranges.{Ranges};
-ghost use Rattle.rules.specs.District.{valueAt, limitPlace, greatestPlace, strategyPlace, pavementPlace, segmentPlace, barsPlace, ratingPlace, gainOf, yearsOf};
-ghost use Rattle.rules.specs.Rating.{gain, survival, improvements, effect, area, benefit, usage, scaledLimit};
-ghost use Rattle.rating.specs.Numbers.{Segment, Strategy, Distress, Year, Pavement, Resource};
+ghost use Rattle.rules.specs.District.{valueAt, limitPlace, greatestPlace, strategyPlace, pavementPlace, segmentPlace, barsPlace, ratingPlace, gainOf, yearsOf, distressesOf, barredIn};
+ghost use Rattle.rules.specs.Rating.{gain, survival, improvements, rating, effect, area, benefit, usage, scaledLimit, reaches, minimumReached, yearsReached, minimaReached, firstRating, overallReached, permitted, fitsAlone, candidate};
+ghost use Rattle.rules.specs.Table.{candidateBenefit};
+ghost use Rattle.rating.specs.Numbers.{Segment, SegmentOf, Strategy, Distress, Year, Pavement, Resource};
 
 // ---- what stands at its places
 
@@ -60,7 +62,14 @@ fn minimum_at(d: &[usize; 2620], y: usize, k: usize, t: usize) -> usize
     d[1296 + 91 * (y - 1) + 1 + 10 * (k - 1) + (t - 1)]
 }
 
-// what a segment's first places hold: 0 pavement type, 1 and 2 its indexes, 3 length, 4 width, 5 bars
+fn pavement_at(d: &[usize; 2620], i: usize) -> usize
+    requires { ⌜ Segment i ⌝ }
+    ensures { λ v. ⌜ v ≡ valueAt (now (d .entry)) (segmentPlace i) ⌝ }
+{
+    d[1660 + 15 * (i - 1)]
+}
+
+// of a segment: 1 traffic index, 2 environment index, 3 length, 4 width, 5 bars
 fn segment_at(d: &[usize; 2620], i: usize, n: usize) -> usize
     requires { ⌜ Segment i × (n ≤ 5) ⌝ }
     ensures { λ v. ⌜ v ≡ valueAt (now (d .entry)) (segmentPlace i + n) ⌝ }
@@ -176,4 +185,162 @@ pub fn scaled_limit(d: &[usize; 2620], r: usize) -> u64
     ensures { λ l. ⌜ l ≡ scaledLimit (now (d .entry)) r ⌝ }
 {
     (limit_at(d, r) as u64) * 100000
+}
+
+// ---- permitted
+
+// Bit j − 1 of the segment's bars, by shift and mask.
+pub fn barred(d: &[usize; 2620], i: usize, j: usize) -> bool
+    requires { ⌜ Segment i × Strategy j ⌝ }
+    ensures { λ b. ⌜ b ≡ barredIn (now (d .entry)) i j ⌝ }
+{
+    (segment_at(d, i, 5) >> (j - 1)) & 1 == 1
+}
+
+// Whether a rating in millionths reaches what is required in whole points.
+fn reaches(z: i64, required: usize) -> bool
+    requires { ⌜ required ≤ 450 ⌝ }
+    ensures { λ b. ⌜ b ≡ reaches z required ⌝ }
+{
+    if required == 0 {
+        return true;
+    }
+    (1000000 * required) as i64 <= z
+}
+
+// The rating in year t, in millionths, g being the gain.
+fn rating(d: &[usize; 2620], i: usize, j: usize, k: usize, t: usize, g: i64) -> i64
+    requires { ⌜ Ranges (now d) × Segment i × Strategy j × Distress k × Year t × (g ≡ gain (now d) i j k) ⌝ }
+    ensures { λ z. ⌜ z ≡ rating (now (d .entry)) i j k t ⌝ }
+{
+    (1000000 * rating_at(d, i, k)) as i64 + g * (survival(d, i, j, k, t) as i64)
+}
+
+fn minimum_reached(d: &[usize; 2620], i: usize, j: usize, k: usize, t: usize, g: i64) -> bool
+    requires { ⌜ Ranges (now d) × SegmentOf (now d) i × Strategy j × Distress k × Year t × (g ≡ gain (now d) i j k) ⌝ }
+    ensures { λ b. ⌜ b ≡ minimumReached (now (d .entry)) i j k t ⌝ }
+{
+    let required = minimum_at(d, pavement_at(d, i), k, t);
+    reaches(rating(d, i, j, k, t, g), required)
+}
+
+fn years_reached(d: &[usize; 2620], i: usize, j: usize, k: usize) -> bool
+    requires { ⌜ Ranges (now d) × SegmentOf (now d) i × Strategy j × Distress k ⌝ }
+    ensures { λ b. ⌜ b ≡ yearsReached (now (d .entry)) i j k ⌝ }
+{
+    let years = d[2];
+    let g = gain(d, i, j, k);
+    let mut t = 0;
+    while t < years {
+        if !minimum_reached(d, i, j, k, t + 1, g) {
+            return false;
+        }
+        t += 1;
+    }
+    true
+}
+
+pub fn minima_reached(d: &[usize; 2620], i: usize, j: usize) -> bool
+    requires { ⌜ Ranges (now d) × SegmentOf (now d) i × Strategy j ⌝ }
+    ensures { λ b. ⌜ b ≡ minimaReached (now (d .entry)) i j ⌝ }
+{
+    let distresses = d[3];
+    let mut k = 0;
+    while k < distresses {
+        if !years_reached(d, i, j, k + 1) {
+            return false;
+        }
+        k += 1;
+    }
+    true
+}
+
+// The ratings of year 1, summed.
+fn first_ratings(d: &[usize; 2620], i: usize, j: usize) -> i64
+    requires { ⌜ Ranges (now d) × Segment i × Strategy j ⌝ }
+    ensures { λ z. ⌜ z ≡ sumZ (distressesOf (now (d .entry))) (firstRating (now (d .entry)) i j) ⌝ }
+{
+    let distresses = d[3];
+    let mut sum: i64 = 0;
+    let mut k = 0;
+    while k < distresses {
+        let g = gain(d, i, j, k + 1);
+        sum = sum + rating(d, i, j, k + 1, 1, g);
+        k += 1;
+    }
+    sum
+}
+
+pub fn overall_reached(d: &[usize; 2620], i: usize, j: usize) -> bool
+    requires { ⌜ Ranges (now d) × SegmentOf (now d) i × Strategy j ⌝ }
+    ensures { λ b. ⌜ b ≡ overallReached (now (d .entry)) i j ⌝ }
+{
+    let required = overall_at(d, pavement_at(d, i));
+    reaches(first_ratings(d, i, j), required)
+}
+
+pub fn permitted(d: &[usize; 2620], i: usize, j: usize) -> bool
+    requires { ⌜ Ranges (now d) × SegmentOf (now d) i × Strategy j ⌝ }
+    ensures { λ b. ⌜ b ≡ permitted (now (d .entry)) i j ⌝ }
+{
+    if barred(d, i, j) {
+        return false;
+    }
+    if !minima_reached(d, i, j) {
+        return false;
+    }
+    overall_reached(d, i, j)
+}
+
+// ---- candidates
+
+// Whether strategy j on segment i stays within each limit by itself.
+pub fn fits_alone(d: &[usize; 2620], i: usize, j: usize) -> bool
+    requires { ⌜ Ranges (now d) × Segment i × Strategy j ⌝ }
+    ensures { λ b. ⌜ b ≡ fitsAlone (now (d .entry)) i j ⌝ }
+{
+    let resources = d[5];
+    let mut r = 0;
+    while r < resources {
+        if scaled_limit(d, r + 1) < usage(d, i, j, r + 1) {
+            return false;
+        }
+        r += 1;
+    }
+    true
+}
+
+// The benefit of a candidate; 0 for any other strategy.
+fn worth(d: &[usize; 2620], i: usize, j: usize) -> u64
+    requires { ⌜ Ranges (now d) × SegmentOf (now d) i × Strategy j ⌝ }
+    ensures { λ b. ⌜ b ≡ pick (candidate (now (d .entry)) i j) (natAbs (benefit (now (d .entry)) i j)) 0 ⌝ }
+{
+    if !permitted(d, i, j) {
+        return 0;
+    }
+    let b = benefit(d, i, j);
+    if b <= 0 {
+        return 0;
+    }
+    if !fits_alone(d, i, j) {
+        return 0;
+    }
+    b as u64
+}
+
+// The same of any segment and strategy: 0 for what the district does not have.
+pub fn candidate_benefit(d: &[usize; 2620], i: usize, j: usize) -> u64
+    requires { ⌜ Ranges (now d) × Segment i ⌝ }
+    ensures { λ b. ⌜ b ≡ candidateBenefit (now (d .entry)) i j ⌝ }
+{
+    if d[0] < i {
+        return 0;
+    }
+    if j < 1 {
+        return 0;
+    }
+    if d[1] < j {
+        return 0;
+    }
+    worth(d, i, j)
 }

@@ -2,7 +2,7 @@
 use mathlib.Core.Path.{_≡_, refl, _∙_, ap, ap₂}
 use Prim.Native.Nat.{ℕ, suc, _*_, _≤_}
 use native.Mathlib.Omega.{arith}
-use lib.IntN.{ℤ, pos, natAbs, _*ℤ_}
+use lib.IntN.{pos, _*ℤ_}
 use mir.Syntax.{w64}
 use mir.Val.{toZ, ofZ}
 use mir.Facts.{toZ-ofZ, toZ-pos}
@@ -13,12 +13,7 @@ use Rattle.rating.proofs.Bounds.{area-le, benefit-abs}
 use borrow.Author.Needs.{needs}
 use Rattle.rating.proofs.benefit.Statement.{statement}
 use Rattle.rating.proofs.benefit.Tie as tie
-use Rattle.rating.proofs.benefit.Reads as reads
-use Rattle.rating.proofs.benefit.Lts as lts
-use Rattle.rating.proofs.area.Reads as area-reads
-use Rattle.rating.proofs.effect.Reads as effect-reads
 
--- src/lib.rt:162:6
 area-requires : tie.Need-area-requires
 area-requires c κs = search needs
 
@@ -37,21 +32,17 @@ product c =
     ap₂ _*ℤ_ (toZ-pos w64 (omega (arith, small (c .before))) ∙ ap pos (c .before .area .ensures)) (told w64 (c .effect .ok) (c .effect .ensures))
     ∙ of-strategy _ _ _ (c .before .before .pre .2 .0)
 
--- src/lib.rt:162:6
 cast-result : tie.Need-cast-result
 cast-result c = sfits-abs (omega (arith, small c))
 
--- src/lib.rt:162:27
 effect-requires : tie.Need-effect-requires
 effect-requires c κs = search needs
 
--- src/lib.rt:162:5
 mul-result : tie.Need-mul-result
 mul-result c =
     let s = c .before .before in
     rw (product c) (sfits-abs (omega (arith, benefit-abs _ (s .pre .0) (s .args .i) (s .args .j) (s .pre .1) (s .pre .2))))
 
--- src/lib.rt:158:1
 returns : tie.Need-returns
 returns c = toZ-ofZ (mul-result c) ∙ product c
 

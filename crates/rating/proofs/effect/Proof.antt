@@ -1,22 +1,19 @@
 -- `rating::effect` meets its contract: the loop adds up the improvements, and only their sum is divided.
-use mathlib.Core.Path.{_≡_, sym, _∙_, ap, ap₂}
-use Prim.Native.Nat.{ℕ, _+_, _-_, _*_, _≤_, _<_}
+use mathlib.Core.Path.{_≡_, _∙_, ap}
+use Prim.Native.Nat.{_+_, _-_, _≤_, _<_}
 use native.Mathlib.Omega.{arith}
 use lib.Dec.{lit<}
-use lib.IntN.{ℤ, pos, natAbs, _+ℤ_}
+use lib.IntN.{pos, _+ℤ_}
 use lib.Signed.{quotZ}
 use mir.Syntax.{w64}
-use mir.Val.{toZ, ofZ}
+use mir.Val.{toZ}
 use mir.Facts.{toZ-ofZ}
 use Rattle.base.specs.Over.{sumZ}
-use Rattle.base.proofs.Integers.{told, sfits-abs, sfits-quot, sumZ-none, sumZ-next, sumZ-end, sumZ-fits, next-fits}
+use Rattle.base.proofs.Integers.{told, sfits-quot, sumZ-none, sumZ-next, sumZ-end, sumZ-fits, next-fits}
 use Rattle.rules.specs.Rating.{improvements, effect}
 use Rattle.rating.proofs.Bounds.{improvements-abs}
 use Rattle.rating.proofs.effect.Statement.{statement}
 use Rattle.rating.proofs.effect.Tie as tie
-use Rattle.rating.proofs.effect.Reads as reads
-use Rattle.rating.proofs.effect.Lts as lts
-use Rattle.rating.proofs.improvements.Reads as improvements-reads
 
 abbrev Inv-loop : tie.InvT-loop
 Inv-loop d i j distresses sum₀ k₀ sum k = (k ≤ distresses) × (toZ w64 sum ≡ sumZ k (improvements d i j))
@@ -24,26 +21,21 @@ Inv-loop d i j distresses sum₀ k₀ sum k = (k ≤ distresses) × (toZ w64 sum
 abbrev μ-loop : tie.MeasureT-loop
 μ-loop d i j distresses sum₀ k₀ sum k = distresses - k
 
--- src/lib.rt:141:22
 element-copy-out-distresses : tie.Need-element-copy-out-distresses Inv-loop μ-loop
 element-copy-out-distresses c = omega arith
 
--- src/lib.rt:144:5
 loop-holds : tie.Need-loop-holds Inv-loop μ-loop
 loop-holds c = (omega arith, sumZ-none _)
 
--- src/lib.rt:145:43
 add-improvements : tie.Need-add-improvements Inv-loop μ-loop
 add-improvements c = omega arith
 
--- src/lib.rt:145:21
 improvements-requires : tie.Need-improvements-requires Inv-loop μ-loop
 improvements-requires c κs =
     let p = c .before .before .before .pre in
     let n = p .0 .distresses in
     (p .0, p .1, p .2, (omega arith, omega arith))
 
--- src/lib.rt:145:15
 add-sum : tie.Need-add-sum Inv-loop μ-loop
 add-sum c =
     let p = c .before .before .before .before .pre in
@@ -51,15 +43,12 @@ add-sum c =
     rw (c .before .before .loop .inv .1, told w64 (c .improvements .ok) (c .improvements .ensures))
     (next-fits w64 _ 500_000_000 _ (λ k l h. improvements-abs _ (p .0) _ _ k (p .1) (p .2) (l, omega arith)) (omega arith))
 
--- src/lib.rt:146:9
 add-k : tie.Need-add-k Inv-loop μ-loop
 add-k c = omega arith
 
--- src/lib.rt:144:5
 loop-less : tie.Need-loop-less Inv-loop μ-loop
 loop-less c = omega arith
 
--- src/lib.rt:144:5
 loop-again : tie.Need-loop-again Inv-loop μ-loop
 loop-again c = (
   omega arith,
@@ -68,7 +57,6 @@ loop-again c = (
       ∙ sumZ-next _ _ (c .before .before .loop .inv .1),
 )
 
--- src/lib.rt:148:5
 div-result : tie.Need-div-result Inv-loop μ-loop
 div-result c =
     let p = c .before .before .before .pre in
@@ -78,7 +66,6 @@ div-result c =
           (rw (c .before .loop .inv .1) (sumZ-fits w64 _ 500_000_000 _ (λ k l h. improvements-abs _ (p .0) _ _ k (p .1) (p .2) (l, omega arith)) (omega arith))),
     )
 
--- src/lib.rt:137:1
 returns : tie.Need-returns Inv-loop μ-loop
 unfolding effect
 returns c = toZ-ofZ (div-result c .1) ∙ ap (λ z. quotZ z (pos 10_000)) (sumZ-end _ _ _ (omega arith) (c .before .loop .inv .1))

@@ -1,6 +1,6 @@
 -- `rating::gain` meets its contract. What is left up to the greatest rating is not below 0.
 use Prim.Native.Nat.{_-_, _≤_}
-use mathlib.Core.Path.{_≡_, _∙_, sym, ap, ap₂}
+use mathlib.Core.Path.{_≡_, _∙_, sym, ap₂}
 use native.Mathlib.Omega.{arith}
 use lib.IntN.{pos, _-ℤ_}
 use lib.Signed.{leZ}
@@ -13,25 +13,16 @@ use Rattle.rules.specs.Rating.{gain}
 use borrow.Author.Needs.{needs}
 use Rattle.rating.proofs.gain.Statement.{statement}
 use Rattle.rating.proofs.gain.Tie as tie
-use Rattle.rating.proofs.gain.Reads as reads
-use Rattle.rating.proofs.gain.Lts as lts
-use Rattle.rating.proofs.greatest_at.Reads as greatest-at-reads
-use Rattle.rating.proofs.own_gain.Reads as own-gain-reads
-use Rattle.rating.proofs.rating_at.Reads as rating-at-reads
 
--- src/lib.rt:96:9
 own-gain-requires : tie.Need-own-gain-requires
 own-gain-requires c κs = search needs
 
--- src/lib.rt:97:17
 greatest-at-requires : tie.Need-greatest-at-requires
 greatest-at-requires c κs = search needs
 
--- src/lib.rt:97:37
 rating-at-requires : tie.Need-rating-at-requires
 rating-at-requires c κs = search needs
 
--- src/lib.rt:97:17
 sub-left : tie.Need-sub-left
 unfolding greatestOf ratingOf
 sub-left c =
@@ -56,16 +47,13 @@ left c =
     ∙ sym (pos-minus _ _ (sub-left c))
     ∙ ap₂ (λ a b. pos a -ℤ pos b) (c .before .greatest-at .ensures) (c .rating-at .ensures)
 
--- src/lib.rt:97:16
 cast-left : tie.Need-cast-left
 cast-left c = sfits-abs (omega (arith, small c))
 
--- src/lib.rt:92:1
 returns : tie.Need-returns
 unfolding gain
 returns c = own (c .before .before .before) ∙ sym (min-first _ _ (ap₂ leZ (sym (own (c .before .before .before))) (sym (left (c .before))) ∙ c .if1 .taken))
 
--- src/lib.rt:92:1
 returns-2 : tie.Need-returns-2
 unfolding gain
 returns-2 c = left (c .before) ∙ sym (min-second _ _ (ap₂ leZ (sym (own (c .before .before .before))) (sym (left (c .before))) ∙ c .if1 .left))

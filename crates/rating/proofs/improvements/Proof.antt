@@ -1,8 +1,8 @@
 -- `rating::improvements` meets its contract.
 use mathlib.Core.Path.{_≡_, refl, _∙_, ap, ap₂}
-use Prim.Native.Nat.{ℕ, _*_, _≤_}
+use Prim.Native.Nat.{_*_, _≤_}
 use native.Mathlib.Omega.{arith}
-use lib.IntN.{ℤ, pos, natAbs, _*ℤ_}
+use lib.IntN.{pos, _*ℤ_}
 use mir.Syntax.{w64}
 use mir.Val.{toZ, ofZ}
 use mir.Facts.{toZ-ofZ, toZ-pos}
@@ -14,16 +14,10 @@ use Rattle.rating.proofs.Bounds.{survival-le, improvements-abs}
 use borrow.Author.Needs.{needs}
 use Rattle.rating.proofs.improvements.Statement.{statement}
 use Rattle.rating.proofs.improvements.Tie as tie
-use Rattle.rating.proofs.improvements.Reads as reads
-use Rattle.rating.proofs.improvements.Lts as lts
-use Rattle.rating.proofs.gain.Reads as gain-reads
-use Rattle.rating.proofs.survivals.Reads as survivals-reads
 
--- src/lib.rt:133:5
 gain-requires : tie.Need-gain-requires
 gain-requires c κs = search needs
 
--- src/lib.rt:133:25
 survivals-requires : tie.Need-survivals-requires
 survivals-requires c κs = search needs
 
@@ -42,18 +36,15 @@ product c =
     ap₂ _*ℤ_ (told w64 (c .before .gain .ok) (c .before .gain .ensures)) (toZ-pos w64 (omega (arith, total-le c)) ∙ ap pos (c .survivals .ensures))
     ∙ sumZ-times _ (gain (a .d .now) (a .i) (a .j) (a .k)) (survival (a .d .now) (a .i) (a .j) (a .k)) (improvement (a .d .now) (a .i) (a .j) (a .k)) (λ t. refl)
 
--- src/lib.rt:133:25
 cast-result : tie.Need-cast-result
 cast-result c = sfits-abs (omega (arith, total-le c))
 
--- src/lib.rt:133:5
 mul-result : tie.Need-mul-result
 mul-result c =
     let s = c .before .before in
     let p = s .pre in
     rw (product c) (sfits-abs (omega (arith, improvements-abs _ (p .0) (s .args .i) (s .args .j) (s .args .k) (p .1) (p .2) (p .3))))
 
--- src/lib.rt:129:1
 returns : tie.Need-returns
 returns c = toZ-ofZ (mul-result c) ∙ product c
 

@@ -1,9 +1,9 @@
 -- `rating::own_gain` meets its contract: a byte below 128 stands for itself, another for itself less 256.
 use Prim.Native.Nat.{_≤_}
-use mathlib.Core.Path.{_≡_, _∙_, sym}
+use mathlib.Core.Path.{_∙_}
 use native.Mathlib.Omega.{arith}
 use borrow.Author.Tests.{lt-ltb, le-ltb}
-use lib.IntN.{pos, negsuc, _-ℤ_}
+use lib.IntN.{pos, negsuc}
 use mir.Syntax.{w64}
 use mir.Facts.{toZ-pos, toZ-ofZ}
 use Rattle.base.proofs.Integers.{abs-add, sfits-abs}
@@ -12,19 +12,13 @@ use Rattle.rating.proofs.Bounds.{byte-le}
 use borrow.Author.Needs.{needs}
 use Rattle.rating.proofs.own_gain.Statement.{statement}
 use Rattle.rating.proofs.own_gain.Tie as tie
-use Rattle.rating.proofs.own_gain.Reads as reads
-use Rattle.rating.proofs.own_gain.Lts as lts
-use Rattle.rating.proofs.gain_byte.Reads as gain-byte-reads
 
--- src/lib.rt:84:9
 gain-byte-requires : tie.Need-gain-byte-requires
 gain-byte-requires c κs = search needs
 
--- src/lib.rt:86:16
 cast-result : tie.Need-cast-result
 cast-result c = search needs
 
--- src/lib.rt:86:9
 returns : tie.Need-returns
 unfolding gainOf
 returns c = toZ-pos w64 {n = c .before .gain-byte .result} (omega arith) ∙ rw (← c .before .gain-byte .ensures, lt-ltb _ _ (c .if1 .taken))
@@ -37,13 +31,11 @@ small c =
 cast-result-2 : tie.Need-cast-result-2
 cast-result-2 c = sfits-abs (omega (arith, small c))
 
--- src/lib.rt:88:5
 sub-result : tie.Need-sub-result
 sub-result c =
     let b = c .before .gain-byte .result in
     rw (toZ-pos w64 {n = b} (omega (arith, small c))) (sfits-abs (omega (arith, small c, abs-add (pos b) (negsuc 255))))
 
--- src/lib.rt:80:1
 returns-2 : tie.Need-returns-2
 unfolding gainOf
 returns-2 c =

@@ -1,28 +1,22 @@
 -- `rating::scaled_limit` meets its contract.
-use mathlib.Core.Path.{_≡_, _∙_, ap}
-use Prim.Native.Nat.{_*_, _≤_}
+use mathlib.Core.Path.{ap}
+use Prim.Native.Nat.{_*_}
 use native.Mathlib.Omega.{arith}
 use Rattle.rules.specs.District.{limitOf}
 use Rattle.rules.specs.Rating.{scaledLimit}
 use borrow.Author.Needs.{needs}
 use Rattle.rating.proofs.scaled_limit.Statement.{statement}
 use Rattle.rating.proofs.scaled_limit.Tie as tie
-use Rattle.rating.proofs.scaled_limit.Reads as reads
-use Rattle.rating.proofs.scaled_limit.Lts as lts
-use Rattle.rating.proofs.limit_at.Reads as limit-at-reads
 
--- src/lib.rt:169:6
 limit-at-requires : tie.Need-limit-at-requires
 limit-at-requires c κs = search needs
 
--- src/lib.rt:169:5
 mul-result : tie.Need-mul-result
 unfolding limitOf
 mul-result c =
     let p = c .before .pre in
     omega (arith, c .limit-at .ensures, p .0 .limit (c .before .args .r) (p .1 .0) (p .1 .1))
 
--- src/lib.rt:165:1
 returns : tie.Need-returns
 unfolding scaledLimit limitOf
 returns c = ap (λ v. v * 100_000) (c .limit-at .ensures)

@@ -1,6 +1,6 @@
 -- `rating::survival` meets its contract. The loss is at most 1,000 × 1,000 × 100.
 use Prim.Native.Nat.{ℕ, suc, _*_, _-_, _≤_}
-use mathlib.Core.Path.{_≡_, refl, sym, ap, _∙_}
+use mathlib.Core.Path.{_≡_, refl}
 use native.Mathlib.Nat.{mul-le-mul}
 use native.Mathlib.Omega.{arith}
 use Rattle.base.proofs.Integers.{product-fits}
@@ -9,10 +9,6 @@ use Rattle.rules.specs.Rating.{survival}
 use borrow.Author.Needs.{needs}
 use Rattle.rating.proofs.survival.Statement.{statement}
 use Rattle.rating.proofs.survival.Tie as tie
-use Rattle.rating.proofs.survival.Reads as reads
-use Rattle.rating.proofs.survival.Lts as lts
-use Rattle.rating.proofs.percent_at.Reads as percent-at-reads
-use Rattle.rating.proofs.segment_at.Reads as segment-at-reads
 
 traffic-le : (c : tie.After-segment-at) → c .segment-at .result ≤ 1_000
 unfolding trafficOf
@@ -41,40 +37,31 @@ by-loss c =
     rw (c .before .before .segment-at .ensures, c .before .segment-at2 .ensures, c .percent-at .ensures)
     (later _ _ _ _ _ (c .before .before .before .pre .4 .0))
 
--- src/lib.rt:106:16
 segment-at-requires : tie.Need-segment-at-requires
 segment-at-requires c κs = search needs
 
--- src/lib.rt:106:38
 segment-at-requires-2 : tie.Need-segment-at-requires-2
 segment-at-requires-2 c κs = search needs
 
--- src/lib.rt:106:16
 mul-loss : tie.Need-mul-loss
 mul-loss c = product-fits _ _ 1_000 1_000 (traffic-le (c .before)) (environment-le c) tt
 
--- src/lib.rt:106:67
 percent-at-requires : tie.Need-percent-at-requires
 percent-at-requires c κs = search needs
 
--- src/lib.rt:106:61
 sub-loss : tie.Need-sub-loss
 sub-loss c = percent-le c
 
--- src/lib.rt:106:16
 mul-loss-2 : tie.Need-mul-loss-2
 mul-loss-2 c =
     product-fits _ _ (1_000 * 1_000) 100 (mul-le-mul {n₂ = 1_000} {m₂ = 1_000} (traffic-le (c .before .before)) (environment-le (c .before))) (omega arith) tt
 
--- src/lib.rt:107:25
 sub-result : tie.Need-sub-result
 sub-result c = search needs
 
--- src/lib.rt:102:1
 returns : tie.Need-returns
 returns c = let l = c .if1 .taken in by-loss (c .before)
 
--- src/lib.rt:102:1
 returns-2 : tie.Need-returns-2
 returns-2 c = let e = by-loss (c .before) in omega arith
 

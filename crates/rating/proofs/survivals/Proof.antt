@@ -1,6 +1,6 @@
 -- `rating::survivals` meets its contract.
 use mathlib.Core.Path.{_≡_, _∙_, ap}
-use Prim.Native.Nat.{ℕ, _+_, _-_, _*_, _≤_, _<_}
+use Prim.Native.Nat.{_+_, _-_, _*_, _≤_}
 use native.Mathlib.Omega.{arith}
 use Rattle.base.specs.Over.{sum}
 use Rattle.base.proofs.Sums.{sum-none, sum-next, sum-bound, sum-end}
@@ -8,9 +8,6 @@ use Rattle.rules.specs.Rating.{survival}
 use Rattle.rating.proofs.Bounds.{survival-le}
 use Rattle.rating.proofs.survivals.Statement.{statement}
 use Rattle.rating.proofs.survivals.Tie as tie
-use Rattle.rating.proofs.survivals.Reads as reads
-use Rattle.rating.proofs.survivals.Lts as lts
-use Rattle.rating.proofs.survival.Reads as survival-reads
 
 abbrev Inv-loop : tie.InvT-loop
 Inv-loop d i j k years total₀ t₀ total t = (t ≤ years) × (total ≡ sum t (survival d i j k))
@@ -18,19 +15,15 @@ Inv-loop d i j k years total₀ t₀ total t = (t ≤ years) × (total ≡ sum t
 abbrev μ-loop : tie.MeasureT-loop
 μ-loop d i j k years total₀ t₀ total t = years - t
 
--- src/lib.rt:118:17
 element-copy-out-years : tie.Need-element-copy-out-years Inv-loop μ-loop
 element-copy-out-years c = omega arith
 
--- src/lib.rt:121:5
 loop-holds : tie.Need-loop-holds Inv-loop μ-loop
 loop-holds c = (omega arith, sum-none _)
 
--- src/lib.rt:122:39
 add-survival : tie.Need-add-survival Inv-loop μ-loop
 add-survival c = omega arith
 
--- src/lib.rt:122:18
 survival-requires : tie.Need-survival-requires Inv-loop μ-loop
 survival-requires c κs =
     let p = c .before .before .before .pre in
@@ -46,23 +39,18 @@ next c = ap (λ s. c .before .before .loop .total + s) (c .survival .ensures) �
 next-le : (c : tie.After-survival Inv-loop μ-loop) → c .before .before .loop .total + c .survival .result ≤ (c .before .before .loop .t + 1) * 1_000_000
 next-le c = rw (next c) (sum-bound _ 1_000_000 _ (λ t l h. survival-le _ _ _ _ t))
 
--- src/lib.rt:122:9
 add-total : tie.Need-add-total Inv-loop μ-loop
 add-total c = let y = c .before .before .before .before .pre .0 .years in omega (arith, next-le c)
 
--- src/lib.rt:123:9
 add-t : tie.Need-add-t Inv-loop μ-loop
 add-t c = omega arith
 
--- src/lib.rt:121:5
 loop-less : tie.Need-loop-less Inv-loop μ-loop
 loop-less c = omega arith
 
--- src/lib.rt:121:5
 loop-again : tie.Need-loop-again Inv-loop μ-loop
 loop-again c = (omega arith, next c)
 
--- src/lib.rt:114:1
 returns : tie.Need-returns Inv-loop μ-loop
 returns c = sum-end _ _ _ (c .before .loop .inv .1) (omega arith) (omega arith)
 

@@ -8,25 +8,18 @@ use Rattle.rating.proofs.Bounds.{area-le}
 use borrow.Author.Needs.{needs}
 use Rattle.rating.proofs.usage.Statement.{statement}
 use Rattle.rating.proofs.usage.Tie as tie
-use Rattle.rating.proofs.usage.Reads as reads
-use Rattle.rating.proofs.usage.Lts as lts
-use Rattle.rating.proofs.area.Reads as area-reads
-use Rattle.rating.proofs.requirement_at.Reads as requirement-at-reads
 
 -- of a strategy, which is not nothing
 of-strategy : (d : District) (i j r : ℕ) → 1 ≤ j → area d i * requirementOf d j r ≡ usage d i j r
 unfolding usage
 of-strategy d i (suc j) r h = refl
 
--- src/lib.rt:162:5
 area-requires : tie.Need-area-requires
 area-requires c κs = search needs
 
--- src/lib.rt:162:19
 requirement-at-requires : tie.Need-requirement-at-requires
 requirement-at-requires c κs = search needs
 
--- src/lib.rt:162:5
 mul-result : tie.Need-mul-result
 unfolding requirementOf
 mul-result c =
@@ -34,7 +27,6 @@ mul-result c =
     let p = s .pre in
     product-fits _ _ 1_999_800 999_999 (rw (c .before .area .ensures) (area-le _ (p .0) _ (p .1))) (rw (c .requirement-at .ensures) (p .0 .requirement _ _ (p .2 .0) (p .2 .1) (p .3 .0) (p .3 .1))) tt
 
--- src/lib.rt:158:1
 returns : tie.Need-returns
 unfolding requirementOf
 returns c = ap₂ _*_ (c .before .area .ensures) (c .requirement-at .ensures) ∙ of-strategy _ _ _ _ (c .before .before .pre .2 .0)
