@@ -7,7 +7,8 @@ ghost use Rattle.base.specs.Over.{sum, sumZ};
 ghost use Rattle.grammar.specs.Ranges.{Ranges};
 ghost use Rattle.rules.specs.District.{valueAt, limitPlace, greatestPlace, strategyPlace, pavementPlace, segmentPlace, barsPlace, ratingPlace, gainOf, yearsOf, distressesOf, barredIn};
 ghost use Rattle.rules.specs.Rating.{gain, survival, improvements, rating, effect, area, benefit, usage, scaledLimit, reaches, minimumReached, yearsReached, minimaReached, firstRating, overallReached, permitted, fitsAlone, candidate};
-ghost use Rattle.rules.specs.Table.{candidateBenefit};
+ghost use Rattle.rules.specs.Table.{has, candidateBenefit, usageIn, limitIn};
+ghost use Rattle.rating.specs.Areas.{areaIn};
 ghost use Rattle.rating.specs.Numbers.{Segment, SegmentOf, Strategy, Distress, Year, Pavement, Resource};
 
 // ---- what stands at its places
@@ -328,19 +329,62 @@ fn worth(d: &[usize; 2620], i: usize, j: usize) -> u64
     b as u64
 }
 
-// The same of any segment and strategy: 0 for what the district does not have.
+// ---- the table's entries, 0 for what the district does not have
+
+pub fn has(d: &[usize; 2620], i: usize, j: usize) -> bool
+    requires { ⌜ Segment i ⌝ }
+    ensures { λ h. ⌜ h ≡ has (now (d .entry)) i j ⌝ }
+{
+    if d[0] < i {
+        return false;
+    }
+    if j < 1 {
+        return false;
+    }
+    j <= d[1]
+}
+
 pub fn candidate_benefit(d: &[usize; 2620], i: usize, j: usize) -> u64
     requires { ⌜ Ranges (now d) × Segment i ⌝ }
     ensures { λ b. ⌜ b ≡ candidateBenefit (now (d .entry)) i j ⌝ }
 {
-    if d[0] < i {
+    if has(d, i, j) {
+        return worth(d, i, j);
+    }
+    0
+}
+
+// The area that strategy j treats on segment i.
+pub fn area_in(d: &[usize; 2620], i: usize, j: usize) -> u64
+    requires { ⌜ Ranges (now d) × Segment i ⌝ }
+    ensures { λ a. ⌜ a ≡ areaIn (now (d .entry)) i j ⌝ }
+{
+    if has(d, i, j) {
+        return area(d, i);
+    }
+    0
+}
+
+// The use of resource r, a being that area: segment i is named in the contract alone.
+pub fn usage_in(d: &[usize; 2620], i: usize, j: usize, r: usize, a: u64) -> u64
+    requires { ⌜ Ranges (now d) × Segment i × Resource r × (a ≡ areaIn (now d) i j) ⌝ }
+    ensures { λ u. ⌜ u ≡ usageIn (now (d .entry)) i j r ⌝ }
+{
+    if a == 0 {
         return 0;
     }
-    if j < 1 {
+    if d[5] < r {
         return 0;
     }
-    if d[1] < j {
+    a * (requirement_at(d, j, r) as u64)
+}
+
+pub fn limit_in(d: &[usize; 2620], r: usize) -> u64
+    requires { ⌜ Ranges (now d) × Resource r ⌝ }
+    ensures { λ l. ⌜ l ≡ limitIn (now (d .entry)) r ⌝ }
+{
+    if d[5] < r {
         return 0;
     }
-    worth(d, i, j)
+    scaled_limit(d, r)
 }

@@ -1,18 +1,14 @@
 -- `rating::usage` meets its contract: at most 1,999,800 × 999,999.
-use mathlib.Core.Path.{_≡_, _∙_, refl, ap₂}
-use Prim.Native.Nat.{ℕ, suc, _*_, _≤_}
+use mathlib.Core.Path.{_∙_, ap₂}
+use Prim.Native.Nat.{_*_}
 use Rattle.base.proofs.Integers.{product-fits}
-use Rattle.rules.specs.District.{District, requirementOf}
-use Rattle.rules.specs.Rating.{area, usage}
+use Rattle.rules.specs.District.{requirementOf}
+use Rattle.rules.specs.Rating.{area}
 use Rattle.rating.proofs.Bounds.{area-le}
+use Rattle.rating.proofs.Entries.{usage-of}
 use borrow.Author.Needs.{needs}
 use Rattle.rating.proofs.usage.Statement.{statement}
 use Rattle.rating.proofs.usage.Tie as tie
-
--- of a strategy, which is not nothing
-of-strategy : (d : District) (i j r : ℕ) → 1 ≤ j → area d i * requirementOf d j r ≡ usage d i j r
-unfolding usage
-of-strategy d i (suc j) r h = refl
 
 area-requires : tie.Need-area-requires
 area-requires c κs = search needs
@@ -29,7 +25,7 @@ mul-result c =
 
 returns : tie.Need-returns
 unfolding requirementOf
-returns c = ap₂ _*_ (c .before .area .ensures) (c .requirement-at .ensures) ∙ of-strategy _ _ _ _ (c .before .before .pre .2 .0)
+returns c = ap₂ _*_ (c .before .area .ensures) (c .requirement-at .ensures) ∙ usage-of _ _ _ _ (c .before .before .pre .2 .0)
 
 pub usage-spec : {M : Type 1} → statement M
 usage-spec = tie.close (tie.spec area-requires requirement-at-requires mul-result returns)
