@@ -118,9 +118,8 @@ pub sumZ-next : (n : ℕ) (f : ℕ → ℤ) {t : ℤ} → t ≡ sumZ n f → t +
 unfolding sumZ
 sumZ-next n f e = rw (add-one, e)
 
--- at a loop's end the counter is the count
-pub sumZ-end : (n m : ℕ) (f : ℕ → ℤ) {t : ℤ} → n ≡ m → t ≡ sumZ n f → t ≡ sumZ m f
-sumZ-end n m f {t} e p = subst (λ (k : ℕ). t ≡ sumZ k f) e p
+pub sumZ-end : (n m : ℕ) (f : ℕ → ℤ) {t : ℤ} → t ≡ sumZ m f → m ≤ n → n ≤ m → t ≡ sumZ n f
+sumZ-end n m f e l h = let q : n ≡ m = omega arith in rw q e
 
 pub sumZ-abs : (n m : ℕ) (f : ℕ → ℤ) → ((k : ℕ) → 1 ≤ k → k ≤ n → natAbs (f k) ≤ m) → natAbs (sumZ n f) ≤ n * m
 unfolding sumZ

@@ -8,7 +8,7 @@ use borrow.Author.Tests.{leb-true, le-leb, lt-leb}
 use lib.Dec.{leb}
 use Rattle.base.specs.Choice.{pick}
 use Rattle.base.specs.Over.{between}
-use Rattle.base.proofs.Tests.{both}
+use Rattle.base.proofs.Choice.{and-both}
 use Rattle.rules.specs.District.{District, segmentsOf, strategiesOf, resourcesOf, requirementOf}
 use Rattle.rules.specs.Rating.{area, usage}
 use Rattle.rules.specs.Table.{has, usageIn}
@@ -21,11 +21,11 @@ unfolding usage
 usage-of d i (suc j) r h = refl
 
 between-in : (a b x : ℕ) → between a b x ≡ true → (a ≤ x) × (x ≤ b)
-between-in a b x e = let t = both (leb a x) (leb x b) e in (leb-true a x (t .0), leb-true x b (t .1))
+between-in a b x e = let t = and-both (leb a x) (leb x b) e in (leb-true a x (t .0), leb-true x b (t .1))
 
 pub has-in : (d : District) (i j : ℕ) → has d i j ≡ true → SegmentOf d i × ((1 ≤ j) × (j ≤ strategiesOf d))
 has-in d i j e =
-    let t = both (between 1 (segmentsOf d) i) (between 1 (strategiesOf d) j) e in
+    let t = and-both (between 1 (segmentsOf d) i) (between 1 (strategiesOf d) j) e in
     (between-in 1 (segmentsOf d) i (t .0), between-in 1 (strategiesOf d) j (t .1))
 
 pick-zero : (t : Bool) (x : ℕ) → x ≡ 0 → 0 ≡ pick t x 0

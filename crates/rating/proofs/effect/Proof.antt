@@ -68,7 +68,7 @@ div-result c =
 
 returns : tie.Need-returns Inv-loop μ-loop
 unfolding effect
-returns c = toZ-ofZ (div-result c .1) ∙ ap (λ z. quotZ z (pos 10_000)) (sumZ-end _ _ _ (omega arith) (c .before .loop .inv .1))
+returns c = toZ-ofZ (div-result c .1) ∙ ap (λ z. quotZ z (pos 10_000)) (sumZ-end _ _ _ (c .before .loop .inv .1) (omega arith) (omega arith))
 
 pub effect-spec : {M : Type 1} → statement M
 effect-spec =

@@ -67,7 +67,7 @@ loop-again c = (
 )
 
 returns : tie.Need-returns Inv-loop μ-loop
-returns c = sumZ-end _ _ _ (omega arith) (c .before .loop .inv .1)
+returns c = sumZ-end _ _ _ (c .before .loop .inv .1) (omega arith) (omega arith)
 
 pub first-ratings-spec : {M : Type 1} → statement M
 first-ratings-spec =

@@ -6,7 +6,7 @@ use native.Mathlib.Omega.{arith}
 use borrow.Author.Tests.{le-leb, lt-leb}
 use lib.Dec.{leb}
 use Rattle.base.specs.Over.{all}
-use Rattle.base.proofs.Tests.{all-none, all-next, all-end, all-fails}
+use Rattle.base.proofs.All.{all-none, all-next, all-end, all-fails}
 use Rattle.rules.specs.Rating.{fitsLimit, fitsAlone}
 use Rattle.rating.proofs.fits_alone.Statement.{statement}
 use Rattle.rating.proofs.fits_alone.Tie as tie
@@ -50,7 +50,7 @@ tested c = ap₂ leb (c .usage .ensures) (c .before .scaled-limit .ensures)
 returns : tie.Need-returns Inv-loop μ-loop
 unfolding fitsAlone
 returns c =
-    sym (all-fails _ (c .before .before .before .before .loop .r + 1) _ (omega arith) (omega arith) (sym (tested (c .before)) ∙ lt-leb _ _ (c .if1 .taken)))
+    sym (all-fails _ _ (c .before .before .before .before .loop .r + 1) (omega arith) (omega arith) (sym (tested (c .before)) ∙ lt-leb _ _ (c .if1 .taken)))
 
 add-r : tie.Need-add-r Inv-loop μ-loop
 add-r c = omega arith
@@ -64,7 +64,7 @@ loop-again c =
 
 returns-2 : tie.Need-returns-2 Inv-loop μ-loop
 unfolding fitsAlone
-returns-2 c = sym (all-end _ _ _ (omega arith) (c .before .loop .inv .1))
+returns-2 c = sym (all-end _ _ _ (c .before .loop .inv .1) (omega arith) (omega arith))
 
 pub fits-alone-spec : {M : Type 1} → statement M
 fits-alone-spec =

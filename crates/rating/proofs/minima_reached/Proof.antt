@@ -5,7 +5,7 @@ use Prim.Native.Nat.{_+_, _-_, _≤_}
 use native.Mathlib.Omega.{arith}
 use borrow.Author.Tests.{not-true, not-false}
 use Rattle.base.specs.Over.{all}
-use Rattle.base.proofs.Tests.{all-none, all-next, all-end, all-fails}
+use Rattle.base.proofs.All.{all-none, all-next, all-end, all-fails}
 use Rattle.rules.specs.Rating.{yearsReached, minimaReached}
 use Rattle.rating.proofs.minima_reached.Statement.{statement}
 use Rattle.rating.proofs.minima_reached.Tie as tie
@@ -34,7 +34,7 @@ years-reached-requires c κs =
 returns : tie.Need-returns Inv-loop μ-loop
 unfolding minimaReached
 returns c =
-    sym (all-fails _ (c .before .before .before .loop .k + 1) _ (omega arith) (omega arith) (sym (c .before .years-reached .ensures) ∙ not-true _ (c .if1 .taken)))
+    sym (all-fails _ _ (c .before .before .before .loop .k + 1) (omega arith) (omega arith) (sym (c .before .years-reached .ensures) ∙ not-true _ (c .if1 .taken)))
 
 add-k : tie.Need-add-k Inv-loop μ-loop
 add-k c = omega arith
@@ -48,7 +48,7 @@ loop-again c =
 
 returns-2 : tie.Need-returns-2 Inv-loop μ-loop
 unfolding minimaReached
-returns-2 c = sym (all-end _ _ _ (omega arith) (c .before .loop .inv .1))
+returns-2 c = sym (all-end _ _ _ (c .before .loop .inv .1) (omega arith) (omega arith))
 
 pub minima-reached-spec : {M : Type 1} → statement M
 minima-reached-spec =

@@ -1,8 +1,8 @@
 -- `rating::permitted` meets its contract: three tests, in the rule's order.
-use mathlib.Core.Path.{sym, _∙_, ap}
+use mathlib.Core.Path.{refl, sym, _∙_, ap}
 use mathlib.Core.Bool.{not}
 use borrow.Author.Tests.{not-true, not-false}
-use Rattle.base.proofs.Tests.{second-fails, third-decides}
+use Rattle.base.proofs.Choice.{and-yes, and-no}
 use Rattle.rules.specs.Rating.{permitted}
 use borrow.Author.Needs.{needs}
 use Rattle.rating.proofs.permitted.Statement.{statement}
@@ -22,7 +22,7 @@ returns-2 : tie.Need-returns-2
 unfolding permitted
 returns-2 c =
     let b = c .before .before in
-    sym (second-fails _ _ _ (ap not (sym (b .before .barred .ensures) ∙ b .if1 .left)) (sym (c .before .minima-reached .ensures) ∙ not-true _ (c .if2 .taken)))
+    and-yes _ _ _ (ap not (sym (b .before .barred .ensures) ∙ b .if1 .left)) (and-no _ _ _ (sym (c .before .minima-reached .ensures) ∙ not-true _ (c .if2 .taken)) refl)
 
 overall-reached-requires : tie.Need-overall-reached-requires
 overall-reached-requires c κs = search needs
@@ -32,7 +32,7 @@ unfolding permitted
 returns-3 c =
     let e = c .before in
     let b = e .before .before in
-    sym (third-decides _ _ _ (ap not (sym (b .before .barred .ensures) ∙ b .if1 .left)) (sym (e .before .minima-reached .ensures) ∙ not-false _ (e .if2 .left)) (sym (c .overall-reached .ensures)))
+    and-yes _ _ _ (ap not (sym (b .before .barred .ensures) ∙ b .if1 .left)) (and-yes _ _ _ (sym (e .before .minima-reached .ensures) ∙ not-false _ (e .if2 .left)) (c .overall-reached .ensures))
 
 pub permitted-spec : {M : Type 1} → statement M
 permitted-spec =

@@ -7,7 +7,7 @@ use borrow.Author.Tests.{not-true, not-false}
 use mir.Syntax.{w64}
 use Rattle.base.specs.Over.{all}
 use Rattle.base.proofs.Integers.{told}
-use Rattle.base.proofs.Tests.{all-none, all-next, all-end, all-fails}
+use Rattle.base.proofs.All.{all-none, all-next, all-end, all-fails}
 use Rattle.rules.specs.Rating.{minimumReached, yearsReached}
 use Rattle.rating.proofs.years_reached.Statement.{statement}
 use Rattle.rating.proofs.years_reached.Tie as tie
@@ -43,7 +43,7 @@ minimum-reached-requires c κs =
 returns : tie.Need-returns Inv-loop μ-loop
 unfolding yearsReached
 returns c =
-    sym (all-fails _ (c .before .before .before .loop .t + 1) _ (omega arith) (omega arith) (sym (c .before .minimum-reached .ensures) ∙ not-true _ (c .if1 .taken)))
+    sym (all-fails _ _ (c .before .before .before .loop .t + 1) (omega arith) (omega arith) (sym (c .before .minimum-reached .ensures) ∙ not-true _ (c .if1 .taken)))
 
 add-t : tie.Need-add-t Inv-loop μ-loop
 add-t c = omega arith
@@ -57,7 +57,7 @@ loop-again c =
 
 returns-2 : tie.Need-returns-2 Inv-loop μ-loop
 unfolding yearsReached
-returns-2 c = sym (all-end _ _ _ (omega arith) (c .before .loop .inv .1))
+returns-2 c = sym (all-end _ _ _ (c .before .loop .inv .1) (omega arith) (omega arith))
 
 pub years-reached-spec : {M : Type 1} → statement M
 years-reached-spec =
