@@ -1,6 +1,6 @@
 -- Laws of listedFrom, and of loops that fill a list with it from the front. Assumes nothing.
 use Prim.Native.Nat.{ℕ, zero, suc, _+_, _-_, _≤_, _<_}
-use mathlib.Core.Path.{_≡_, refl, sym, ap, ap₂, _∙_, subst}
+use mathlib.Core.Path.{_≡_, refl, sym, ap, ap₂, _∙_}
 use mathlib.Core.List.{List, [], _∷_, _++_, append-assoc, append-nil}
 use native.Mathlib.Numerals.{add-one}
 use native.Mathlib.Omega.{arith}
@@ -66,3 +66,10 @@ listed-cong (suc n) m k f g h =
         let p : m + suc x ≡ suc m + x = omega arith in
         let q : k + suc x ≡ suc k + x = omega arith in
         sym (ap f p) ∙ h (suc x) (omega arith) ∙ ap g q
+
+-- what holds of 0 and of each that is listed holds at every place
+pub listed-each : (P : ℕ → Type 0) (n m : ℕ) (f : ℕ → ℕ) → P 0 → ((x : ℕ) → P (f x)) → (k : ℕ) → P (getD (listedFrom n m f) k 0)
+unfolding listedFrom
+listed-each P zero m f z h k = z
+listed-each P (suc n) m f z h zero = h m
+listed-each P (suc n) m f z h (suc k) = listed-each P n (suc m) f z h k

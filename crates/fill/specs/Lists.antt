@@ -4,8 +4,12 @@ use Prim.Native.Nat.{ℕ, _+_, _*_, _/_, _%_}
 use mathlib.Core.List.{List}
 use lib.ListN.{getD}
 use Rattle.base.specs.Over.{listed, listedFrom, divideUp}
-use Rattle.rules.specs.District.{District}
+use Rattle.rules.specs.District.{District, segmentsOf, strategiesOf, resourcesOf}
+use Rattle.tables.specs.declared.Size.{Size}
 use Rattle.rules.specs.Table.{candidateBenefit, usageIn, limitIn}
+
+abbrev pub sizeOf : District → Size
+sizeOf d = record { segments = segmentsOf d; strategies = strategiesOf d; resources = resourcesOf d }
 
 unfoldable pub benefitEntry : District → ℕ → ℕ
 benefitEntry d n = candidateBenefit d (n / 12 + 1) (n % 12)

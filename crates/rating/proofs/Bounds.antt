@@ -1,20 +1,18 @@
 -- How large the numbers of a district in range can be. Of `gain` and of `effect` the rest of this crate knows only what stands here and in
 -- their own functions. Assumes nothing.
-use Prim.Native.Nat.{ℕ, zero, suc, _+_, _-_, _*_, _/_, _≤_, _<_}
-use mathlib.Core.Path.{_≡_, refl, sym, ap, _∙_}
-use mathlib.Core.Bool.{Bool, true, false, cond}
-use native.Mathlib.Nat.{mul-le-mul, le-trans}
+use Prim.Native.Nat.{ℕ, zero, suc, _+_, _-_, _*_, _≤_}
+use mathlib.Core.Path.{_≡_, refl}
+use mathlib.Core.Bool.{Bool, true, false}
+use native.Mathlib.Nat.{mul-le-mul}
 use native.Mathlib.Omega.{arith}
-use borrow.Author.Tests.{ltb-true, ltb-false}
+use borrow.Author.Tests.{ltb-true}
 use lib.Dec.{ltb}
-use lib.IntN.{ℤ, pos, negsuc, natAbs, _-ℤ_, _+ℤ_, _*ℤ_}
-use lib.Signed.{quotZ}
+use lib.IntN.{pos, natAbs, _-ℤ_}
 use Rattle.base.specs.Bytes.{signed}
-use Rattle.base.specs.Choice.{pick}
 use Rattle.base.specs.Over.{sumZ}
 use Rattle.base.proofs.Integers.{abs-add, abs-min, abs-mul-le, abs-quot, pos-minus, sumZ-abs}
 use Rattle.grammar.specs.Ranges.{Ranges}
-use Rattle.rules.specs.District.{District, valueAt, strategyPlace, segmentPlace, distressesOf, yearsOf, limitOf, greatestOf, requirementOf, gainOf, lengthOf, widthOf, pavementOf, ratingOf}
+use Rattle.rules.specs.District.{District, valueAt, strategyPlace, segmentPlace, distressesOf, yearsOf, greatestOf, gainOf, pavementOf, ratingOf}
 use Rattle.rules.specs.Rating.{gain, survival, improvement, improvements, rating, effect, area, benefit, usage, scaledLimit}
 use Rattle.rating.specs.Numbers.{Segment, SegmentOf, Pavement, Strategy, Distress, Resource}
 
