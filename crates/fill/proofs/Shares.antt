@@ -1,5 +1,5 @@
 -- The arrays of shares hold the table's shares, and a candidate's are at most 10,000. Assumes nothing.
-use Prim.Native.Nat.{ℕ, zero, suc, _+_, _-_, _*_, _/_, _%_, _≤_, _<_}
+use Prim.Native.Nat.{ℕ, zero, suc, _+_, _-_, _*_, _/_, _%_, _^_, _≤_, _<_}
 use mathlib.Core.Path.{_≡_, ap, ap₂, sym, _∙_}
 use mathlib.Core.List.{List}
 use native.Mathlib.Nat.{div-zero, div-lt-iff-lt-mul}
@@ -16,7 +16,11 @@ use Rattle.laws.proofs.Shares.{divide-up-small}
 use Rattle.tables.specs.declared.Size.{Size}
 use Rattle.tables.specs.Arrays.{entry, usageAt, limitAt, tables, Sound, Cell}
 use Rattle.tables.proofs.Laws.{usage-at, limit-at, uses-of}
-use Rattle.fill.specs.Lists.{shareEntry, shareList, downShareEntry, downShareList}
+use Rattle.grammar.specs.Ranges.{Ranges}
+use Rattle.rules.specs.District.{District}
+use Rattle.fill.specs.Filled.{Filled}
+use Rattle.fill.proofs.Tables.{table-is, sound, fit-alone}
+use Rattle.fill.specs.Lists.{sizeOf, benefitList, usageList, limitList, shareEntry, shareList, downShareEntry, downShareList}
 
 pub shares-length : (u l : List ℕ) → length (shareList u l) ≡ 12_288
 unfolding shareList
@@ -71,3 +75,29 @@ module _ (t : Table) (fit : FitAlone t) (i j r : ℕ) (li : 1 ≤ i) (hi : i ≤
   pub down-share-le : downShare t i j r ≤ 10_000
   unfolding downShare
   down-share-le = divide-small (t .usage i j r) (t .limit r) (fit .fits i j r li hi lj hj lr hr worth)
+
+-- ---- all that filled arrays hold
+
+pub filled : (d : District) → Ranges d → Filled d (sizeOf d) (benefitList d) (usageList d) (limitList d) (shareList (usageList d) (limitList d)) (downShareList (usageList d) (limitList d))
+filled d ok =
+    let s = sound d ok in
+    record {
+      table = table-is d ok;
+      sound = s;
+      fit = fit-alone d ok;
+      shares-length = shares-length (usageList d) (limitList d);
+      shares = λ i j r. share-entry (sizeOf d) (benefitList d) (usageList d) (limitList d) s i j r;
+      downs-length = down-shares-length (usageList d) (limitList d);
+      downs = λ i j r. down-share-entry (sizeOf d) (benefitList d) (usageList d) (limitList d) s i j r;
+    }
+
+-- the same of arrays that equal them, with what the shares need of uses and limits
+module _ (d : District) (ok : Ranges d) {u l : List ℕ} (hu : u ≡ usageList d) (hl : l ≡ limitList d) where
+  pub sized : (length u ≡ 12_288) × (length l ≡ 16)
+  sized = rw (hu, hl) (sound d ok .uses-length, sound d ok .limits-length)
+
+  pub bounded : ((k : ℕ) → getD u k 0 < 2 ^ 41) × ((k : ℕ) → getD l k 0 < 2 ^ 47)
+  bounded = rw (hu, hl) (sound d ok .use-small, sound d ok .limit-small)
+
+  pub filled-by : {b s e : List ℕ} → b ≡ benefitList d → s ≡ shareList u l → e ≡ downShareList u l → Filled d (sizeOf d) b u l s e
+  filled-by hb hs he = rw (hb, hs, he, hu, hl) (filled d ok)

@@ -1,4 +1,5 @@
 // The arrays that the phases and the ceiling read, filled once for a plan from a district.
+use tables::Size;
 ghost use mathlib.Core.Path.{_≡_};
 ghost use Prim.Native.Nat.{ℕ, _+_, _-_, _*_, _/_, _^_, _≤_, _<_};
 ghost use lib.ListN.{length, getD};
@@ -6,6 +7,7 @@ ghost use Rattle.base.specs.Over.{listed, divideUp};
 ghost use Rattle.grammar.specs.Ranges.{Ranges};
 ghost use Rattle.rules.specs.Table.{usageIn};
 ghost use Rattle.rating.specs.Numbers.{Segment};
+ghost use Rattle.fill.specs.Filled.{Filled};
 ghost use Rattle.fill.specs.Lists.{benefitList, usageList, limitList, shareList, downShareList};
 
 // The benefits of all segments and strategies.
@@ -64,10 +66,7 @@ fn share(u: u64, l: u64) -> u64
     requires { ⌜ (u < 2 ^ 41) × (l < 2 ^ 47) ⌝ }
     ensures { λ s. ⌜ s ≡ divideUp (u * 10000) l ⌝ }
 {
-    if l == 0 {
-        return 0;
-    }
-    (u * 10000 + (l - 1)) / l
+    if l == 0 { 0 } else { (u * 10000 + (l - 1)) / l }
 }
 
 // The same rounded down.
@@ -75,10 +74,7 @@ fn down_share(u: u64, l: u64) -> u64
     requires { ⌜ u < 2 ^ 41 ⌝ }
     ensures { λ s. ⌜ s ≡ u * 10000 / l ⌝ }
 {
-    if l == 0 {
-        return 0;
-    }
-    u * 10000 / l
+    if l == 0 { 0 } else { u * 10000 / l }
 }
 
 // Both shares of all uses.
@@ -95,5 +91,28 @@ pub fn fill_shares(uses: &[u64], limits: &[u64], shares: &mut [u64], downs: &mut
         shares[n] = share(u, l);
         downs[n] = down_share(u, l);
         n += 1;
+    }
+}
+
+// All of them: what is proved of code over these arrays is what the rules say of the district.
+pub fn fill_all(
+    d: &[usize; 2620],
+    benefits: &mut [u64],
+    uses: &mut [u64],
+    limits: &mut [u64],
+    shares: &mut [u64],
+    downs: &mut [u64],
+) -> Size
+    requires { ⌜ Ranges (now d) × (length (now benefits) ≡ 768) × (length (now uses) ≡ 12288) × (length (now limits) ≡ 16) × (length (now shares) ≡ 12288) × (length (now downs) ≡ 12288) ⌝ }
+    ensures { λ z. ⌜ Filled (now (d .entry)) z (now (benefits .exit)) (now (uses .exit)) (now (limits .exit)) (now (shares .exit)) (now (downs .exit)) ⌝ }
+{
+    fill_benefits(d, benefits);
+    fill_uses(d, uses);
+    fill_limits(d, limits);
+    fill_shares(uses, limits, shares, downs);
+    Size {
+        segments: d[0],
+        strategies: d[1],
+        resources: d[5],
     }
 }
