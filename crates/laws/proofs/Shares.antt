@@ -19,7 +19,7 @@ divide-up-none zero = div-zero 0
 divide-up-none (suc b) = div-eq-of-lt (omega arith)
 
 -- what is at most b, times 10,000, is at most 10,000 times b
-divide-up-small : (a b : ℕ) → a ≤ b → divideUp (a * 10_000) b ≤ 10_000
+pub divide-up-small : (a b : ℕ) → a ≤ b → divideUp (a * 10_000) b ≤ 10_000
 divide-up-small a zero h = rw (div-zero (a * 10_000 + (0 - 1))) (omega arith)
 divide-up-small a (suc b) h =
     let below = div-lt-iff-lt-mul {k = suc b} {x = a * 10_000 + (suc b - 1)} {y = 10_001} (omega arith) .1 (omega arith) in

@@ -1,0 +1,118 @@
+-- `fill::fill_shares` meets its contract.
+use mathlib.Core.Path.{_≡_, sym, _∙_, ap}
+use mathlib.Core.List.{_++_}
+use Prim.Native.Nat.{_+_, _-_, _≤_}
+use native.Mathlib.Nat.{zero-add}
+use native.Mathlib.Omega.{arith}
+use lib.ListN.{length, drop, length-set}
+use Rattle.base.specs.Over.{listedFrom}
+use Rattle.base.proofs.Listed.{fill-none, fill-next, fill-end}
+use Rattle.fill.specs.Lists.{shareEntry, shareList, downShareEntry, downShareList}
+use Rattle.fill.proofs.fill_shares.Statement.{statement}
+use Rattle.fill.proofs.fill_shares.Tie as tie
+
+abbrev Inv-loop : tie.InvT-loop
+Inv-loop uses limits shares₀ downs₀ n₀ shares downs n =
+    (n ≤ 12_288) × (length shares ≡ 12_288) × (shares ≡ listedFrom n 0 (shareEntry uses limits) ++ drop n shares₀)
+    × (length downs ≡ 12_288) × (downs ≡ listedFrom n 0 (downShareEntry uses limits) ++ drop n downs₀)
+
+abbrev μ-loop : tie.MeasureT-loop
+μ-loop uses limits shares₀ downs₀ n₀ shares downs n = 12_288 - n
+
+loop-holds : tie.Need-loop-holds Inv-loop μ-loop
+loop-holds c =
+    let p = c .before .before .before .before .pre .0 in
+    (omega arith, p .2, fill-none _ _ _, p .3, fill-none _ _ _)
+
+mul-u : tie.Need-mul-u Inv-loop μ-loop
+mul-u c = omega arith
+
+shared-slice-read-u : tie.Need-shared-slice-read-u Inv-loop μ-loop
+shared-slice-read-u c = omega arith
+
+mul-l : tie.Need-mul-l Inv-loop μ-loop
+mul-l c = omega arith
+
+shared-slice-read-l : tie.Need-shared-slice-read-l Inv-loop μ-loop
+shared-slice-read-l c = omega arith
+
+share-requires : tie.Need-share-requires Inv-loop μ-loop
+share-requires c κs =
+    let p = c .before .before .before .before .before .before .before .before .pre .1 in
+    (p .0 _, p .1 _)
+
+mul-shares : tie.Need-mul-shares Inv-loop μ-loop
+mul-shares c = omega arith
+
+slice-write-shares : tie.Need-slice-write-shares Inv-loop μ-loop
+slice-write-shares c = omega arith
+
+down-share-requires : tie.Need-down-share-requires Inv-loop μ-loop
+down-share-requires c κs = c .before .before .before .before .before .before .before .before .before .pre .1 .0 _
+
+mul-downs : tie.Need-mul-downs Inv-loop μ-loop
+mul-downs c = omega arith
+
+slice-write-downs : tie.Need-slice-write-downs Inv-loop μ-loop
+slice-write-downs c = omega arith
+
+add-n : tie.Need-add-n Inv-loop μ-loop
+add-n c = omega arith
+
+loop-less : tie.Need-loop-less Inv-loop μ-loop
+loop-less c = omega arith
+
+loop-again : tie.Need-loop-again Inv-loop μ-loop
+unfolding shareEntry downShareEntry
+loop-again c =
+    let l = c .before .before .before .before .before .loop in
+    let s = c .before .before .before .before .before .before .before .before .before .before in
+    let u = s .args .uses .now in
+    let v = s .args .limits .now in
+    let p = s .pre .0 in
+    let z = sym (zero-add (l .n)) in (
+      omega arith,
+      simp length-set (l .inv .1),
+      rw (l .inv .2) (fill-next (shareEntry u v) (l .n) 0 (s .args .shares .now) (omega arith) (c .before .share .ensures ∙ ap (shareEntry u v) z)),
+      simp length-set (l .inv .3),
+      rw (l .inv .4) (fill-next (downShareEntry u v) (l .n) 0 (s .args .downs .now) (omega arith) (c .down-share .ensures ∙ ap (downShareEntry u v) z)),
+    )
+
+same-length : tie.Need-same-length Inv-loop μ-loop
+same-length c = omega arith
+
+same-length-2 : tie.Need-same-length-2 Inv-loop μ-loop
+same-length-2 c = omega arith
+
+returns : tie.Need-returns Inv-loop μ-loop
+unfolding shareList downShareList
+returns c =
+    let l = c .before .loop in
+    let p = c .before .before .before .before .before .before .pre .0 in (
+      l .inv .2 ∙ fill-end _ (l .n) 12_288 0 _ (omega arith) (omega arith),
+      l .inv .4 ∙ fill-end _ (l .n) 12_288 0 _ (omega arith) (omega arith),
+    )
+
+pub fill-shares-spec : {M : Type 1} → statement M
+fill-shares-spec =
+    tie.close
+    (tie.spec
+    Inv-loop
+    μ-loop
+    loop-holds
+    mul-u
+    shared-slice-read-u
+    mul-l
+    shared-slice-read-l
+    share-requires
+    mul-shares
+    slice-write-shares
+    down-share-requires
+    mul-downs
+    slice-write-downs
+    add-n
+    loop-less
+    loop-again
+    same-length
+    same-length-2
+    returns)

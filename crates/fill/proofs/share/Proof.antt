@@ -1,0 +1,27 @@
+-- `fill::share` meets its contract: a quotient by 0 is 0.
+use mathlib.Core.Path.{sym}
+use native.Mathlib.Nat.{div-zero}
+use borrow.Author.Needs.{needs}
+use Rattle.fill.proofs.share.Statement.{statement}
+use Rattle.fill.proofs.share.Tie as tie
+
+returns : tie.Need-returns
+returns c = rw (c .if1 .taken) (sym (div-zero _))
+
+mul-result : tie.Need-mul-result
+mul-result c = search needs
+
+sub-result : tie.Need-sub-result
+sub-result c = search needs
+
+add-result : tie.Need-add-result
+add-result c = search needs
+
+div-result : tie.Need-div-result
+div-result c = search needs
+
+returns-2 : tie.Need-returns-2
+returns-2 c = search needs
+
+pub share-spec : {M : Type 1} → statement M
+share-spec = tie.close (tie.spec returns mul-result sub-result add-result div-result returns-2)

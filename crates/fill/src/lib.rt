@@ -1,0 +1,118 @@
+// The arrays that the phases and the ceiling read, filled once for a plan from a district.
+use tables::Size;
+ghost use mathlib.Core.Path.{_≡_};
+ghost use Prim.Native.Nat.{ℕ, _+_, _-_, _*_, _/_, _^_, _≤_, _<_};
+ghost use lib.ListN.{length, getD};
+ghost use Rattle.base.specs.Over.{listed, divideUp};
+ghost use Rattle.grammar.specs.Ranges.{Ranges};
+ghost use Rattle.rules.specs.Table.{usageIn};
+ghost use Rattle.rating.specs.Numbers.{Segment};
+ghost use Rattle.fill.specs.Filled.{Filled};
+ghost use Rattle.fill.specs.Lists.{benefitList, usageList, limitList, shareList, downShareList};
+
+// The benefits of all segments and strategies.
+pub fn fill_benefits(d: &[usize; 2620], table: &mut [u64])
+    requires { ⌜ Ranges (now d) × (length (now table) ≡ 768) ⌝ }
+    ensures { λ _. ⌜ now (table .exit) ≡ benefitList (now (d .entry)) ⌝ }
+{
+    let mut n = 0;
+    while n < 768 {
+        let b = rating::candidate_benefit(d, n / 12 + 1, n % 12);
+        table[n] = b;
+        n += 1;
+    }
+}
+
+// The uses that strategy j on segment i makes of each resource.
+fn fill_row(d: &[usize; 2620], i: usize, j: usize, row: &mut [u64])
+    requires { ⌜ Ranges (now d) × Segment i × (length (now row) ≡ 16) ⌝ }
+    ensures { λ _. ⌜ now (row .exit) ≡ listed 16 (usageIn (now (d .entry)) i j) ⌝ }
+{
+    let a = rating::area_in(d, i, j);
+    let mut r = 0;
+    while r < 16 {
+        let u = rating::usage_in(d, i, j, r + 1, a);
+        row[r] = u;
+        r += 1;
+    }
+}
+
+// The uses of all segments and strategies, a row for each pair.
+pub fn fill_uses(d: &[usize; 2620], table: &mut [u64])
+    requires { ⌜ Ranges (now d) × (length (now table) ≡ 12288) ⌝ }
+    ensures { λ _. ⌜ now (table .exit) ≡ usageList (now (d .entry)) ⌝ }
+{
+    let mut n = 0;
+    while n < 768 {
+        fill_row(d, n / 12 + 1, n % 12, &mut table[16 * n..16 * n + 16]);
+        n += 1;
+    }
+}
+
+pub fn fill_limits(d: &[usize; 2620], table: &mut [u64])
+    requires { ⌜ Ranges (now d) × (length (now table) ≡ 16) ⌝ }
+    ensures { λ _. ⌜ now (table .exit) ≡ limitList (now (d .entry)) ⌝ }
+{
+    let mut r = 0;
+    while r < 16 {
+        let l = rating::limit_in(d, r + 1);
+        table[r] = l;
+        r += 1;
+    }
+}
+
+// The share that a use is of a limit, in ten-thousandths, rounded up; 0 where the limit is 0.
+fn share(u: u64, l: u64) -> u64
+    requires { ⌜ (u < 2 ^ 41) × (l < 2 ^ 47) ⌝ }
+    ensures { λ s. ⌜ s ≡ divideUp (u * 10000) l ⌝ }
+{
+    if l == 0 { 0 } else { (u * 10000 + (l - 1)) / l }
+}
+
+// The same rounded down.
+fn down_share(u: u64, l: u64) -> u64
+    requires { ⌜ u < 2 ^ 41 ⌝ }
+    ensures { λ s. ⌜ s ≡ u * 10000 / l ⌝ }
+{
+    if l == 0 { 0 } else { u * 10000 / l }
+}
+
+// Both shares of all uses.
+pub fn fill_shares(uses: &[u64], limits: &[u64], shares: &mut [u64], downs: &mut [u64])
+    requires { ⌜ (length (now uses) ≡ 12288) × (length (now limits) ≡ 16) × (length (now shares) ≡ 12288) × (length (now downs) ≡ 12288) ⌝ }
+    requires { ⌜ ((k : ℕ) → getD (now uses) k 0 < 2 ^ 41) × ((k : ℕ) → getD (now limits) k 0 < 2 ^ 47) ⌝ }
+    ensures up { λ _. ⌜ now (shares .exit) ≡ shareList (now (uses .entry)) (now (limits .entry)) ⌝ }
+    ensures down { λ _. ⌜ now (downs .exit) ≡ downShareList (now (uses .entry)) (now (limits .entry)) ⌝ }
+{
+    let mut n = 0;
+    while n < 12288 {
+        let u = uses[n];
+        let l = limits[n % 16];
+        shares[n] = share(u, l);
+        downs[n] = down_share(u, l);
+        n += 1;
+    }
+}
+
+// All of them: what is proved of code over these arrays is what the rules say of the district.
+pub fn fill_all(
+    d: &[usize; 2620],
+    benefits: &mut [u64],
+    uses: &mut [u64],
+    limits: &mut [u64],
+    shares: &mut [u64],
+    downs: &mut [u64],
+) -> Size
+    requires { ⌜ Ranges (now d) × (length (now benefits) ≡ 768) × (length (now uses) ≡ 12288) × (length (now limits) ≡ 16) × (length (now shares) ≡ 12288) × (length (now downs) ≡ 12288) ⌝ }
+    ensures { λ z. ⌜ Filled (now (d .entry)) z (now (benefits .exit)) (now (uses .exit)) (now (limits .exit)) (now (shares .exit)) (now (downs .exit)) ⌝ }
+{
+    fill_benefits(d, benefits);
+    fill_uses(d, uses);
+    fill_limits(d, limits);
+    fill_shares(uses, limits, shares, downs);
+    Size {
+        segments: d[0],
+        strategies: d[1],
+        resources: d[5],
+    }
+}

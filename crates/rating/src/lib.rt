@@ -1,0 +1,390 @@
+// Document 01, "Rating and benefit", of one segment and one strategy of a district. The district is lent: 2,620 numbers at fixed places.
+ghost use mathlib.Core.Path.{_≡_};
+ghost use Prim.Native.Nat.{_+_, _-_, _*_, _≤_};
+ghost use lib.IntN.{natAbs};
+ghost use Rattle.base.specs.Choice.{pick};
+ghost use Rattle.base.specs.Over.{sum, sumZ};
+ghost use Rattle.grammar.specs.Ranges.{Ranges};
+ghost use Rattle.rules.specs.District.{valueAt, limitPlace, greatestPlace, strategyPlace, pavementPlace, segmentPlace, barsPlace, ratingPlace, gainOf, yearsOf, distressesOf, barredIn};
+ghost use Rattle.rules.specs.Rating.{gain, survival, improvements, rating, effect, area, benefit, usage, scaledLimit, reaches, minimumReached, yearsReached, minimaReached, firstRating, overallReached, permitted, fitsAlone, candidate};
+ghost use Rattle.rules.specs.Table.{has, candidateBenefit, usageIn, limitIn};
+ghost use Rattle.rating.specs.Areas.{areaIn};
+ghost use Rattle.rating.specs.Numbers.{Segment, SegmentOf, Strategy, Distress, Year, Pavement, Resource};
+
+// ---- what stands at its places
+
+fn limit_at(d: &[usize; 2620], r: usize) -> usize
+    requires { ⌜ Resource r ⌝ }
+    ensures { λ v. ⌜ v ≡ valueAt (now (d .entry)) (limitPlace r) ⌝ }
+{
+    d[6 + (r - 1)]
+}
+
+fn greatest_at(d: &[usize; 2620], k: usize) -> usize
+    requires { ⌜ Distress k ⌝ }
+    ensures { λ v. ⌜ v ≡ valueAt (now (d .entry)) (greatestPlace k) ⌝ }
+{
+    d[22 + (k - 1)]
+}
+
+fn requirement_at(d: &[usize; 2620], j: usize, r: usize) -> usize
+    requires { ⌜ Strategy j × Resource r ⌝ }
+    ensures { λ v. ⌜ v ≡ valueAt (now (d .entry)) (strategyPlace j + (r - 1)) ⌝ }
+{
+    d[31 + 115 * (j - 1) + (r - 1)]
+}
+
+// the byte of a gain, signed
+fn gain_byte(d: &[usize; 2620], j: usize, k: usize) -> usize
+    requires { ⌜ Strategy j × Distress k ⌝ }
+    ensures { λ v. ⌜ v ≡ valueAt (now (d .entry)) (strategyPlace j + 16 + (k - 1)) ⌝ }
+{
+    d[31 + 115 * (j - 1) + 16 + (k - 1)]
+}
+
+fn percent_at(d: &[usize; 2620], j: usize, k: usize, t: usize) -> usize
+    requires { ⌜ Strategy j × Distress k × Year t ⌝ }
+    ensures { λ v. ⌜ v ≡ valueAt (now (d .entry)) (strategyPlace j + 25 + 10 * (k - 1) + (t - 1)) ⌝ }
+{
+    d[31 + 115 * (j - 1) + 25 + 10 * (k - 1) + (t - 1)]
+}
+
+fn overall_at(d: &[usize; 2620], y: usize) -> usize
+    requires { ⌜ Pavement y ⌝ }
+    ensures { λ v. ⌜ v ≡ valueAt (now (d .entry)) (pavementPlace y) ⌝ }
+{
+    d[1296 + 91 * (y - 1)]
+}
+
+fn minimum_at(d: &[usize; 2620], y: usize, k: usize, t: usize) -> usize
+    requires { ⌜ Pavement y × Distress k × Year t ⌝ }
+    ensures { λ v. ⌜ v ≡ valueAt (now (d .entry)) (pavementPlace y + 1 + 10 * (k - 1) + (t - 1)) ⌝ }
+{
+    d[1296 + 91 * (y - 1) + 1 + 10 * (k - 1) + (t - 1)]
+}
+
+fn pavement_at(d: &[usize; 2620], i: usize) -> usize
+    requires { ⌜ Segment i ⌝ }
+    ensures { λ v. ⌜ v ≡ valueAt (now (d .entry)) (segmentPlace i) ⌝ }
+{
+    d[1660 + 15 * (i - 1)]
+}
+
+// of a segment: 1 traffic index, 2 environment index, 3 length, 4 width, 5 bars
+fn segment_at(d: &[usize; 2620], i: usize, n: usize) -> usize
+    requires { ⌜ Segment i × (n ≤ 5) ⌝ }
+    ensures { λ v. ⌜ v ≡ valueAt (now (d .entry)) (segmentPlace i + n) ⌝ }
+{
+    d[1660 + 15 * (i - 1) + n]
+}
+
+fn rating_at(d: &[usize; 2620], i: usize, k: usize) -> usize
+    requires { ⌜ Segment i × Distress k ⌝ }
+    ensures { λ v. ⌜ v ≡ valueAt (now (d .entry)) (ratingPlace i k) ⌝ }
+{
+    d[1660 + 15 * (i - 1) + 6 + (k - 1)]
+}
+
+// ---- gain and survival
+
+// The gain that strategy j has for distress k.
+fn own_gain(d: &[usize; 2620], j: usize, k: usize) -> i64
+    requires { ⌜ Ranges (now d) × Strategy j × Distress k ⌝ }
+    ensures { λ g. ⌜ g ≡ gainOf (now (d .entry)) j k ⌝ }
+{
+    let byte = gain_byte(d, j, k);
+    if byte < 128 {
+        return byte as i64;
+    }
+    byte as i64 - 256
+}
+
+// The same on segment i, cut to what is left up to the greatest rating.
+pub fn gain(d: &[usize; 2620], i: usize, j: usize, k: usize) -> i64
+    requires { ⌜ Ranges (now d) × Segment i × Strategy j × Distress k ⌝ }
+    ensures { λ g. ⌜ g ≡ gain (now (d .entry)) i j k ⌝ }
+{
+    let own = own_gain(d, j, k);
+    let left = (greatest_at(d, k) - rating_at(d, i, k)) as i64;
+    if own <= left { own } else { left }
+}
+
+// What is left of it in year t, in millionths.
+pub fn survival(d: &[usize; 2620], i: usize, j: usize, k: usize, t: usize) -> usize
+    requires { ⌜ Ranges (now d) × Segment i × Strategy j × Distress k × Year t ⌝ }
+    ensures { λ s. ⌜ s ≡ survival (now (d .entry)) i j k t ⌝ }
+{
+    let loss = segment_at(d, i, 1) * segment_at(d, i, 2) * (100 - percent_at(d, j, k, t));
+    if loss < 1000000 { 1000000 - loss } else { 0 }
+}
+
+// ---- effect, area, benefit
+
+// What is left of a gain in each year, summed over the years.
+fn survivals(d: &[usize; 2620], i: usize, j: usize, k: usize) -> usize
+    requires { ⌜ Ranges (now d) × Segment i × Strategy j × Distress k ⌝ }
+    ensures { λ s. ⌜ s ≡ sum (yearsOf (now (d .entry))) (survival (now (d .entry)) i j k) ⌝ }
+{
+    let years = d[2];
+    let mut total: usize = 0;
+    let mut t = 0;
+    while t < years {
+        total += survival(d, i, j, k, t + 1);
+        t += 1;
+    }
+    total
+}
+
+// What the gain adds over the years: it is a factor that all years share.
+fn improvements(d: &[usize; 2620], i: usize, j: usize, k: usize) -> i64
+    requires { ⌜ Ranges (now d) × Segment i × Strategy j × Distress k ⌝ }
+    ensures { λ z. ⌜ z ≡ improvements (now (d .entry)) i j k ⌝ }
+{
+    gain(d, i, j, k) * (survivals(d, i, j, k) as i64)
+}
+
+// The effect of strategy j on segment i: one division, toward zero, after the whole sum.
+pub fn effect(d: &[usize; 2620], i: usize, j: usize) -> i64
+    requires { ⌜ Ranges (now d) × Segment i × Strategy j ⌝ }
+    ensures { λ e. ⌜ e ≡ effect (now (d .entry)) i j ⌝ }
+{
+    let distresses = d[3];
+    let mut sum: i64 = 0;
+    let mut k = 0;
+    while k < distresses {
+        sum = sum + improvements(d, i, j, k + 1);
+        k += 1;
+    }
+    sum / 10000
+}
+
+pub fn area(d: &[usize; 2620], i: usize) -> u64
+    requires { ⌜ Ranges (now d) × Segment i ⌝ }
+    ensures { λ a. ⌜ a ≡ area (now (d .entry)) i ⌝ }
+{
+    (segment_at(d, i, 3) * segment_at(d, i, 4)) as u64
+}
+
+pub fn benefit(d: &[usize; 2620], i: usize, j: usize) -> i64
+    requires { ⌜ Ranges (now d) × Segment i × Strategy j ⌝ }
+    ensures { λ b. ⌜ b ≡ benefit (now (d .entry)) i j ⌝ }
+{
+    (area(d, i) as i64) * effect(d, i, j)
+}
+
+// ---- uses and limits
+
+pub fn usage(d: &[usize; 2620], i: usize, j: usize, r: usize) -> u64
+    requires { ⌜ Ranges (now d) × Segment i × Strategy j × Resource r ⌝ }
+    ensures { λ u. ⌜ u ≡ usage (now (d .entry)) i j r ⌝ }
+{
+    area(d, i) * (requirement_at(d, j, r) as u64)
+}
+
+pub fn scaled_limit(d: &[usize; 2620], r: usize) -> u64
+    requires { ⌜ Ranges (now d) × Resource r ⌝ }
+    ensures { λ l. ⌜ l ≡ scaledLimit (now (d .entry)) r ⌝ }
+{
+    (limit_at(d, r) as u64) * 100000
+}
+
+// ---- permitted
+
+// Bit j − 1 of the segment's bars, by shift and mask.
+pub fn barred(d: &[usize; 2620], i: usize, j: usize) -> bool
+    requires { ⌜ Segment i × Strategy j ⌝ }
+    ensures { λ b. ⌜ b ≡ barredIn (now (d .entry)) i j ⌝ }
+{
+    (segment_at(d, i, 5) >> (j - 1)) & 1 == 1
+}
+
+// Whether a rating in millionths reaches what is required in whole points.
+fn reaches(z: i64, required: usize) -> bool
+    requires { ⌜ required ≤ 450 ⌝ }
+    ensures { λ b. ⌜ b ≡ reaches z required ⌝ }
+{
+    if required == 0 {
+        return true;
+    }
+    (1000000 * required) as i64 <= z
+}
+
+// The rating in year t, in millionths, g being the gain.
+fn rating(d: &[usize; 2620], i: usize, j: usize, k: usize, t: usize, g: i64) -> i64
+    requires { ⌜ Ranges (now d) × Segment i × Strategy j × Distress k × Year t × (g ≡ gain (now d) i j k) ⌝ }
+    ensures { λ z. ⌜ z ≡ rating (now (d .entry)) i j k t ⌝ }
+{
+    (1000000 * rating_at(d, i, k)) as i64 + g * (survival(d, i, j, k, t) as i64)
+}
+
+fn minimum_reached(d: &[usize; 2620], i: usize, j: usize, k: usize, t: usize, g: i64) -> bool
+    requires { ⌜ Ranges (now d) × SegmentOf (now d) i × Strategy j × Distress k × Year t × (g ≡ gain (now d) i j k) ⌝ }
+    ensures { λ b. ⌜ b ≡ minimumReached (now (d .entry)) i j k t ⌝ }
+{
+    let required = minimum_at(d, pavement_at(d, i), k, t);
+    reaches(rating(d, i, j, k, t, g), required)
+}
+
+fn years_reached(d: &[usize; 2620], i: usize, j: usize, k: usize) -> bool
+    requires { ⌜ Ranges (now d) × SegmentOf (now d) i × Strategy j × Distress k ⌝ }
+    ensures { λ b. ⌜ b ≡ yearsReached (now (d .entry)) i j k ⌝ }
+{
+    let years = d[2];
+    let g = gain(d, i, j, k);
+    let mut t = 0;
+    while t < years {
+        if !minimum_reached(d, i, j, k, t + 1, g) {
+            return false;
+        }
+        t += 1;
+    }
+    true
+}
+
+pub fn minima_reached(d: &[usize; 2620], i: usize, j: usize) -> bool
+    requires { ⌜ Ranges (now d) × SegmentOf (now d) i × Strategy j ⌝ }
+    ensures { λ b. ⌜ b ≡ minimaReached (now (d .entry)) i j ⌝ }
+{
+    let distresses = d[3];
+    let mut k = 0;
+    while k < distresses {
+        if !years_reached(d, i, j, k + 1) {
+            return false;
+        }
+        k += 1;
+    }
+    true
+}
+
+// The ratings of year 1, summed.
+fn first_ratings(d: &[usize; 2620], i: usize, j: usize) -> i64
+    requires { ⌜ Ranges (now d) × Segment i × Strategy j ⌝ }
+    ensures { λ z. ⌜ z ≡ sumZ (distressesOf (now (d .entry))) (firstRating (now (d .entry)) i j) ⌝ }
+{
+    let distresses = d[3];
+    let mut sum: i64 = 0;
+    let mut k = 0;
+    while k < distresses {
+        let g = gain(d, i, j, k + 1);
+        sum = sum + rating(d, i, j, k + 1, 1, g);
+        k += 1;
+    }
+    sum
+}
+
+pub fn overall_reached(d: &[usize; 2620], i: usize, j: usize) -> bool
+    requires { ⌜ Ranges (now d) × SegmentOf (now d) i × Strategy j ⌝ }
+    ensures { λ b. ⌜ b ≡ overallReached (now (d .entry)) i j ⌝ }
+{
+    let required = overall_at(d, pavement_at(d, i));
+    reaches(first_ratings(d, i, j), required)
+}
+
+pub fn permitted(d: &[usize; 2620], i: usize, j: usize) -> bool
+    requires { ⌜ Ranges (now d) × SegmentOf (now d) i × Strategy j ⌝ }
+    ensures { λ b. ⌜ b ≡ permitted (now (d .entry)) i j ⌝ }
+{
+    if barred(d, i, j) {
+        return false;
+    }
+    if !minima_reached(d, i, j) {
+        return false;
+    }
+    overall_reached(d, i, j)
+}
+
+// ---- candidates
+
+// Whether strategy j on segment i stays within each limit by itself.
+pub fn fits_alone(d: &[usize; 2620], i: usize, j: usize) -> bool
+    requires { ⌜ Ranges (now d) × Segment i × Strategy j ⌝ }
+    ensures { λ b. ⌜ b ≡ fitsAlone (now (d .entry)) i j ⌝ }
+{
+    let resources = d[5];
+    let mut r = 0;
+    while r < resources {
+        if scaled_limit(d, r + 1) < usage(d, i, j, r + 1) {
+            return false;
+        }
+        r += 1;
+    }
+    true
+}
+
+// The benefit of a candidate; 0 for any other strategy.
+fn worth(d: &[usize; 2620], i: usize, j: usize) -> u64
+    requires { ⌜ Ranges (now d) × SegmentOf (now d) i × Strategy j ⌝ }
+    ensures { λ b. ⌜ b ≡ pick (candidate (now (d .entry)) i j) (natAbs (benefit (now (d .entry)) i j)) 0 ⌝ }
+{
+    if !permitted(d, i, j) {
+        return 0;
+    }
+    let b = benefit(d, i, j);
+    if b <= 0 {
+        return 0;
+    }
+    if !fits_alone(d, i, j) {
+        return 0;
+    }
+    b as u64
+}
+
+// ---- the table's entries, 0 for what the district does not have
+
+pub fn has(d: &[usize; 2620], i: usize, j: usize) -> bool
+    requires { ⌜ Segment i ⌝ }
+    ensures { λ h. ⌜ h ≡ has (now (d .entry)) i j ⌝ }
+{
+    if d[0] < i {
+        return false;
+    }
+    if j < 1 {
+        return false;
+    }
+    j <= d[1]
+}
+
+pub fn candidate_benefit(d: &[usize; 2620], i: usize, j: usize) -> u64
+    requires { ⌜ Ranges (now d) × Segment i ⌝ }
+    ensures { λ b. ⌜ b ≡ candidateBenefit (now (d .entry)) i j ⌝ }
+{
+    if has(d, i, j) {
+        return worth(d, i, j);
+    }
+    0
+}
+
+// The area that strategy j treats on segment i.
+pub fn area_in(d: &[usize; 2620], i: usize, j: usize) -> u64
+    requires { ⌜ Ranges (now d) × Segment i ⌝ }
+    ensures { λ a. ⌜ a ≡ areaIn (now (d .entry)) i j ⌝ }
+{
+    if has(d, i, j) {
+        return area(d, i);
+    }
+    0
+}
+
+// The use of resource r, a being that area: segment i is named in the contract alone.
+pub fn usage_in(d: &[usize; 2620], i: usize, j: usize, r: usize, a: u64) -> u64
+    requires { ⌜ Ranges (now d) × Segment i × Resource r × (a ≡ areaIn (now d) i j) ⌝ }
+    ensures { λ u. ⌜ u ≡ usageIn (now (d .entry)) i j r ⌝ }
+{
+    if a == 0 {
+        return 0;
+    }
+    if d[5] < r {
+        return 0;
+    }
+    a * (requirement_at(d, j, r) as u64)
+}
+
+pub fn limit_in(d: &[usize; 2620], r: usize) -> u64
+    requires { ⌜ Ranges (now d) × Resource r ⌝ }
+    ensures { λ l. ⌜ l ≡ limitIn (now (d .entry)) r ⌝ }
+{
+    if d[5] < r {
+        return 0;
+    }
+    scaled_limit(d, r)
+}
