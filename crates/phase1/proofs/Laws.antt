@@ -1,19 +1,25 @@
 -- Laws of the searches, shares, pulls and steps of phase 1 over arrays. Assumes nothing.
-use Prim.Native.Nat.{ℕ, _+_, _-_, _*_, _≤_, _<_}
+use Prim.Native.Nat.{ℕ, zero, suc, _+_, _-_, _*_, _^_, _≤_, _<_}
 use mathlib.Core.Path.{_≡_, refl, ap, sym, _∙_}
 use mathlib.Core.Bool.{Bool, true, false, _&&_, _||_, and-false, true≢false}
 use mathlib.Core.List.{List}
 use native.Mathlib.Omega.{arith}
-use borrow.Author.Tests.{ltb-true, lt-ltb}
-use lib.Dec.{ltb, eqb}
-use lib.ListN.{getD, length}
-use Rattle.base.specs.Over.{best, between}
-use Rattle.base.proofs.Best.{Leads, leads-none, leads-taken, leads-kept, leads-end}
+use borrow.Author.Tests.{ltb-true, lt-ltb, leb-true, leb-false, le-leb, lt-leb}
+use lib.Dec.{leb, ltb, eqb}
+use lib.ListN.{getD, length, List·getD-eq-default}
+use lib.Seq.{ext-getD}
+use Rattle.base.specs.Over.{sum, best, between, betterOf}
+use Rattle.base.proofs.Sums.{sum-next, sum-bound, sum-cong}
+use Rattle.base.proofs.All.{all-true, all-fails}
+use Rattle.base.proofs.Best.{best-le, listed-length, Leads, leads-none, leads-taken, leads-kept, leads-end}
 use Rattle.rules.specs.Table.{Table}
-use Rattle.rules.specs.Phases.{isCandidate, greater, comesAfter, topCandidate, nextCandidate}
+use Rattle.rules.specs.Phases.{strategyAt, used, holds, within, isCandidate, greater, comesAfter, topCandidate, nextCandidate, start, chosenShare, surplus, pullBy, pull}
+use Rattle.laws.proofs.Steps.{start-at}
+use Rattle.laws.proofs.Shares.{chosen-share-le, pull-by-le}
 use Rattle.tables.specs.declared.Size.{Size}
-use Rattle.tables.specs.Arrays.{benefitAt, tables}
-use Rattle.phase1.specs.Reduce.{follows}
+use Rattle.tables.specs.Arrays.{benefitAt, usageAt, limitAt, tables, Uses, Chosen, Cell}
+use Rattle.tables.proofs.Laws.{limit-at, usage-lt, cell-of}
+use Rattle.phase1.specs.Reduce.{follows, shareAt, Held, Surpluses}
 
 -- ---- candidates, in the order of the search
 
@@ -73,3 +79,122 @@ module _ (z : Size) (b u l : List ℕ) (i : ℕ) where
   pub next-end : (a : ℕ) {n next gain : ℕ} → Leads (later b i a) (benefitAt b i) n next gain → n ≡ z .strategies → next ≡ nextCandidate (tables z b u l) i a
   unfolding nextCandidate comesAfter isCandidate greater follows
   next-end a {n} {next} {gain} leads e = leads-end (later b i a) (benefitAt b i) n next gain leads e
+
+-- ---- the start
+
+pub start-is : (t : Table) (c : List ℕ) → length c ≡ 64 → ((k : ℕ) → 1 ≤ k → k ≤ 64 → strategyAt c k ≡ topCandidate t k) → c ≡ start t
+unfolding start
+start-is t c places tops =
+    ext-getD 0 c (start t) (places ∙ sym (listed-length 64 1 (topCandidate t)))
+    (λ k h.
+    let e : k + 1 - 1 ≡ k = omega arith in
+    rw e at (tops (k + 1) (omega arith) (omega arith) ∙ sym (start-at t (k + 1) (omega arith) (omega arith))))
+
+pub start-chosen : (z : Size) (b u l : List ℕ) → Chosen z (start (tables z b u l))
+unfolding start topCandidate
+start-chosen z b u l = record { places = listed-length 64 1 (topCandidate t); numbers = λ i. known i (leb i 64) refl }
+  where
+    t : Table
+    t = tables z b u l
+
+    small : (i : ℕ) → topCandidate t i ≤ z .strategies
+    small i = best-le (z .strategies) (isCandidate t i) (greater t i)
+
+    known : (i : ℕ) (v : Bool) → leb i 64 ≡ v → strategyAt (start t) i ≤ z .strategies
+    known zero v e = rw (start-at t 1 (omega arith) (omega arith)) (small 1)
+    known (suc i) true e = rw (start-at t (suc i) (omega arith) (leb-true (suc i) 64 e)) (small (suc i))
+    known (suc i) false e = rw (List·getD-eq-default (start t) 0 {n = suc i - 1} (omega (arith, listed-length 64 1 (topCandidate t), leb-false (suc i) 64 e))) (omega arith)
+
+-- what the first segments use
+pub used-le : (u : List ℕ) → Uses u → (c : List ℕ) (r n : ℕ) → n ≤ 64 → sum n (λ k. usageAt u k (strategyAt c k) r) ≤ 2 ^ 47
+used-le u uses c r n h =
+    let each = sum-bound n (2 ^ 41) (λ k. usageAt u k (strategyAt c k) r) (λ k lk hk. let w = usage-lt u uses k (strategyAt c k) r in omega arith) in
+    omega arith
+
+-- ---- what arrays of shares and surpluses hold of a programme
+
+abbrev pub heldShare : List ℕ → List ℕ → ℕ → ℕ → ℕ
+heldShare s c r i = shareAt s i (strategyAt c i) r
+
+abbrev pub heldPull : List ℕ → List ℕ → List ℕ → ℕ → ℕ → ℕ
+heldPull s c over i r = heldShare s c r i * getD over (r - 1) 0
+
+-- a turn adds a resource's part of the pull, which is 0 where there is no surplus
+module _ (s c over : List ℕ) (i r : ℕ) {so-far : ℕ} (is : so-far ≡ sum r (heldPull s c over i)) where
+  pub pull-turn : {v : ℕ} → v ≡ heldShare s c (r + 1) i → so-far + v * getD over r 0 ≡ sum (r + 1) (heldPull s c over i)
+  pull-turn {v} e =
+      let here : r + 1 - 1 ≡ r = omega arith in
+      let part : v * getD over r 0 ≡ heldPull s c over i (r + 1) = rw e (ap (λ (k : ℕ). heldShare s c (r + 1) i * getD over k 0) (sym here)) in
+      rw part (sum-next r (heldPull s c over i) is)
+
+  pub pull-skip : getD over r 0 ≤ 0 → so-far ≡ sum (r + 1) (heldPull s c over i)
+  pull-skip h =
+      let none : getD over r 0 ≡ 0 = omega arith in
+      let same = rw none at (pull-turn {v = heldShare s c (r + 1) i} refl) in
+      omega arith
+
+-- ---- shares, surpluses and pulls of what is held
+
+module _ (z : Size) (b u l s c sums : List ℕ) (held : Held z b u l s c sums) where
+  share-is : (i r : ℕ) → 1 ≤ i → i ≤ z .segments → 1 ≤ r → r ≤ z .resources → shareAt s i (strategyAt c i) r ≡ chosenShare (tables z b u l) c r i
+  unfolding chosenShare
+  share-is i r li hi lr hr = held .shares .shares-are i (strategyAt c i) r li hi (held .ready .chosen .numbers i) lr hr
+
+  share-le : (i r : ℕ) → 1 ≤ i → i ≤ z .segments → 1 ≤ r → r ≤ z .resources → shareAt s i (strategyAt c i) r ≤ 10_000
+  share-le i r li hi lr hr = rw (share-is i r li hi lr hr) (chosen-share-le (tables z b u l) (held .fit) c (held .candidates) i r li hi lr hr)
+
+  pub held-cell : (i : ℕ) → 1 ≤ i → i ≤ z .segments → Cell i (strategyAt c i)
+  held-cell i low high = cell-of z b u l (held .ready .sound) i (strategyAt c i) low high (held .ready .chosen .numbers i)
+
+  module _ (r : ℕ) (lr : 1 ≤ r) (hr : r ≤ z .resources) where
+    pub shares-sum : {v : ℕ} → v ≡ sum (z .segments) (heldShare s c r) → v ≡ sum (z .segments) (chosenShare (tables z b u l) c r)
+    shares-sum e = e ∙ sum-cong (z .segments) (heldShare s c r) (chosenShare (tables z b u l) c r) (λ i li hi. share-is i r li hi lr hr)
+
+    pub shares-le : (n : ℕ) → n ≤ z .segments → sum n (heldShare s c r) ≤ 640_000
+    shares-le n h = omega (arith, sum-bound n 10_000 (heldShare s c r) (λ i li hi. share-le i r li (omega arith) lr hr), held .ready .sound .segments)
+
+    limit-is : limitAt l r ≡ getD l (r - 1) 0
+    limit-is = limit-at l r lr (omega (arith, held .ready .sound .resources))
+
+    sum-is : getD sums (r - 1) 0 ≡ used (tables z b u l) c r
+    sum-is = held .ready .sums-are r lr hr
+
+    pub limit-holds : getD sums (r - 1) 0 ≤ getD l (r - 1) 0 → holds (tables z b u l) c r ≡ true
+    unfolding holds
+    limit-holds h = le-leb (used (tables z b u l) c r) (limitAt l r) (omega (arith, limit-is, sum-is))
+
+    pub limit-fails : getD l (r - 1) 0 < getD sums (r - 1) 0 → holds (tables z b u l) c r ≡ false
+    unfolding holds
+    limit-fails h = lt-leb (used (tables z b u l) c r) (limitAt l r) (omega (arith, limit-is, sum-is))
+
+    pub surplus-none : getD sums (r - 1) 0 ≤ getD l (r - 1) 0 → surplus (tables z b u l) c r ≡ 0
+    unfolding surplus
+    surplus-none h = rw (limit-holds h)
+
+    pub surplus-some : getD l (r - 1) 0 < getD sums (r - 1) 0 → surplus (tables z b u l) c r ≡ sum (z .segments) (chosenShare (tables z b u l) c r) - 10_000
+    unfolding surplus
+    surplus-some h = rw (limit-fails h)
+
+  pub not-within : (r : ℕ) → 1 ≤ r → r ≤ z .resources → getD l (r - 1) 0 < getD sums (r - 1) 0 → false ≡ within (tables z b u l) c
+  unfolding within
+  not-within r lr hr h = sym (all-fails (z .resources) (holds (tables z b u l) c) r lr hr (limit-fails r lr hr h))
+
+  pub is-within : ((r : ℕ) → 1 ≤ r → r ≤ z .resources → getD sums (r - 1) 0 ≤ getD l (r - 1) 0) → true ≡ within (tables z b u l) c
+  unfolding within
+  is-within h = sym (all-true (z .resources) (holds (tables z b u l) c) (λ r lr hr. limit-holds r lr hr (h r lr hr)))
+
+  -- segment i's pull, by an array of the surpluses
+  module _ (over : List ℕ) (is : Surpluses z b u l c over) (i : ℕ) (li : 1 ≤ i) (hi : i ≤ z .segments) where
+    term-is : (r : ℕ) → 1 ≤ r → r ≤ z .resources → heldPull s c over i r ≡ pullBy (tables z b u l) c i r
+    unfolding pullBy
+    term-is r lr hr = rw (share-is i r li hi lr hr, is .surplus-is r lr hr)
+
+    pub pull-sum : {v : ℕ} → v ≡ sum (z .resources) (heldPull s c over i) → v ≡ pull (tables z b u l) c i
+    unfolding pull
+    pull-sum e = e ∙ sum-cong (z .resources) (heldPull s c over i) (pullBy (tables z b u l) c i) term-is
+
+    pub pull-le : (n : ℕ) → n ≤ z .resources → sum n (heldPull s c over i) ≤ 102_400_000_000
+    pull-le n h =
+        let each = sum-bound n 6_400_000_000 (heldPull s c over i)
+        (λ r lr hr. rw (term-is r lr (omega arith)) (pull-by-le (tables z b u l) (held .fit) c (held .candidates) i r li hi lr (omega arith))) in
+        omega (arith, held .ready .sound .resources)
