@@ -1,25 +1,26 @@
 -- Laws of the searches, shares, pulls and steps of phase 1 over arrays. Assumes nothing.
-use Prim.Native.Nat.{ℕ, zero, suc, _+_, _-_, _*_, _^_, _≤_, _<_}
+use Prim.Native.Nat.{ℕ, zero, suc, _+_, _-_, _*_, _/_, _^_, _≤_, _<_}
 use mathlib.Core.Path.{_≡_, refl, ap, sym, _∙_}
 use mathlib.Core.Bool.{Bool, true, false, _&&_, _||_, and-false, true≢false}
 use mathlib.Core.List.{List}
 use native.Mathlib.Omega.{arith}
-use borrow.Author.Tests.{ltb-true, lt-ltb, leb-true, leb-false, le-leb, lt-leb}
+use borrow.Author.Tests.{ltb-true, lt-ltb, le-ltb, leb-true, leb-false, le-leb, lt-leb}
 use lib.Dec.{leb, ltb, eqb}
 use lib.ListN.{getD, length, List·getD-eq-default}
 use lib.Seq.{ext-getD}
 use Rattle.base.specs.Over.{sum, best, between, betterOf}
 use Rattle.base.proofs.Sums.{sum-next, sum-bound, sum-cong}
 use Rattle.base.proofs.All.{all-true, all-fails}
-use Rattle.base.proofs.Best.{best-le, listed-length, Leads, leads-none, leads-taken, leads-kept, leads-end}
+use Rattle.base.proofs.Best.{best-le, better-passed, better-first, better-taken, better-worse, listed-length, Leads, leads-none, leads-taken, leads-kept, leads-end}
 use Rattle.rules.specs.Table.{Table}
-use Rattle.rules.specs.Phases.{strategyAt, used, holds, within, isCandidate, greater, comesAfter, topCandidate, nextCandidate, start, chosenShare, surplus, pullBy, pull}
+use Rattle.rules.specs.Phases.{strategyAt, chosenBenefit, used, holds, within, isCandidate, greater, comesAfter, topCandidate, nextCandidate, start, chosenShare, surplus, pullBy, pull, pulls, ratio, lesserRatio}
 use Rattle.laws.proofs.Steps.{start-at}
 use Rattle.laws.proofs.Shares.{chosen-share-le, pull-by-le}
 use Rattle.tables.specs.declared.Size.{Size}
 use Rattle.tables.specs.Arrays.{benefitAt, usageAt, limitAt, tables, Uses, Chosen, Cell}
 use Rattle.tables.proofs.Laws.{limit-at, usage-lt, cell-of}
-use Rattle.phase1.specs.Reduce.{follows, shareAt, Held, Surpluses}
+use Rattle.phase1.specs.declared.Weak.{Weak}
+use Rattle.phase1.specs.Reduce.{follows, shareAt, Held, Surpluses, weakAt}
 
 -- ---- candidates, in the order of the search
 
@@ -90,9 +91,9 @@ start-is t c places tops =
     let e : k + 1 - 1 ≡ k = omega arith in
     rw e at (tops (k + 1) (omega arith) (omega arith) ∙ sym (start-at t (k + 1) (omega arith) (omega arith))))
 
-pub start-chosen : (z : Size) (b u l : List ℕ) → Chosen z (start (tables z b u l))
+pub start-chosen : (z : Size) (b u l : List ℕ) {c : List ℕ} → c ≡ start (tables z b u l) → Chosen z c
 unfolding start topCandidate
-start-chosen z b u l = record { places = listed-length 64 1 (topCandidate t); numbers = λ i. known i (leb i 64) refl }
+start-chosen z b u l is = rw is (record { places = listed-length 64 1 (topCandidate t); numbers = λ i. known i (leb i 64) refl })
   where
     t : Table
     t = tables z b u l
@@ -198,3 +199,44 @@ module _ (z : Size) (b u l s c sums : List ℕ) (held : Held z b u l s c sums) w
         let each = sum-bound n 6_400_000_000 (heldPull s c over i)
         (λ r lr hr. rw (term-is r lr (omega arith)) (pull-by-le (tables z b u l) (held .fit) c (held .candidates) i r li hi lr (omega arith))) in
         omega (arith, held .ready .sound .resources)
+
+-- ---- the weaker of two: w stands for segment k, and segment i is compared with it
+
+module _ (t : Table) (c : List ℕ) (k i : ℕ) {w : Weak} (is : w ≡ weakAt t c k) where
+  abbrev weaker-one : ℕ
+  weaker-one = betterOf (pulls t c) (lesserRatio t c) k i
+
+  segment-is : w .segment ≡ k
+  segment-is = ap (λ (x : Weak). x .segment) is
+
+  ratio-is : w .ratio ≡ ratio t c k
+  ratio-is = ap (λ (x : Weak). x .ratio) is
+
+  pub weak-idle : {p : ℕ} → p ≡ pull t c i → p ≡ 0 → w ≡ weakAt t c weaker-one
+  unfolding pulls
+  weak-idle e z = is ∙ ap (weakAt t c) (sym (better-passed (pulls t c) (lesserRatio t c) k i (le-ltb 0 (pull t c i) (omega arith))))
+
+  module _ {v p : ℕ} (gain : v ≡ chosenBenefit t c i) (pulled : p ≡ pull t c i) (some : p ≡ 0 → ⊥) where
+    made : v * 1_000_000 / p ≡ ratio t c i
+    unfolding ratio
+    made = rw (gain, pulled)
+
+    passes : pulls t c i ≡ true
+    unfolding pulls
+    passes = lt-ltb 0 (pull t c i) (omega arith)
+
+    step-in : weaker-one ≡ i → _≡_ {A = Weak} (record { segment = i; ratio = v * 1_000_000 / p }) (weakAt t c weaker-one)
+    step-in e = rw (e, made)
+
+    pub weak-first : w .segment ≡ 0 → _≡_ {A = Weak} (record { segment = i; ratio = v * 1_000_000 / p }) (weakAt t c weaker-one)
+    weak-first z = step-in (better-first (pulls t c) (lesserRatio t c) k i passes (sym segment-is ∙ z))
+
+    pub weak-taken : (w .segment ≡ 0 → ⊥) → v * 1_000_000 / p < w .ratio → _≡_ {A = Weak} (record { segment = i; ratio = v * 1_000_000 / p }) (weakAt t c weaker-one)
+    unfolding lesserRatio
+    weak-taken ne h =
+        step-in (better-taken (pulls t c) (lesserRatio t c) k i passes (omega (arith, segment-is)) (lt-ltb (ratio t c i) (ratio t c k) (omega (arith, made, ratio-is))))
+
+    pub weak-worse : (w .segment ≡ 0 → ⊥) → w .ratio ≤ v * 1_000_000 / p → w ≡ weakAt t c weaker-one
+    unfolding lesserRatio
+    weak-worse ne h =
+        is ∙ ap (weakAt t c) (sym (better-worse (pulls t c) (lesserRatio t c) k i passes (omega (arith, segment-is)) (le-ltb (ratio t c i) (ratio t c k) (omega (arith, made, ratio-is)))))
