@@ -1,23 +1,26 @@
 -- Laws of the searches, shares, pulls and steps of phase 1 over arrays. Assumes nothing.
 use Prim.Native.Nat.{ℕ, zero, suc, _+_, _-_, _*_, _/_, _^_, _≤_, _<_}
 use mathlib.Core.Path.{_≡_, refl, ap, sym, _∙_}
-use mathlib.Core.Bool.{Bool, true, false, _&&_, _||_, and-false, true≢false}
+use mathlib.Core.Bool.{Bool, true, false, _&&_, and-false, true≢false}
 use mathlib.Core.List.{List}
+use mathlib.Core.Option.{none, some}
+use native.Mathlib.Nat.{zero-div, mul-le-mul}
 use native.Mathlib.Omega.{arith}
 use borrow.Author.Tests.{ltb-true, lt-ltb, le-ltb, leb-true, leb-false, le-leb, lt-leb}
-use lib.Dec.{leb, ltb, eqb}
+use lib.Dec.{leb, ltb}
 use lib.ListN.{getD, length, List·getD-eq-default}
 use lib.Seq.{ext-getD}
 use Rattle.base.specs.Over.{sum, best, between, betterOf}
 use Rattle.base.proofs.Sums.{sum-next, sum-bound, sum-cong}
 use Rattle.base.proofs.All.{all-true, all-fails}
-use Rattle.base.proofs.Best.{best-le, better-passed, better-first, better-taken, better-worse, listed-length, Leads, leads-none, leads-taken, leads-kept, leads-end}
+use Rattle.base.proofs.Best.{best-next, best-le, better-passed, better-first, better-taken, better-worse, listed-length, Leads, leads-none, leads-taken, leads-kept, leads-end}
+use Rattle.base.proofs.Runs.{Reached, reached-start, reached-next, reached-end, reached-spent}
 use Rattle.rules.specs.Table.{Table}
-use Rattle.rules.specs.Phases.{strategyAt, chosenBenefit, used, holds, within, isCandidate, greater, comesAfter, topCandidate, nextCandidate, start, chosenShare, surplus, pullBy, pull, pulls, ratio, lesserRatio}
-use Rattle.laws.proofs.Steps.{start-at}
+use Rattle.rules.specs.Phases.{strategyAt, chosenBenefit, used, holds, within, isCandidate, greater, comesAfter, topCandidate, nextCandidate, start, chosenShare, surplus, pullBy, pull, pulls, ratio, lesserRatio, weakest, give, step, phase1}
+use Rattle.laws.proofs.Steps.{start-at, weakest-le, stepped, step-within, step-nobody, step-some, step-allowed}
 use Rattle.laws.proofs.Shares.{chosen-share-le, pull-by-le}
 use Rattle.tables.specs.declared.Size.{Size}
-use Rattle.tables.specs.Arrays.{benefitAt, usageAt, limitAt, tables, Uses, Chosen, Cell}
+use Rattle.tables.specs.Arrays.{benefitAt, usageAt, limitAt, tables, Uses, Sound, Chosen, Cell, Ready}
 use Rattle.tables.proofs.Laws.{limit-at, usage-lt, cell-of}
 use Rattle.phase1.specs.declared.Weak.{Weak}
 use Rattle.phase1.specs.Reduce.{follows, shareAt, Held, Surpluses, weakAt}
@@ -240,3 +243,80 @@ module _ (t : Table) (c : List ℕ) (k i : ℕ) {w : Weak} (is : w ≡ weakAt t 
     unfolding lesserRatio
     weak-worse ne h =
         is ∙ ap (weakAt t c) (sym (better-worse (pulls t c) (lesserRatio t c) k i passes (omega (arith, segment-is)) (le-ltb (ratio t c i) (ratio t c k) (omega (arith, made, ratio-is)))))
+
+-- the weakest of the first n segments
+abbrev pub weakestOf : Table → List ℕ → ℕ → ℕ
+weakestOf t c n = best n (pulls t c) (lesserRatio t c)
+
+pub weakest-none : (z : Size) (b u l c : List ℕ) → record { segment = 0; ratio = 0 } ≡ weakAt (tables z b u l) c (weakestOf (tables z b u l) c 0)
+unfolding best ratio chosenBenefit benefitAt
+weakest-none z b u l c = rw (zero-div (pull (tables z b u l) c 0))
+
+module _ (t : Table) (c : List ℕ) (n : ℕ) {w : Weak} where
+  pub weakest-next : w ≡ weakAt t c (betterOf (pulls t c) (lesserRatio t c) (weakestOf t c n) (n + 1)) → w ≡ weakAt t c (weakestOf t c (n + 1))
+  weakest-next e = e ∙ ap (weakAt t c) (best-next n (pulls t c) (lesserRatio t c) refl)
+
+  pub weakest-end : w ≡ weakAt t c (weakestOf t c n) → n ≡ t .segments → w .segment ≡ weakest t c
+  unfolding weakest
+  weakest-end e q = ap (λ (x : Weak). x .segment) e ∙ ap (weakestOf t c) q
+
+pub bound-le : (z : Size) (b u l : List ℕ) → Sound z b u l → z .segments * z .strategies ≤ 704
+bound-le z b u l sound = mul-le-mul {n₁ = z .segments} {m₁ = z .strategies} {n₂ = 64} {m₂ = 11} (sound .segments) (sound .strategies)
+
+-- ---- the steps: from programme c₀ they stand at c after m of them
+
+pub record Down (z : Size) (b u l s c₀ c sums : List ℕ) (m : ℕ) : Type 0 where
+  pub held : Held z b u l s c sums
+  pub reached : Reached (step (tables z b u l)) (z .segments * z .strategies) c₀ c m
+
+pub down-start : (z : Size) (b u l s c sums : List ℕ) → Held z b u l s c sums → Down z b u l s c c sums 0
+down-start z b u l s c sums h = record { held = h; reached = reached-start (step (tables z b u l)) (z .segments * z .strategies) c }
+
+module _ (z : Size) (b u l s c₀ c sums : List ℕ) (m : ℕ) (down : Down z b u l s c₀ c sums m) where
+  -- what reduce ensures of where it stops
+  abbrev Done : Type 0
+  Done = Ready z b u l c sums × ((c ≡ phase1 (tables z b u l) c₀ .last) × (m ≡ phase1 (tables z b u l) c₀ .count))
+
+  done : (phase1 (tables z b u l) c₀ .last ≡ c) × (phase1 (tables z b u l) c₀ .count ≡ m) → Done
+  done e = (down .held .ready, (sym (e .0), sym (e .1)))
+
+  stop : step (tables z b u l) c ≡ none → Done
+  unfolding phase1
+  stop e = done (reached-end (step (tables z b u l)) (z .segments * z .strategies) c₀ c m (down .reached) e)
+
+  pub down-spent : z .segments * z .strategies ≤ m → Done
+  unfolding phase1
+  down-spent h = done (reached-spent (step (tables z b u l)) (z .segments * z .strategies) c₀ c m (down .reached) h)
+
+  pub down-within : {ok : Bool} → ok ≡ within (tables z b u l) c → ok ≡ true → Done
+  down-within e h = stop (step-within (tables z b u l) c (sym e ∙ h))
+
+  module _ {ok : Bool} (tested : ok ≡ within (tables z b u l) c) (over : ok ≡ false) {i : ℕ} (is : i ≡ weakest (tables z b u l) c) where
+    pub down-nobody : i ≡ 0 → Done
+    down-nobody e = stop (step-nobody (tables z b u l) c (sym tested ∙ over) (sym is ∙ e))
+
+    pub weakest-inside : i ≤ z .segments
+    weakest-inside = rw is (weakest-le (tables z b u l) c)
+
+    pub weakest-cell : (i ≡ 0 → ⊥) → Cell i (z .strategies)
+    weakest-cell ne = cell-of z b u l (down .held .ready .sound) i (z .strategies) (omega arith) weakest-inside (omega arith)
+
+    -- the weakest segment takes its next candidate
+    pub down-next : (i ≡ 0 → ⊥) → m < z .segments * z .strategies → {j : ℕ} → j ≡ nextCandidate (tables z b u l) i (strategyAt c i)
+        → {d sums₂ : List ℕ} → Ready z b u l d sums₂ → d ≡ give c i j → Down z b u l s c₀ d sums₂ (m + 1)
+    down-next ne h {j} e {d} ready given =
+        let to : d ≡ stepped (tables z b u l) c i = given ∙ ap (give c i) e in
+        let some-step : step (tables z b u l) c ≡ some d = rw to (step-some (tables z b u l) c (sym tested ∙ over) i (sym is) (omega arith)) in
+        record {
+          held = record {
+            ready = ready;
+            fit = down .held .fit;
+            shares = down .held .shares;
+            candidates = step-allowed (tables z b u l) (down .held .fit .segments) c d some-step (down .held .candidates);
+          };
+          reached = reached-next (step (tables z b u l)) (z .segments * z .strategies) c₀ c d m (down .reached) h some-step;
+        }
+
+pub next-le : (z : Size) (b u l : List ℕ) (i a : ℕ) {j : ℕ} → j ≡ nextCandidate (tables z b u l) i a → j ≤ z .strategies
+unfolding nextCandidate
+next-le z b u l i a e = rw e (best-le (z .strategies) (comesAfter (tables z b u l) i a) (greater (tables z b u l) i))

@@ -6,10 +6,10 @@ use mathlib.Core.Bool.{Bool, _&&_, _||_}
 use lib.Dec.{eqb, ltb}
 use lib.ListN.{getD, length}
 use Rattle.rules.specs.Table.{Table}
-use Rattle.rules.specs.Phases.{strategyAt, share, surplus, ratio}
+use Rattle.rules.specs.Phases.{share, surplus, ratio}
 use Rattle.laws.specs.Tables.{FitAlone, OfCandidates}
 use Rattle.tables.specs.declared.Size.{Size}
-use Rattle.tables.specs.Arrays.{entry, tables, Chosen, Ready}
+use Rattle.tables.specs.Arrays.{entry, tables, Ready}
 use Rattle.phase1.specs.declared.Weak.{Weak}
 
 -- what an array at the places of uses holds for resource r of strategy j on segment i

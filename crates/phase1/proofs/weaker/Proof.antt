@@ -4,7 +4,6 @@ use denote.Ref.{now}
 use Rattle.rules.specs.Phases.{strategyAt, chosenBenefit}
 use Rattle.tables.proofs.Laws.{benefit-lt, gains-of}
 use Rattle.phase1.proofs.Laws.{held-cell, weak-idle, weak-first, weak-taken, weak-worse}
-use borrow.Author.Needs.{needs}
 use Rattle.phase1.proofs.weaker.Statement.{statement}
 use Rattle.phase1.proofs.weaker.Tie as tie
 use Rattle.phase1.proofs.weaker.Reads as reads
