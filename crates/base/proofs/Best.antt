@@ -6,7 +6,7 @@ use mathlib.Core.Logic.{_⊎_, inl, inr}
 use native.Mathlib.Nat.{eq-or-lt-of-le, le-refl}
 use native.Mathlib.Numerals.{add-one}
 use native.Mathlib.Omega.{arith}
-use borrow.Author.Tests.{ltb-true, ltb-false, eqb-true, eqb-false}
+use borrow.Author.Tests.{ltb-true, ltb-false, eqb-true, eqb-false, eq-eqb, ne-eqb}
 use lib.Dec.{ltb, eqb}
 use lib.ListN.{getD, length}
 use Rattle.base.specs.Choice.{pick}
@@ -35,6 +35,23 @@ module _ (p : ℕ → Bool) (better : ℕ → ℕ → Bool) where
       go earlier true e true = each (suc n) (omega arith) (omega arith) e
       go earlier true e false = earlier
       go earlier false e y = earlier
+
+  -- the cases of a turn
+  pub better-passed : (b m : ℕ) → p m ≡ false → betterOf p better b m ≡ b
+  unfolding betterOf
+  better-passed b m e = rw e
+
+  pub better-first : (b m : ℕ) → p m ≡ true → b ≡ 0 → betterOf p better b m ≡ m
+  unfolding betterOf
+  better-first b m e z = rw (e, eq-eqb b 0 z)
+
+  pub better-taken : (b m : ℕ) → p m ≡ true → 1 ≤ b → better m b ≡ true → betterOf p better b m ≡ m
+  unfolding betterOf
+  better-taken b m e l f = rw (e, ne-eqb b 0 (λ z. omega arith), f)
+
+  pub better-worse : (b m : ℕ) → p m ≡ true → 1 ≤ b → better m b ≡ false → betterOf p better b m ≡ b
+  unfolding betterOf
+  better-worse b m e l f = rw (e, ne-eqb b 0 (λ z. omega arith), f)
 
   -- it is not 0 where one passes
   pub best-some : (n k : ℕ) → 1 ≤ k → k ≤ n → p k ≡ true → 1 ≤ best n p better

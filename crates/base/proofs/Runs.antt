@@ -86,3 +86,10 @@ module _ {A : Type 0} (next : A → Option A) (bound : ℕ) (start : A) where
   reached-end s m here e =
       let ended = run-end next (bound - m) s e in
       (here .last ∙ ap (λ (r : Run A). r .last) ended, let c = ap (λ (r : Run A). r .count) ended in omega (arith, here .count))
+
+  pub reached-spent : (s : A) (m : ℕ) → Reached next bound start s m → bound ≤ m → (run next bound start .last ≡ s) × (run next bound start .count ≡ m)
+  unfolding run
+  reached-spent s m here l =
+      let none-left : bound - m ≡ 0 = omega (arith, l) in
+      let ended : run next (bound - m) s ≡ record { last = s; count = 0 } = rw none-left in
+      (here .last ∙ ap (λ (r : Run A). r .last) ended, let c = ap (λ (r : Run A). r .count) ended in omega (arith, here .count, here .spent))

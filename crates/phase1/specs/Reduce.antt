@@ -6,10 +6,10 @@ use mathlib.Core.Bool.{Bool, _&&_, _||_}
 use lib.Dec.{eqb, ltb}
 use lib.ListN.{getD, length}
 use Rattle.rules.specs.Table.{Table}
-use Rattle.rules.specs.Phases.{strategyAt, share, surplus, ratio}
+use Rattle.rules.specs.Phases.{share, surplus, ratio}
 use Rattle.laws.specs.Tables.{FitAlone, OfCandidates}
 use Rattle.tables.specs.declared.Size.{Size}
-use Rattle.tables.specs.Arrays.{entry, tables, Chosen, Ready}
+use Rattle.tables.specs.Arrays.{entry, tables, Ready}
 use Rattle.phase1.specs.declared.Weak.{Weak}
 
 -- what an array at the places of uses holds for resource r of strategy j on segment i
@@ -30,21 +30,9 @@ pub record Held (z : Size) (b u l s c sums : List ℕ) : Type 0 where
   pub shares : Shares z b u l s
   pub candidates : OfCandidates (tables z b u l) c
 
--- of the shares alone: sizes, and bounds under which no sum wraps
-pub record Weighed (z : Size) (s c : List ℕ) : Type 0 where
-  pub segments : z .segments ≤ 64
-  pub strategies : z .strategies ≤ 11
-  pub resources : z .resources ≤ 16
-  pub places : length s ≡ 12_288
-  pub chosen : Chosen z c
-  pub small : (i r : ℕ) → 1 ≤ i → i ≤ z .segments → 1 ≤ r → r ≤ z .resources → shareAt s i (strategyAt c i) r ≤ 10_000
-
 -- an array of the surpluses, resource by resource
 pub record Surpluses (z : Size) (b u l c over : List ℕ) : Type 0 where
   pub surplus-is : (r : ℕ) → 1 ≤ r → r ≤ z .resources → getD over (r - 1) 0 ≡ surplus (tables z b u l) c r
-
-pub record Bounded (z : Size) (over : List ℕ) : Type 0 where
-  pub small : (r : ℕ) → 1 ≤ r → r ≤ z .resources → getD over (r - 1) 0 ≤ 640_000
 
 -- segment i with its ratio; 0 is none
 abbrev pub weakAt : Table → List ℕ → ℕ → Weak

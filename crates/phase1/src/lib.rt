@@ -1,10 +1,11 @@
 // Phase 1: each segment takes its top candidate; while some limit does not hold, the weakest segment steps down.
 ghost use mathlib.Core.Path.{_≡_};
 ghost use mathlib.Core.List.{List};
-ghost use Prim.Native.Nat.{ℕ, _<_, _≤_, _*_};
-ghost use lib.ListN.{length, getD};
+ghost use Prim.Native.Nat.{ℕ, _<_, _≤_};
+ghost use lib.ListN.{length};
 ghost use Rattle.base.specs.Over.{sum, betterOf};
 ghost use Rattle.rules.specs.Phases.{
+  strategyAt,
   used,
   within,
   topCandidate,
@@ -18,8 +19,8 @@ ghost use Rattle.rules.specs.Phases.{
   nextCandidate,
   phase1,
 };
-ghost use Rattle.tables.specs.Arrays.{tables, Gains, Uses, Cell, Chosen, Sound, Ready};
-ghost use Rattle.phase1.specs.Reduce.{Held, Weighed, Surpluses, Bounded, weakAt, follows};
+ghost use Rattle.tables.specs.Arrays.{usageAt, tables, Gains, Uses, Cell, Chosen, Sound, Ready};
+ghost use Rattle.phase1.specs.Reduce.{shareAt, Held, Surpluses, weakAt, follows};
 use tables::Size;
 
 // A segment with its ratio; segment 0 is none.
@@ -77,4 +78,292 @@ fn next_candidate(z: Size, benefits: &[u64], i: usize, a: usize) -> usize
         }
     }
     next
+}
+
+// The share of segment i's strategy in resource r.
+fn chosen_share(shares: &[u64], choice: &[usize], i: usize, r: usize) -> u64
+    requires { ⌜ (length (now shares) ≡ 12_288) × (length (now choice) ≡ 64) ⌝ }
+    requires { ⌜ Cell i (strategyAt (now choice) i) × (1 ≤ r) × (r ≤ 16) ⌝ }
+    ensures { λ v. ⌜ v ≡ shareAt (now (shares .entry)) i (strategyAt (now (choice .entry)) i) r ⌝ }
+{
+    shares[16 * (12 * (i - 1) + choice[i - 1]) + (r - 1)]
+}
+
+// The shares of a programme in resource r, together.
+fn shares_in(
+    z: Size,
+    benefits: &[u64],
+    uses: &[u64],
+    limits: &[u64],
+    shares: &[u64],
+    choice: &[usize],
+    sums: &[u64],
+    r: usize,
+) -> u64
+    requires { ⌜ Held z (now benefits) (now uses) (now limits) (now shares) (now choice) (now sums) ⌝ }
+    requires { ⌜ (1 ≤ r) × (r ≤ z .resources) ⌝ }
+    ensures { λ v. ⌜ v ≡ sum (z .segments) (chosenShare (tables z (now (benefits .entry)) (now (uses .entry)) (now (limits .entry))) (now (choice .entry)) r) ⌝ }
+{
+    let mut all: u64 = 0;
+    let segments = z.segments;
+    for i in 0..segments {
+        all += chosen_share(shares, choice, i + 1, r);
+    }
+    all
+}
+
+// The surplus of resource r: what its shares are beyond 10,000, where its limit does not hold.
+fn surplus_of(
+    z: Size,
+    benefits: &[u64],
+    uses: &[u64],
+    limits: &[u64],
+    shares: &[u64],
+    choice: &[usize],
+    sums: &[u64],
+    r: usize,
+) -> u64
+    requires { ⌜ Held z (now benefits) (now uses) (now limits) (now shares) (now choice) (now sums) ⌝ }
+    requires { ⌜ (1 ≤ r) × (r ≤ z .resources) ⌝ }
+    ensures { λ v. ⌜ v ≡ surplus (tables z (now (benefits .entry)) (now (uses .entry)) (now (limits .entry))) (now (choice .entry)) r ⌝ }
+{
+    if sums[r - 1] <= limits[r - 1] {
+        return 0;
+    }
+    let all = shares_in(z, benefits, uses, limits, shares, choice, sums, r);
+    if all <= 10000 {
+        return 0;
+    }
+    all - 10000
+}
+
+// The surplus of each resource.
+fn surpluses(
+    z: Size,
+    benefits: &[u64],
+    uses: &[u64],
+    limits: &[u64],
+    shares: &[u64],
+    choice: &[usize],
+    sums: &[u64],
+) -> [u64; 16]
+    requires { ⌜ Held z (now benefits) (now uses) (now limits) (now shares) (now choice) (now sums) ⌝ }
+    ensures { λ v. ⌜ Surpluses z (now (benefits .entry)) (now (uses .entry)) (now (limits .entry)) (now (choice .entry)) v ⌝ }
+{
+    let mut over = [0u64; 16];
+    let resources = z.resources;
+    for r in 0..resources {
+        over[r] = surplus_of(z, benefits, uses, limits, shares, choice, sums, r + 1);
+    }
+    over
+}
+
+// The pull of segment i: its shares times the surpluses. A resource without surplus adds nothing.
+fn pull_of(
+    z: Size,
+    benefits: &[u64],
+    uses: &[u64],
+    limits: &[u64],
+    shares: &[u64],
+    choice: &[usize],
+    sums: &[u64],
+    over: &[u64; 16],
+    i: usize,
+) -> u64
+    requires { ⌜ Held z (now benefits) (now uses) (now limits) (now shares) (now choice) (now sums) ⌝ }
+    requires { ⌜ Surpluses z (now benefits) (now uses) (now limits) (now choice) (now over) ⌝ }
+    requires { ⌜ (1 ≤ i) × (i ≤ z .segments) ⌝ }
+    ensures { λ v. ⌜ v ≡ pull (tables z (now (benefits .entry)) (now (uses .entry)) (now (limits .entry))) (now (choice .entry)) i ⌝ }
+{
+    let mut all: u64 = 0;
+    let resources = z.resources;
+    for r in 0..resources {
+        let beyond = over[r];
+        if beyond > 0 {
+            all += chosen_share(shares, choice, i, r + 1) * beyond;
+        }
+    }
+    all
+}
+
+// The weaker of w and segment i: the one of the lesser ratio, of equals w; only a segment that pulls counts.
+fn weaker(
+    z: Size,
+    benefits: &[u64],
+    uses: &[u64],
+    limits: &[u64],
+    shares: &[u64],
+    choice: &[usize],
+    sums: &[u64],
+    over: &[u64; 16],
+    w: Weak,
+    i: usize,
+) -> Weak
+    requires { ⌜ Held z (now benefits) (now uses) (now limits) (now shares) (now choice) (now sums) ⌝ }
+    requires { ⌜ Surpluses z (now benefits) (now uses) (now limits) (now choice) (now over) ⌝ }
+    requires { ⌜ (1 ≤ i) × (i ≤ z .segments) ⌝ }
+    ensures { λ v. ⌜ ((k : ℕ) → w ≡ weakAt (tables z (now (benefits .entry)) (now (uses .entry)) (now (limits .entry))) (now (choice .entry)) k → v ≡ weakAt (tables z (now (benefits .entry)) (now (uses .entry)) (now (limits .entry))) (now (choice .entry)) (betterOf (pulls (tables z (now (benefits .entry)) (now (uses .entry)) (now (limits .entry))) (now (choice .entry))) (lesserRatio (tables z (now (benefits .entry)) (now (uses .entry)) (now (limits .entry))) (now (choice .entry))) k i)) ⌝ }
+{
+    let pulled = pull_of(z, benefits, uses, limits, shares, choice, sums, over, i);
+    if pulled == 0 {
+        return w;
+    }
+    let ratio = tables::chosen_benefit(benefits, choice, i) * 1000000 / pulled;
+    if w.segment == 0 {
+        return Weak {
+            segment: i,
+            ratio: ratio,
+        };
+    }
+    if ratio < w.ratio {
+        return Weak {
+            segment: i,
+            ratio: ratio,
+        };
+    }
+    w
+}
+
+// The segment to step: of those that pull the one of least ratio, of equals the lowest; 0 where none pulls.
+fn weakest_of(
+    z: Size,
+    benefits: &[u64],
+    uses: &[u64],
+    limits: &[u64],
+    shares: &[u64],
+    choice: &[usize],
+    sums: &[u64],
+) -> usize
+    requires { ⌜ Held z (now benefits) (now uses) (now limits) (now shares) (now choice) (now sums) ⌝ }
+    ensures { λ i. ⌜ i ≡ weakest (tables z (now (benefits .entry)) (now (uses .entry)) (now (limits .entry))) (now (choice .entry)) ⌝ }
+{
+    let over = surpluses(z, benefits, uses, limits, shares, choice, sums);
+    let mut least = Weak {
+        segment: 0,
+        ratio: 0,
+    };
+    let segments = z.segments;
+    for i in 0..segments {
+        least = weaker(
+            z,
+            benefits,
+            uses,
+            limits,
+            shares,
+            choice,
+            sums,
+            &over,
+            least,
+            i + 1,
+        );
+    }
+    least.segment
+}
+
+// Every limit holds.
+fn limits_hold(
+    z: Size,
+    benefits: &[u64],
+    uses: &[u64],
+    limits: &[u64],
+    shares: &[u64],
+    choice: &[usize],
+    sums: &[u64],
+) -> bool
+    requires { ⌜ Held z (now benefits) (now uses) (now limits) (now shares) (now choice) (now sums) ⌝ }
+    ensures { λ ok. ⌜ ok ≡ within (tables z (now (benefits .entry)) (now (uses .entry)) (now (limits .entry))) (now (choice .entry)) ⌝ }
+{
+    let resources = z.resources;
+    for r in 0..resources {
+        if limits[r] < sums[r] {
+            return false;
+        }
+    }
+    true
+}
+
+// Phase 1, the steps: until every limit holds. Returns how many there were.
+pub fn reduce(
+    z: Size,
+    benefits: &[u64],
+    uses: &[u64],
+    limits: &[u64],
+    shares: &[u64],
+    choice: &mut [usize],
+    sums: &mut [u64],
+) -> u64
+    requires { ⌜ Held z (now benefits) (now uses) (now limits) (now shares) (now choice) (now sums) ⌝ }
+    ensures { λ m. ⌜ Ready z (now (benefits .entry)) (now (uses .entry)) (now (limits .entry)) (now (choice .exit)) (now (sums .exit)) ⌝ }
+    ensures { λ m. ⌜ now (choice .exit) ≡ phase1 (tables z (now (benefits .entry)) (now (uses .entry)) (now (limits .entry))) (now (choice .entry)) .last ⌝ }
+    ensures { λ m. ⌜ m ≡ phase1 (tables z (now (benefits .entry)) (now (uses .entry)) (now (limits .entry))) (now (choice .entry)) .count ⌝ }
+{
+    let mut steps: u64 = 0;
+    let bound = (z.segments * z.strategies) as u64;
+    while steps < bound {
+        if limits_hold(z, benefits, uses, limits, shares, choice, sums) {
+            return steps;
+        }
+        let i = weakest_of(z, benefits, uses, limits, shares, choice, sums);
+        if i == 0 {
+            return steps;
+        }
+        let j = next_candidate(z, benefits, i, choice[i - 1]);
+        tables::make_one(z, benefits, uses, limits, choice, sums, i, j);
+        steps += 1;
+    }
+    steps
+}
+
+// Each segment takes its top candidate.
+fn choose_tops(z: Size, benefits: &[u64], choice: &mut [usize])
+    requires { ⌜ Gains (now benefits) × (z .strategies ≤ 11) × (length (now choice) ≡ 64) ⌝ }
+    ensures { λ _. ⌜ ((u l : List ℕ) → now (choice .exit) ≡ start (tables z (now (benefits .entry)) u l)) ⌝ }
+{
+    for i in 0..64 {
+        choice[i] = top_candidate(z, benefits, i + 1);
+    }
+}
+
+// What segment i's strategy uses of resource r.
+fn chosen_usage(uses: &[u64], choice: &[usize], i: usize, r: usize) -> u64
+    requires { ⌜ Uses (now uses) × (length (now choice) ≡ 64) ⌝ }
+    requires { ⌜ Cell i (strategyAt (now choice) i) × (1 ≤ r) × (r ≤ 16) ⌝ }
+    ensures { λ v. ⌜ v ≡ usageAt (now (uses .entry)) i (strategyAt (now (choice .entry)) i) r ⌝ }
+{
+    tables::usage(uses, i, choice[i - 1], r)
+}
+
+// What a programme uses of resource r.
+fn used_of(z: Size, uses: &[u64], choice: &[usize], r: usize) -> u64
+    requires { ⌜ (z .segments ≤ 64) × (z .strategies ≤ 11) × Uses (now uses) × Chosen z (now choice) ⌝ }
+    requires { ⌜ (1 ≤ r) × (r ≤ 16) ⌝ }
+    ensures { λ v. ⌜ ((b l : List ℕ) → v ≡ used (tables z b (now (uses .entry)) l) (now (choice .entry)) r) ⌝ }
+{
+    let mut so_far: u64 = 0;
+    let segments = z.segments;
+    for i in 0..segments {
+        so_far += chosen_usage(uses, choice, i + 1, r);
+    }
+    so_far
+}
+
+// Phase 1, the start: each segment takes its top candidate, and the sums are made.
+pub fn start(
+    z: Size,
+    benefits: &[u64],
+    uses: &[u64],
+    limits: &[u64],
+    choice: &mut [usize],
+    sums: &mut [u64],
+)
+    requires { ⌜ Sound z (now benefits) (now uses) (now limits) ⌝ }
+    requires { ⌜ (length (now choice) ≡ 64) × (length (now sums) ≡ 16) ⌝ }
+    ensures { λ _. ⌜ Ready z (now (benefits .entry)) (now (uses .entry)) (now (limits .entry)) (now (choice .exit)) (now (sums .exit)) ⌝ }
+    ensures { λ _. ⌜ now (choice .exit) ≡ start (tables z (now (benefits .entry)) (now (uses .entry)) (now (limits .entry))) ⌝ }
+{
+    choose_tops(z, benefits, choice);
+    let resources = z.resources;
+    for r in 0..resources {
+        sums[r] = used_of(z, uses, choice, r + 1);
+    }
 }

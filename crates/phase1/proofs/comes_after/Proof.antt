@@ -10,14 +10,12 @@ use Rattle.phase1.proofs.comes_after.Tie as tie
 use Rattle.phase1.proofs.comes_after.Reads as reads
 use Rattle.phase1.proofs.comes_after.Lts as lts
 
--- src/lib.rt:55:9
 returns : tie.Need-returns
 unfolding follows
 returns c =
     let a = c .before .args in
     rw (le-ltb (a .value) (a .old) (omega arith), eq-eqb (a .value) (a .old) (c .if1 .taken))
 
--- src/lib.rt:51:1
 returns-2 : tie.Need-returns-2
 unfolding follows
 returns-2 c =

@@ -1,12 +1,9 @@
 -- `phase1::top_candidate` meets its contract. Assumes nothing.
-use Prim.Native.Nat.{ℕ, _≤_, _-_}
-use mathlib.Core.Path.{_≡_, ap, _∙_}
+use Prim.Native.Nat.{_≤_, _-_}
 use mathlib.Core.Logic.{⊎-elim}
 use native.Mathlib.Omega.{arith}
 use borrow.Author.Needs.{needs}
 use Rattle.base.proofs.Best.{Leads}
-use Rattle.base.specs.Over.{best}
-use Rattle.rules.specs.Phases.{topCandidate, isCandidate, greater}
 use Rattle.tables.specs.Arrays.{benefitAt}
 use Rattle.phase1.proofs.Laws.{gainful, top-none, top-taken, top-kept, top-end}
 use Rattle.phase1.proofs.top_candidate.Statement.{statement}

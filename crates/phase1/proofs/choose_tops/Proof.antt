@@ -1,0 +1,79 @@
+-- `phase1::choose_tops` meets its contract: the segments passed have their top candidates. Assumes nothing.
+use Prim.Native.Nat.{ℕ, _+_, _-_, _≤_}
+use mathlib.Core.Path.{_≡_, _∙_}
+use mathlib.Core.List.{List}
+use native.Mathlib.Omega.{arith}
+use borrow.Author.Needs.{needs}
+use lib.ListN.{length, length-set}
+use lib.Seq.{getD-set-same, getD-set-other}
+use Rattle.base.proofs.All.{each-none, each-next}
+use Rattle.rules.specs.Phases.{strategyAt, topCandidate}
+use Rattle.tables.specs.Arrays.{tables}
+use Rattle.phase1.proofs.Laws.{start-is}
+use Rattle.phase1.proofs.choose_tops.Statement.{statement}
+use Rattle.phase1.proofs.choose_tops.Tie as tie
+use Rattle.phase1.proofs.choose_tops.Reads as reads
+use Rattle.phase1.proofs.choose_tops.Lts as lts
+use Rattle.phase1.proofs.top_candidate.Reads as top-candidate-reads
+
+abbrev Inv-loop : tie.InvT-loop
+Inv-loop z benefits choice₀ i₀ choice i = (i ≤ 64) × (length choice ≡ 64) × ((k : ℕ) → 1 ≤ k → k ≤ i → (u l : List ℕ) → strategyAt choice k ≡ topCandidate (tables z benefits u l) k)
+
+abbrev μ-loop : tie.MeasureT-loop
+μ-loop z benefits choice₀ i₀ choice i = 64 - i
+
+loop-holds : tie.Need-loop-holds Inv-loop μ-loop
+loop-holds c = (search needs, search needs, each-none _)
+
+add-top-candidate : tie.Need-add-top-candidate Inv-loop μ-loop
+add-top-candidate c = search needs
+
+top-candidate-requires : tie.Need-top-candidate-requires Inv-loop μ-loop
+top-candidate-requires c κs = search needs
+
+mul-choice : tie.Need-mul-choice Inv-loop μ-loop
+mul-choice c = search needs
+
+slice-write-choice : tie.Need-slice-write-choice Inv-loop μ-loop
+slice-write-choice c = search needs
+
+add-i : tie.Need-add-i Inv-loop μ-loop
+add-i c = search needs
+
+loop-less : tie.Need-loop-less Inv-loop μ-loop
+loop-less c = search needs
+
+loop-again : tie.Need-loop-again Inv-loop μ-loop
+loop-again c = let l = c .before .before .loop in
+    let e : l .i + 1 - 1 ≡ l .i = omega arith in (
+      search needs,
+      simp length-set (l .inv .1),
+      each-next _ _
+          (λ k lk hk u m.
+          let ne : k - 1 ≡ l .i → ⊥ = λ q. omega arith in
+          getD-set-other (l .choice) (l .i) (k - 1) _ 0 ne ∙ l .inv .2 k lk hk u m)
+          (λ u m. rw e (getD-set-same (l .choice) (l .i) _ 0 (omega arith) ∙ c .top-candidate .ensures u m)),
+    )
+
+same-length : tie.Need-same-length Inv-loop μ-loop
+same-length c = search needs
+
+returns : tie.Need-returns Inv-loop μ-loop
+returns c = λ u l. start-is _ _ (c .before .loop .inv .1) (λ k lk hk. c .before .loop .inv .2 k lk (omega arith) u l)
+
+pub choose-tops-spec : {M : Type 1} → statement M
+choose-tops-spec =
+    tie.close
+    (tie.spec
+    Inv-loop
+    μ-loop
+    loop-holds
+    add-top-candidate
+    top-candidate-requires
+    mul-choice
+    slice-write-choice
+    add-i
+    loop-less
+    loop-again
+    same-length
+    returns)

@@ -1,0 +1,67 @@
+-- `phase1::limits_hold` meets its contract: each limit passed holds. Assumes nothing.
+use Prim.Native.Nat.{ℕ, _+_, _-_, _≤_}
+use mathlib.Core.Path.{_≡_}
+use native.Mathlib.Omega.{arith}
+use borrow.Author.Needs.{needs}
+use lib.ListN.{getD}
+use Rattle.base.proofs.All.{each-none, each-next}
+use Rattle.phase1.proofs.Laws.{is-within, not-within}
+use Rattle.phase1.proofs.limits_hold.Statement.{statement}
+use Rattle.phase1.proofs.limits_hold.Tie as tie
+use Rattle.phase1.proofs.limits_hold.Reads as reads
+use Rattle.phase1.proofs.limits_hold.Lts as lts
+
+abbrev Inv-loop : tie.InvT-loop
+Inv-loop benefits uses limits shares choice sums resources r₀ r = (r ≤ resources) × ((q : ℕ) → 1 ≤ q → q ≤ r → getD sums (q - 1) 0 ≤ getD limits (q - 1) 0)
+
+abbrev μ-loop : tie.MeasureT-loop
+μ-loop benefits uses limits shares choice sums resources r₀ r = resources - r
+
+loop-holds : tie.Need-loop-holds Inv-loop μ-loop
+loop-holds c = (search needs, each-none _)
+
+mul-if1 : tie.Need-mul-if1 Inv-loop μ-loop
+mul-if1 c = search needs
+
+shared-slice-read-if1 : tie.Need-shared-slice-read-if1 Inv-loop μ-loop
+shared-slice-read-if1 c = search needs
+
+mul-if1-2 : tie.Need-mul-if1-2 Inv-loop μ-loop
+mul-if1-2 c = search needs
+
+shared-slice-read-if1-2 : tie.Need-shared-slice-read-if1-2 Inv-loop μ-loop
+shared-slice-read-if1-2 c = search needs
+
+returns : tie.Need-returns Inv-loop μ-loop
+returns c = let here : c .before .before .before .before .loop .r + 1 - 1 ≡ c .before .before .before .before .loop .r = omega arith in
+    not-within _ _ _ _ _ _ _ (c .before .before .before .before .before .pre) (c .before .before .before .before .loop .r + 1) (omega arith) (omega arith) (rw here (c .if1 .taken))
+
+add-r : tie.Need-add-r Inv-loop μ-loop
+add-r c = search needs
+
+loop-less : tie.Need-loop-less Inv-loop μ-loop
+loop-less c = search needs
+
+loop-again : tie.Need-loop-again Inv-loop μ-loop
+loop-again c = let here : c .before .before .before .before .loop .r + 1 - 1 ≡ c .before .before .before .before .loop .r = omega arith in
+    (search needs, each-next _ _ (c .before .before .before .before .loop .inv .1) (rw here (c .if1 .left)))
+
+returns-2 : tie.Need-returns-2 Inv-loop μ-loop
+returns-2 c = is-within _ _ _ _ _ _ _ (c .before .before .pre) (λ q lq hq. c .before .loop .inv .1 q lq (omega arith))
+
+pub limits-hold-spec : {M : Type 1} → statement M
+limits-hold-spec =
+    tie.close
+    (tie.spec
+    Inv-loop
+    μ-loop
+    loop-holds
+    mul-if1
+    shared-slice-read-if1
+    mul-if1-2
+    shared-slice-read-if1-2
+    returns
+    add-r
+    loop-less
+    loop-again
+    returns-2)

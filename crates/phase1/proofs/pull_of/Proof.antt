@@ -1,0 +1,88 @@
+-- `phase1::pull_of` meets its contract: the sum so far is that of the resources passed. Assumes nothing.
+use Prim.Native.Nat.{_+_, _-_, _≤_}
+use mathlib.Core.Path.{_≡_, _∙_}
+use mathlib.Core.Logic.{⊎-elim}
+use native.Mathlib.Omega.{arith}
+use borrow.Author.Needs.{needs}
+use denote.Ref.{now}
+use Rattle.base.specs.Over.{sum}
+use Rattle.base.proofs.Sums.{sum-none, sum-end}
+use Rattle.phase1.proofs.Laws.{heldPull, held-cell, pull-turn, pull-skip, pull-le, pull-sum}
+use Rattle.phase1.proofs.pull_of.Statement.{statement}
+use Rattle.phase1.proofs.pull_of.Tie as tie
+use Rattle.phase1.proofs.pull_of.Reads as reads
+use Rattle.phase1.proofs.pull_of.Lts as lts
+use Rattle.phase1.proofs.chosen_share.Reads as chosen-share-reads
+
+abbrev Inv-loop : tie.InvT-loop
+Inv-loop benefits uses limits shares choice sums over i all₀ resources r₀ all r = (r ≤ resources) × (all ≡ sum r (heldPull shares choice over i))
+
+abbrev μ-loop : tie.MeasureT-loop
+μ-loop benefits uses limits shares choice sums over i all₀ resources r₀ all r = resources - r
+
+loop-holds : tie.Need-loop-holds Inv-loop μ-loop
+loop-holds c = (search needs, sum-none _)
+
+mul-beyond : tie.Need-mul-beyond Inv-loop μ-loop
+mul-beyond c = search needs
+
+element-copy-out-beyond : tie.Need-element-copy-out-beyond Inv-loop μ-loop
+element-copy-out-beyond c = search needs
+
+add-chosen-share : tie.Need-add-chosen-share Inv-loop μ-loop
+add-chosen-share c = search needs
+
+chosen-share-requires : tie.Need-chosen-share-requires Inv-loop μ-loop
+chosen-share-requires c κs = let s = c .before .before .before .before .before .before .before .before .before .before in
+    ((s .pre .0 .shares .places, s .pre .0 .ready .chosen .places), (held-cell _ _ _ _ _ _ _ (s .pre .0) (s .args .i) (s .pre .1 .1 .0) (s .pre .1 .1 .1), search needs, omega (arith, s .pre .0 .ready .sound .resources)))
+
+mul-all : tie.Need-mul-all Inv-loop μ-loop
+mul-all c = let s = c .before .before .before .before .before .before .before .before .before .before .before in
+    let l = c .before .before .before .before .loop in
+    let more = pull-turn (now (s .args .shares)) (now (s .args .choice)) (now (s .args .over)) (s .args .i) (l .r) (l .inv .1) (c .chosen-share .ensures) in
+    omega (arith, pull-le _ _ _ _ _ _ _ (s .pre .0) _ (s .pre .1 .0) (s .args .i) (s .pre .1 .1 .0) (s .pre .1 .1 .1) (l .r + 1) (omega arith))
+
+add-all : tie.Need-add-all Inv-loop μ-loop
+add-all c = let s = c .before .before .before .before .before .before .before .before .before .before .before in
+    let l = c .before .before .before .before .loop in
+    let more = pull-turn (now (s .args .shares)) (now (s .args .choice)) (now (s .args .over)) (s .args .i) (l .r) (l .inv .1) (c .chosen-share .ensures) in
+    omega (arith, pull-le _ _ _ _ _ _ _ (s .pre .0) _ (s .pre .1 .0) (s .args .i) (s .pre .1 .1 .0) (s .pre .1 .1 .1) (l .r + 1) (omega arith))
+
+add-r : tie.Need-add-r Inv-loop μ-loop
+add-r c = search needs
+
+loop-less : tie.Need-loop-less Inv-loop μ-loop
+loop-less c = search needs
+
+loop-again : tie.Need-loop-again Inv-loop μ-loop
+loop-again c = let a = c .before .before .before .before .before .before .before .before .before .before .args in
+    let l = c .before .before .before .loop in (
+      search needs,
+      ⊎-elim
+          (λ w. w .2 ∙ pull-turn (now (a .shares)) (now (a .choice)) (now (a .over)) (a .i) (l .r) (l .inv .1) (w .1 .ensures))
+          (λ w. w .1 ∙ pull-skip (now (a .shares)) (now (a .choice)) (now (a .over)) (a .i) (l .r) (l .inv .1) (w .0 .left))
+          (c .if1 .came),
+    )
+
+returns : tie.Need-returns Inv-loop μ-loop
+returns c = let s = c .before .before .before .before .before .before .before .before in
+    let l = c .before .loop in
+    pull-sum _ _ _ _ _ _ _ (s .pre .0) _ (s .pre .1 .0) (s .args .i) (s .pre .1 .1 .0) (s .pre .1 .1 .1) (sum-end _ _ _ (l .inv .1) (l .inv .0) (omega arith))
+
+pub pull-of-spec : {M : Type 1} → statement M
+pull-of-spec =
+    tie.close
+    (tie.spec
+    Inv-loop
+    μ-loop
+    loop-holds
+    mul-beyond
+    element-copy-out-beyond
+    add-chosen-share
+    chosen-share-requires
+    mul-all
+    add-all
+    add-r
+    loop-less
+    loop-again
+    returns)

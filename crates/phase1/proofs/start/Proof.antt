@@ -1,0 +1,100 @@
+-- `phase1::start` meets its contract: the sums passed are right. Assumes nothing.
+use Prim.Native.Nat.{ℕ, _+_, _-_, _≤_}
+use mathlib.Core.Path.{_≡_, sym, _∙_}
+use denote.Ref.{now}
+use native.Mathlib.Omega.{arith}
+use borrow.Author.Needs.{needs}
+use lib.ListN.{length, getD, length-set}
+use lib.Seq.{getD-set-same, getD-set-other}
+use Rattle.base.proofs.All.{each-none, each-next}
+use Rattle.rules.specs.Phases.{used}
+use Rattle.tables.specs.Arrays.{tables}
+use Rattle.tables.proofs.Laws.{gains-of, uses-of}
+use Rattle.phase1.proofs.Laws.{start-chosen}
+use Rattle.phase1.proofs.start.Statement.{statement}
+use Rattle.phase1.proofs.start.Tie as tie
+use Rattle.phase1.proofs.start.Reads as reads
+use Rattle.phase1.proofs.start.Lts as lts
+use Rattle.phase1.proofs.choose_tops.Reads as choose-tops-reads
+use Rattle.phase1.proofs.used_of.Reads as used-of-reads
+
+abbrev Inv-loop : tie.InvT-loop
+Inv-loop z benefits uses limits choice sums₀ resources r₀ sums r =
+    (r ≤ resources) × (length sums ≡ 16) × ((q : ℕ) → 1 ≤ q → q ≤ r → getD sums (q - 1) 0 ≡ used (tables z benefits uses limits) choice q)
+
+abbrev μ-loop : tie.MeasureT-loop
+μ-loop z benefits uses limits choice sums₀ resources r₀ sums r = resources - r
+
+choose-tops-requires : tie.Need-choose-tops-requires Inv-loop μ-loop
+choose-tops-requires c κs = let s = c .before .before .before .before .before .before in
+    (gains-of _ _ _ _ (s .pre .0), s .pre .0 .strategies, s .pre .1 .0)
+
+loop-holds : tie.Need-loop-holds Inv-loop μ-loop
+loop-holds c = (search needs, c .before .before .before .before .before .before .before .before .before .pre .1 .1, each-none _)
+
+add-used-of : tie.Need-add-used-of Inv-loop μ-loop
+add-used-of c = search needs
+
+used-of-requires : tie.Need-used-of-requires Inv-loop μ-loop
+used-of-requires c κs = let s = c .before .before .before .before .before .before .before .before .before .before .before .before in
+    let t = s .pre .0 in
+    ((t .segments, t .strategies, uses-of _ _ _ _ t, start-chosen _ _ _ _ (c .before .before .before .before .before .choose-tops .ensures (now (s .args .uses)) (now (s .args .limits)))), (search needs, omega (arith, t .resources)))
+
+mul-sums : tie.Need-mul-sums Inv-loop μ-loop
+mul-sums c = search needs
+
+slice-write-sums : tie.Need-slice-write-sums Inv-loop μ-loop
+slice-write-sums c = search needs
+
+add-r : tie.Need-add-r Inv-loop μ-loop
+add-r c = search needs
+
+loop-less : tie.Need-loop-less Inv-loop μ-loop
+loop-less c = search needs
+
+loop-again : tie.Need-loop-again Inv-loop μ-loop
+loop-again c = let s = c .before .before .before .before .before .before .before .before .before .before .before .before .before in
+    let l = c .before .before .before .loop in
+    let here : l .r + 1 - 1 ≡ l .r = omega arith in (
+      search needs,
+      simp length-set (l .inv .1),
+      each-next _ _
+          (λ q lq hq.
+          let ne : q - 1 ≡ l .r → ⊥ = λ e. omega arith in
+          getD-set-other (l .sums) (l .r) (q - 1) _ 0 ne ∙ l .inv .2 q lq hq)
+          (rw here (getD-set-same (l .sums) (l .r) _ 0 (omega (arith, s .pre .0 .resources)) ∙ c .used-of .ensures _ _)),
+    )
+
+same-length : tie.Need-same-length Inv-loop μ-loop
+same-length c = let s = c .before .before .before .before .before .before .before .before .before .before .before in
+    start-chosen _ _ _ _ (c .before .before .before .before .choose-tops .ensures (now (s .args .uses)) (now (s .args .limits))) .places ∙ sym (s .pre .1 .0)
+
+same-length-2 : tie.Need-same-length-2 Inv-loop μ-loop
+same-length-2 c = search needs
+
+returns : tie.Need-returns Inv-loop μ-loop
+returns c = let s = c .before .before .before .before .before .before .before .before .before .before .before in
+    let l = c .before .loop in
+    let top = c .before .before .before .before .choose-tops .ensures (now (s .args .uses)) (now (s .args .limits)) in (
+      record { sound = s .pre .0; chosen = start-chosen _ _ _ _ top; sums-length = l .inv .1; sums-are = λ q lq hq. l .inv .2 q lq (omega arith) },
+      top,
+    )
+
+pub start-spec : {M : Type 1} → statement M
+start-spec =
+    tie.close
+    (tie.spec
+    Inv-loop
+    μ-loop
+    choose-tops-requires
+    loop-holds
+    add-used-of
+    used-of-requires
+    mul-sums
+    slice-write-sums
+    add-r
+    loop-less
+    loop-again
+    same-length
+    same-length-2
+    returns)

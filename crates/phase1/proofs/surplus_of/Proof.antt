@@ -1,0 +1,64 @@
+-- `phase1::surplus_of` meets its contract. Assumes nothing.
+use mathlib.Core.Path.{sym}
+use native.Mathlib.Omega.{arith}
+use borrow.Author.Needs.{needs}
+use Rattle.phase1.proofs.Laws.{surplus-none, surplus-some}
+use borrow.Author.Needs.{needs}
+use Rattle.phase1.proofs.surplus_of.Statement.{statement}
+use Rattle.phase1.proofs.surplus_of.Tie as tie
+use Rattle.phase1.proofs.surplus_of.Reads as reads
+use Rattle.phase1.proofs.surplus_of.Lts as lts
+use Rattle.phase1.proofs.shares_in.Reads as shares-in-reads
+
+sub-if1 : tie.Need-sub-if1
+sub-if1 c = search needs
+
+mul-if1 : tie.Need-mul-if1
+mul-if1 c = search needs
+
+shared-slice-read-if1 : tie.Need-shared-slice-read-if1
+shared-slice-read-if1 c = search needs
+
+sub-if1-2 : tie.Need-sub-if1-2
+sub-if1-2 c = search needs
+
+mul-if1-2 : tie.Need-mul-if1-2
+mul-if1-2 c = search needs
+
+shared-slice-read-if1-2 : tie.Need-shared-slice-read-if1-2
+shared-slice-read-if1-2 c = search needs
+
+returns : tie.Need-returns
+returns c = let s = c .before .before .before .before .before .before .before .before .before in
+    sym (surplus-none _ _ _ _ _ _ _ (s .pre .0) (s .args .r) (s .pre .1 .0) (s .pre .1 .1) (c .if1 .taken))
+
+shares-in-requires : tie.Need-shares-in-requires
+shares-in-requires c κs = c .before .before .before .before .before .before .before .before .before .pre
+
+returns-2 : tie.Need-returns-2
+returns-2 c = let s = c .before .before .before .before .before .before .before .before .before .before .before in
+    let is = surplus-some _ _ _ _ _ _ _ (s .pre .0) (s .args .r) (s .pre .1 .0) (s .pre .1 .1) (c .before .before .if1 .left) in
+    omega (arith, c .before .shares-in .ensures)
+
+sub-result : tie.Need-sub-result
+sub-result c = search needs
+
+returns-3 : tie.Need-returns-3
+returns-3 c = let s = c .before .before .before .before .before .before .before .before .before .before .before in
+    rw (c .before .shares-in .ensures) (sym (surplus-some _ _ _ _ _ _ _ (s .pre .0) (s .args .r) (s .pre .1 .0) (s .pre .1 .1) (c .before .before .if1 .left)))
+
+pub surplus-of-spec : {M : Type 1} → statement M
+surplus-of-spec =
+    tie.close
+    (tie.spec
+    sub-if1
+    mul-if1
+    shared-slice-read-if1
+    sub-if1-2
+    mul-if1-2
+    shared-slice-read-if1-2
+    returns
+    shares-in-requires
+    returns-2
+    sub-result
+    returns-3)
