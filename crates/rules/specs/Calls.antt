@@ -48,7 +48,7 @@ loadedOf (found d rest) = d
 unfoldable pub districtIn : List ℕ → District
 districtIn file = loadedOf (decode file)
 
--- a unit that holds a district, with programme and ceiling worked out afresh
+-- a unit is its district and the plan for it
 unfoldable pub unitOf : District → Unit
 unitOf d = record { district = d; programme = planOf d }
 

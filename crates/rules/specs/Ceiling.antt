@@ -44,7 +44,7 @@ module _ (t : Table) where
   abbrev pub lowers : List ℕ → List ℕ → Bool
   lowers prices new = ltb (ceilingAt new) (ceilingAt prices)
 
-  -- the price of resource r goes up by s if that lowers the ceiling; if not, down by s if it can and that lowers the ceiling
+  -- resource r is tried dearer by s, then cheaper by s, and keeps the first price that brings the ceiling down
   unfoldable pub priced : ℕ → List ℕ → ℕ → List ℕ
   priced s prices r =
       pick (lowers prices (raised prices r s)) (raised prices r s)
@@ -56,7 +56,7 @@ module _ (t : Table) where
   pricedAll s zero prices = prices
   pricedAll s (suc n) prices = priced s (pricedAll s n prices) (suc n)
 
-  -- prices begin at 0; these are they after n rounds, with steps 2 ^ 40, 2 ^ 39, and so on
+  -- all free at first; after n rounds, whose step halves each time
   unfoldable pub pricesAfter : ℕ → List ℕ
   pricesAfter zero = replicate 16 0
   pricesAfter (suc n) = pricedAll (2 ^ (40 - n)) (t .resources) (pricesAfter n)

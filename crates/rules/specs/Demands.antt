@@ -1,5 +1,5 @@
 -- The three demands, as statements.
-use Prim.Native.Nat.{ℕ, suc, _-_, _*_, _≤_, _<_}
+use Prim.Native.Nat.{ℕ, suc, _+_, _-_, _≤_, _<_}
 use mathlib.Core.Path.{_≡_}
 use mathlib.Core.Bool.{Bool, true, false, _&&_, _||_}
 use mathlib.Core.List.{List, _++_}
@@ -14,40 +14,75 @@ use Rattle.rules.specs.District.{District, segmentsOf, strategiesOf}
 use Rattle.rules.specs.File.{encode}
 use Rattle.rules.specs.Rating.{permitted, withinLimits, totalOf}
 use Rattle.rules.specs.Table.{Table, tableOf}
-use Rattle.rules.specs.Phases.{step, pickUp, change}
+use Rattle.rules.specs.Phases.{within, pickUp, change}
 use Rattle.rules.specs.Plan.{reduced, filled, improved, programmeOf}
+use Rattle.rules.specs.Survey.{blockOf, pointsOf, surveyRefusal, surveyOf}
 use Rattle.rules.specs.Calls.{loadRefusal, loadOf, Export, exportOf, showOf}
-use Rattle.rules.specs.Lists.{Call, refusalOf, lentTo, Outcome, outcomeOf, districtAfter, unitAfter}
+use Rattle.rules.specs.Lists.{Call, Load, Bar, Unbar, SetLimit, SetRating, ExportTo, Show, refusalOf, altered, lentTo, Outcome, outcomeOf, districtAfter, unitAfter}
 use Rattle.rules.specs.declared.Programme.{Programme}
 use Rattle.rules.specs.declared.Unit.{Unit}
 use Rattle.rules.specs.declared.Reply.{Reply}
 use Rattle.rules.specs.declared.Answer.{Answer}
 use Rattle.rules.specs.declared.Answer.the-variants.{Accepted, Refused}
 
--- ---- Demand 1, every answer is settled: of a unit in any state and any call
+-- ---- Demand 1, every answer is settled
+
+-- what an accepted call returns: the length for an export, else 0
+unfoldable pub returned : District → Call → ℕ
+returned d (Load file) = 0
+returned d (Bar i j) = 0
+returned d (Unbar i j) = 0
+returned d (SetLimit r limit) = 0
+returned d (SetRating i k rating) = 0
+returned d (ExportTo buffer) = length (encode d)
+returned d Show = 0
+
+-- of a unit in any state and any call
 pub record Settled (u : Unit) (c : Call) : Type 0 where
-  -- a call that meets no condition for a refusal gives a full result;
-  pub accepted : refusalOf (u .district) c ≡ 0 → (value : ℕ) × (outcomeOf u c .answer ≡ Accepted value)
+  -- a call that meets no condition for a refusal gives a full result, and the unit then holds the district as the call alters it;
+  pub accepted : refusalOf (u .district) c ≡ 0 → outcomeOf u c .answer ≡ Accepted (returned (u .district) c)
+  pub held : refusalOf (u .district) c ≡ 0 → outcomeOf u c .unit .district ≡ altered (u .district) c
   -- any other gives the number of the first condition, and unit and lent bytes stay as they were
   pub refused :
       (n : ℕ) → refusalOf (u .district) c ≡ suc n
       → outcomeOf u c ≡ record { answer = Refused (suc n); unit = u; bytes = lentTo c }
 
+-- survey points, which takes no unit: the table's entry, or refusal 10
+pub record PointsSettled (code degree extent seal : ℕ) : Type 0 where
+  pub accepted :
+      surveyRefusal code degree extent seal ≡ 0
+      → surveyOf code degree extent seal ≡ Accepted (pointsOf (blockOf code seal) degree extent)
+  pub refused : ¬ (surveyRefusal code degree extent seal ≡ 0) → surveyOf code degree extent seal ≡ Refused 10
+
+abbrev pub EveryAnswer : Type 0
+EveryAnswer = (u : Unit) (c : Call) → Settled u c
+
 -- ---- Demand 2, the rules exactly
 
--- each phase ends because its rule finds nothing more to do, never because its bound is used up
+-- phase 1 ends when every limit holds, and phases 2 and 3 when there is nothing more to do: none because its bound is used up
 pub record Finished (t : Table) : Type 0 where
-  pub steps : step t (reduced t .last) ≡ none
+  pub steps : within t (reduced t .last) ≡ true
   pub pickups : pickUp t (filled t .last) ≡ none
   pub changes : change t (improved t .last) ≡ none
+
+-- an accepted export of a file
+abbrev pub written : List ℕ → List ℕ → Export
+written file buffer = record { answer = Accepted (length file); buffer = file ++ drop (length file) buffer }
 
 -- of the unit after any list of calls
 pub record ByTheRules (cs : List Call) : Type 0 where
   pub district : unitAfter cs .district ≡ districtAfter cs
   pub programme : showOf (unitAfter cs) ≡ programmeOf (tableOf (districtAfter cs))
   pub finished : Finished (tableOf (districtAfter cs))
-  -- its export, loaded into a unit in any state, gives the same district and the same programme
-  pub reloaded : (u : Unit) → loadOf u (encode (unitAfter cs .district)) ≡ record { answer = Accepted 0; unit = unitAfter cs }
+  -- its export, into any buffer with room, is the district's file,
+  pub exported :
+      (buffer : List ℕ) → length (encode (districtAfter cs)) ≤ length buffer
+      → exportOf (unitAfter cs) buffer ≡ written (encode (districtAfter cs)) buffer
+  -- which gives the same district and the same programme when it is loaded into a unit in any state
+  pub reloaded : (u : Unit) → loadOf u (encode (districtAfter cs)) ≡ record { answer = Accepted 0; unit = unitAfter cs }
+
+abbrev pub TheRules : Type 0
+TheRules = (cs : List Call) → ByTheRules cs
 
 abbrev pub Bytes : List ℕ → Type 0
 Bytes file = (n : ℕ) → getD file n 0 < 256
@@ -56,7 +91,10 @@ Bytes file = (n : ℕ) → getD file n 0 < 256
 pub record ByteForByte (file : List ℕ) : Type 0 where
   pub same :
       Bytes file → loadRefusal file ≡ 0 → (u : Unit) (buffer : List ℕ) → length file ≤ length buffer
-      → exportOf (loadOf u file .unit) buffer ≡ record { answer = Accepted (length file); buffer = file ++ drop (length file) buffer }
+      → exportOf (loadOf u file .unit) buffer ≡ written file buffer
+
+abbrev pub EveryFile : Type 0
+EveryFile = (file : List ℕ) → ByteForByte file
 
 -- ---- Demand 3, one claim over every list of calls. A programme c gives segment i the strategy c i.
 
@@ -94,9 +132,9 @@ pub record Shown (d : District) (p : Programme) : Type 0 where
   pub total : totalOf d (strategyIn p) ≡ pos (p .total)
   pub places : length (p .strategies) ≡ 64
   pub past : (i : ℕ) → segmentsOf d < i → strategyIn p i ≡ 0
-  pub changes : p .changes ≤ p .total - p .«after_pickups»
+  pub changes : p .«after_pickups» + p .changes ≤ p .total
 
--- the programme held and the ceiling shown are those of a show made next
+-- of what a show made next would give
 pub record Claim (cs : List Call) : Type 0 where
   pub sound : Sound (districtAfter cs) (showOf (unitAfter cs))
   pub shown : Shown (districtAfter cs) (showOf (unitAfter cs))

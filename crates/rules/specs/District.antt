@@ -109,7 +109,7 @@ lengthOf d i = valueAt d (segmentPlace i + 3)
 unfoldable pub widthOf : District → ℕ → ℕ
 widthOf d i = valueAt d (segmentPlace i + 4)
 
--- bit j − 1 bars strategy j
+-- a bit for each strategy, the lowest for strategy 1
 unfoldable pub barsOf : District → ℕ → ℕ
 barsOf d i = valueAt d (barsPlace i)
 

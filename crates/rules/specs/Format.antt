@@ -52,35 +52,34 @@ present d s =
 
 -- ---- the numbers of each kind; n counts a record's places from 0
 
--- kind 1: N 0 to 64, S 1 to 11, T 1 to 10, D 1 to 9, Y 1 to 4, R 1 to 16
+-- kind 1: the six counts, N, S, T, D, Y and R
 abbrev pub countField : ℕ → Field
 countField n = number 1 (getD (0 ∷ 1 ∷ 1 ∷ 1 ∷ 1 ∷ 1 ∷ []) n 0) (getD (64 ∷ 11 ∷ 10 ∷ 9 ∷ 4 ∷ 16 ∷ []) n 0)
 
--- kind 2: R limits, 4 bytes each, 0 to 999,999,999
+-- kind 2: a limit for each resource
 abbrev pub limitField : District → ℕ → Field
 limitField d n = pick (ltb n (resourcesOf d)) (number 4 0 999_999_999) absent
 
--- kind 3: D greatest ratings, 1 byte each, 1 to 50
+-- kind 3: a greatest rating for each distress type
 abbrev pub greatestField : District → ℕ → Field
 greatestField d n = pick (ltb n (distressesOf d)) (number 1 1 50) absent
 
--- D rows of T bytes, 0 to most, at places for 9 rows of 10
+-- a row for each distress type with a byte for each year, at places for 9 rows of 10
 abbrev pub rowsField : District → ℕ → ℕ → Field
 rowsField d most n = pick (ltb (n / 10) (distressesOf d)) (pick (ltb (n % 10) (yearsOf d)) (number 1 0 most) absent) absent
 
--- kind 4: R requirements, 4 bytes each, 0 to 999,999; D gains, signed bytes, −50 (byte 206) to 50; D rows of T percents, 0 to 100
+-- kind 4: a requirement for each resource, a gain for each distress type (byte 206 is −50), rows of percents
 abbrev pub strategyField : District → ℕ → Field
 strategyField d n =
     pick (ltb n 16) (pick (ltb n (resourcesOf d)) (number 4 0 999_999) absent)
     (pick (ltb n 25) (pick (ltb (n - 16) (distressesOf d)) (number 1 206 50) absent)
     (rowsField d 100 (n - 25)))
 
--- kind 5: overall requirement, 2 bytes, 0 to 450; D rows of T minimum ratings, 0 to 50
+-- kind 5: the overall requirement, rows of minimum ratings
 abbrev pub pavementField : District → ℕ → Field
 pavementField d n = pick (eqb n 0) (number 2 0 450) (rowsField d 50 (n - 1))
 
--- kind 6: pavement type 1 byte, 1 to Y; the two indexes 2 bytes each, 100 to 1,000; length 2 bytes, 1 to 9,999; width 1 byte, 1 to 200; bars 2
--- bytes, bits from S upward 0 (of 16); D ratings, 1 byte each, 0 to the greatest
+-- kind 6: pavement type, the two indexes, length, width, a mask of bars with no bit past S of its 16, a rating for each distress type
 abbrev pub segmentField : District → ℕ → Field
 segmentField d n =
     pick (eqb n 0) (number 1 1 (pavementsOf d))

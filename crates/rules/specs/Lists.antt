@@ -9,7 +9,7 @@ use Rattle.rules.specs.declared.Reply.{Reply}
 use Rattle.rules.specs.declared.Answer.{Answer}
 use Rattle.rules.specs.declared.Answer.the-variants.{Accepted, Refused}
 
--- a load with its file, any bytes at all; an export with its buffer, of any length
+-- what a caller may ask, with all that is handed in
 pub data Call : Type 0 where
   Load : List ℕ → Call
   Bar : ℕ → ℕ → Call
@@ -29,7 +29,7 @@ refusalOf d (SetRating i k rating) = ratingRefusal d i k rating
 refusalOf d (ExportTo buffer) = exportRefusal d buffer
 refusalOf d Show = 0
 
--- ---- the district after a list, from the calls alone
+-- ---- what the calls make of the fresh district
 
 -- how a call that is not refused alters it
 unfoldable pub altered : District → Call → District
@@ -82,7 +82,7 @@ outcomeOf u (SetRating i k rating) = replied (setRatingOf u i k rating) []
 outcomeOf u (ExportTo buffer) = written (exportOf u buffer) u
 outcomeOf u Show = record { answer = Accepted 0; unit = u; bytes = [] }
 
--- each call gets the unit as the one before left it
+-- one call after another
 unfoldable pub unitFrom : Unit → List Call → Unit
 unitFrom u [] = u
 unitFrom u (c ∷ cs) = unitFrom (outcomeOf u c .unit) cs

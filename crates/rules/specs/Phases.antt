@@ -1,5 +1,7 @@
 -- Document 01, "The three phases", over a table: the one of a district, or one that arrays hold.
 -- A programme is a list with the strategy of each of 64 segments, 0 for nothing. Share, surplus and pull are document 01's own terms.
+-- What a sum or a test runs over is a function's last number: `chosenUsage c r` over the segments, `pullBy c i` over the resources.
+-- `total` and `within` are Rating's, over a table.
 use Prim.Native.Nat.{ℕ, zero, suc, _+_, _-_, _*_, _/_}
 use mathlib.Core.Bool.{Bool, true, false, not, _&&_, _||_}
 use mathlib.Core.List.{List}
@@ -54,7 +56,7 @@ module _ (t : Table) where
   unfoldable pub start : List ℕ
   start = listed 64 topCandidate
 
-  -- Share: what part of a limit a strategy uses, in ten-thousandths, rounded up. It is 0 where the limit is 0, as a quotient by 0 is.
+  -- Share: what part of a limit a strategy uses, in ten-thousandths, any remainder counting as one more; a quotient by 0 is 0.
   unfoldable pub share : ℕ → ℕ → ℕ → ℕ
   share i j r = divideUp (t .usage i j r * 10_000) (t .limit r)
 
@@ -90,7 +92,7 @@ module _ (t : Table) where
   unfoldable pub comesAfter : ℕ → ℕ → ℕ → Bool
   comesAfter i a j = isCandidate i j && (greater i a j || (eqb (t .benefit i j) (t .benefit i a) && ltb a j))
 
-  -- the first of those, or nothing after the last
+  -- the best of those; 0 when there are none left
   unfoldable pub nextCandidate : ℕ → ℕ → ℕ
   nextCandidate i a = best (t .strategies) (comesAfter i a) (greater i)
 
@@ -154,7 +156,7 @@ module _ (t : Table) where
   unfoldable pub single : List ℕ → ℕ → ℕ → Option (List ℕ)
   single c i j = only (another c i j && counts c (give c i j)) (give c i j)
 
-  -- segments i and k both change
+  -- two segments get something else at once
   unfoldable pub pair : List ℕ → ℕ → ℕ → ℕ → ℕ → Option (List ℕ)
   pair c i k a b =
       only (another c i a && (another c k b && counts c (give (give c i a) k b))) (give (give c i a) k b)
@@ -163,14 +165,14 @@ module _ (t : Table) where
   unfoldable pub firstStrategy : (ℕ → Option (List ℕ)) → Option (List ℕ)
   firstStrategy f = orElse (f 0) (first (t .strategies) f)
 
-  -- single changes, by segment and then by strategy
+  -- one segment alone, low numbers first
   unfoldable pub singlesOf : List ℕ → ℕ → Option (List ℕ)
   singlesOf c i = firstStrategy (single c i)
 
   unfoldable pub firstSingle : List ℕ → Option (List ℕ)
   firstSingle c = first (t .segments) (singlesOf c)
 
-  -- pairs, by first segment, second segment (the higher), first strategy, second strategy
+  -- two segments: the lower one varies slowest, the strategy of the higher one fastest
   unfoldable pub pairsWith : List ℕ → ℕ → ℕ → ℕ → Option (List ℕ)
   pairsWith c i k a = firstStrategy (pair c i k a)
 

@@ -52,7 +52,7 @@ scaledLimit d r = limitOf d r * 100_000
 
 -- ---- permitted: not barred, every minimum rating reached, the overall requirement reached
 
--- a rating in millionths reaches a requirement in whole points; 0 demands nothing
+-- a rating in millionths against a requirement in whole points; a requirement of 0 is always met
 unfoldable pub reaches : ℤ → ℕ → Bool
 reaches z required = eqb required 0 || leZ (pos (1_000_000 * required)) z
 

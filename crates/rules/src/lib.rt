@@ -18,8 +18,8 @@ pub struct Slot {
     pub nth: usize,
 }
 
-// What a show gives: a strategy number for each of 64 places (0 for nothing and past N), the total, the total after
-// phase 2, the ceiling, and how many steps, pick-ups and changes the three phases made.
+// The result of planning: which strategy each of 64 places gets (0 is nothing), three sums, and how much work each
+// phase did.
 pub struct Programme {
     pub strategies: [usize; 64],
     pub total: u64,

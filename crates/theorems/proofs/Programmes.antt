@@ -10,7 +10,7 @@ use Rattle.rules.specs.Plan.{reduced, filled, improved}
 use Rattle.rules.specs.Demands.{Finished}
 use Rattle.laws.specs.Tables.{FitAlone, OfCandidates}
 use Rattle.laws.proofs.Gives.{PastNothing, gives-candidates, candidates-numbers, gives-past}
-use Rattle.theorems.proofs.Phase1.{phase1-allowed, phase1-ends, phase1-within, phase1-few, phase1-past}
+use Rattle.theorems.proofs.Phase1.{phase1-allowed, phase1-within, phase1-few, phase1-past}
 use Rattle.theorems.proofs.Phase2.{phase2-gives, phase2-ends, phase2-within, phase2-few}
 use Rattle.theorems.proofs.Phase3.{phase3-gives, phase3-ends, phase3-within, phase3-few}
 
@@ -38,7 +38,7 @@ module _ (t : Table) (fit : FitAlone t) where
   unfolding reduced filled improved
   finished =
       record {
-        steps = phase1-ends t fit;
+        steps = phase1-within t fit;
         pickups = phase2-ends t (reduced t .last) (omega (arith, reduced-candidates .places, fit .segments));
         changes = phase3-ends t (filled t .last) fit (candidates-numbers t (filled t .last) filled-candidates);
       }
