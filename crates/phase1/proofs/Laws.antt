@@ -41,7 +41,7 @@ and-right : (x : Bool) {y : Bool} → (x && y) ≡ true → y ≡ true
 and-right true e = e
 and-right false e = absurd (true≢false (sym e))
 
-benefit-none : (b : List ℕ) (i : ℕ) → benefitAt b i 0 ≡ 0
+pub benefit-none : (b : List ℕ) (i : ℕ) → benefitAt b i 0 ≡ 0
 unfolding benefitAt
 benefit-none b i = rw (and-false (between 1 64 i))
 
