@@ -41,7 +41,7 @@ and-right : (x : Bool) {y : Bool} → (x && y) ≡ true → y ≡ true
 and-right true e = e
 and-right false e = absurd (true≢false (sym e))
 
-benefit-none : (b : List ℕ) (i : ℕ) → benefitAt b i 0 ≡ 0
+pub benefit-none : (b : List ℕ) (i : ℕ) → benefitAt b i 0 ≡ 0
 unfolding benefitAt
 benefit-none b i = rw (and-false (between 1 64 i))
 
@@ -219,27 +219,28 @@ module _ (t : Table) (c : List ℕ) (k i : ℕ) {w : Weak} (is : w ≡ weakAt t 
   unfolding pulls
   weak-idle e z = is ∙ ap (weakAt t c) (sym (better-passed (pulls t c) (lesserRatio t c) k i (le-ltb 0 (pull t c i) (omega arith))))
 
-  module _ {v p : ℕ} (gain : v ≡ chosenBenefit t c i) (pulled : p ≡ pull t c i) (some : p ≡ 0 → ⊥) where
-    made : v * 1_000_000 / p ≡ ratio t c i
+  -- where it pulls, with the ratio x
+  module _ {x v p : ℕ} (divided : x ≡ v * 1_000_000 / p) (gain : v ≡ chosenBenefit t c i) (pulled : p ≡ pull t c i) (some : p ≡ 0 → ⊥) where
+    made : x ≡ ratio t c i
     unfolding ratio
-    made = rw (gain, pulled)
+    made = divided ∙ rw (gain, pulled)
 
     passes : pulls t c i ≡ true
     unfolding pulls
     passes = lt-ltb 0 (pull t c i) (omega arith)
 
-    step-in : weaker-one ≡ i → _≡_ {A = Weak} (record { segment = i; ratio = v * 1_000_000 / p }) (weakAt t c weaker-one)
+    step-in : weaker-one ≡ i → _≡_ {A = Weak} (record { segment = i; ratio = x }) (weakAt t c weaker-one)
     step-in e = rw (e, made)
 
-    pub weak-first : w .segment ≡ 0 → _≡_ {A = Weak} (record { segment = i; ratio = v * 1_000_000 / p }) (weakAt t c weaker-one)
+    pub weak-first : w .segment ≡ 0 → _≡_ {A = Weak} (record { segment = i; ratio = x }) (weakAt t c weaker-one)
     weak-first z = step-in (better-first (pulls t c) (lesserRatio t c) k i passes (sym segment-is ∙ z))
 
-    pub weak-taken : (w .segment ≡ 0 → ⊥) → v * 1_000_000 / p < w .ratio → _≡_ {A = Weak} (record { segment = i; ratio = v * 1_000_000 / p }) (weakAt t c weaker-one)
+    pub weak-taken : (w .segment ≡ 0 → ⊥) → x < w .ratio → _≡_ {A = Weak} (record { segment = i; ratio = x }) (weakAt t c weaker-one)
     unfolding lesserRatio
     weak-taken ne h =
         step-in (better-taken (pulls t c) (lesserRatio t c) k i passes (omega (arith, segment-is)) (lt-ltb (ratio t c i) (ratio t c k) (omega (arith, made, ratio-is))))
 
-    pub weak-worse : (w .segment ≡ 0 → ⊥) → w .ratio ≤ v * 1_000_000 / p → w ≡ weakAt t c weaker-one
+    pub weak-worse : (w .segment ≡ 0 → ⊥) → w .ratio ≤ x → w ≡ weakAt t c weaker-one
     unfolding lesserRatio
     weak-worse ne h =
         is ∙ ap (weakAt t c) (sym (better-worse (pulls t c) (lesserRatio t c) k i passes (omega (arith, segment-is)) (le-ltb (ratio t c i) (ratio t c k) (omega (arith, made, ratio-is)))))

@@ -1,7 +1,7 @@
 // Phase 1: each segment takes its top candidate; while some limit does not hold, the weakest segment steps down.
 ghost use mathlib.Core.Path.{_≡_};
 ghost use mathlib.Core.List.{List};
-ghost use Prim.Native.Nat.{ℕ, _<_, _≤_};
+ghost use Prim.Native.Nat.{ℕ, _*_, _/_, _^_, _<_, _≤_};
 ghost use lib.ListN.{length};
 ghost use Rattle.base.specs.Over.{sum, betterOf};
 ghost use Rattle.rules.specs.Phases.{
@@ -36,13 +36,13 @@ fn top_candidate(z: Size, benefits: &[u64], i: usize) -> usize
     ensures { λ j. ⌜ ((u l : List ℕ) → j ≡ topCandidate (tables z (now (benefits .entry)) u l) i) ⌝ }
 {
     let mut top: usize = 0;
-    let mut gain: u64 = 0;
+    let mut most: u64 = 0;
     let strategies = z.strategies;
     for j in 0..strategies {
         let value = tables::benefit(benefits, i, j + 1);
-        if gain < value {
+        if most < value {
             top = j + 1;
-            gain = value;
+            most = value;
         }
     }
     top
@@ -68,11 +68,11 @@ fn next_candidate(z: Size, benefits: &[u64], i: usize, a: usize) -> usize
     let mut gain: u64 = 0;
     let strategies = z.strategies;
     let old = tables::benefit(benefits, i, a);
-    for j in 0..strategies {
-        let value = tables::benefit(benefits, i, j + 1);
+    for k in 0..strategies {
+        let value = tables::benefit(benefits, i, k + 1);
         if gain < value {
-            if comes_after(value, old, a, j + 1) {
-                next = j + 1;
+            if comes_after(value, old, a, k + 1) {
+                next = k + 1;
                 gain = value;
             }
         }
@@ -186,6 +186,14 @@ fn pull_of(
     all
 }
 
+// What a benefit gives for a pull, in millionths.
+fn ratio_of(benefit: u64, pulled: u64) -> u64
+    requires { ⌜ (benefit < 2 ^ 40) × (1 ≤ pulled) ⌝ }
+    ensures { λ v. ⌜ v ≡ benefit * 1_000_000 / pulled ⌝ }
+{
+    benefit * 1000000 / pulled
+}
+
 // The weaker of w and segment i: the one of the lesser ratio, of equals w; only a segment that pulls counts.
 fn weaker(
     z: Size,
@@ -208,7 +216,7 @@ fn weaker(
     if pulled == 0 {
         return w;
     }
-    let ratio = tables::chosen_benefit(benefits, choice, i) * 1000000 / pulled;
+    let ratio = ratio_of(tables::chosen_benefit(benefits, choice, i), pulled);
     if w.segment == 0 {
         return Weak {
             segment: i,
@@ -243,7 +251,7 @@ fn weakest_of(
         ratio: 0,
     };
     let segments = z.segments;
-    for i in 0..segments {
+    for k in 0..segments {
         least = weaker(
             z,
             benefits,
@@ -254,7 +262,7 @@ fn weakest_of(
             sums,
             &over,
             least,
-            i + 1,
+            k + 1,
         );
     }
     least.segment

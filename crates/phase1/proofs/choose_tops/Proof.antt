@@ -12,9 +12,6 @@ use Rattle.tables.specs.Arrays.{tables}
 use Rattle.phase1.proofs.Laws.{start-is}
 use Rattle.phase1.proofs.choose_tops.Statement.{statement}
 use Rattle.phase1.proofs.choose_tops.Tie as tie
-use Rattle.phase1.proofs.choose_tops.Reads as reads
-use Rattle.phase1.proofs.choose_tops.Lts as lts
-use Rattle.phase1.proofs.top_candidate.Reads as top-candidate-reads
 
 abbrev Inv-loop : tie.InvT-loop
 Inv-loop z benefits choice₀ i₀ choice i = (i ≤ 64) × (length choice ≡ 64) × ((k : ℕ) → 1 ≤ k → k ≤ i → (u l : List ℕ) → strategyAt choice k ≡ topCandidate (tables z benefits u l) k)

@@ -7,8 +7,6 @@ use borrow.Author.Tests.{le-ltb, eq-eqb, ne-eqb}
 use Rattle.phase1.specs.Reduce.{follows}
 use Rattle.phase1.proofs.comes_after.Statement.{statement}
 use Rattle.phase1.proofs.comes_after.Tie as tie
-use Rattle.phase1.proofs.comes_after.Reads as reads
-use Rattle.phase1.proofs.comes_after.Lts as lts
 
 returns : tie.Need-returns
 unfolding follows

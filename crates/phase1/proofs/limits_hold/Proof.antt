@@ -8,8 +8,6 @@ use Rattle.base.proofs.All.{each-none, each-next}
 use Rattle.phase1.proofs.Laws.{is-within, not-within}
 use Rattle.phase1.proofs.limits_hold.Statement.{statement}
 use Rattle.phase1.proofs.limits_hold.Tie as tie
-use Rattle.phase1.proofs.limits_hold.Reads as reads
-use Rattle.phase1.proofs.limits_hold.Lts as lts
 
 abbrev Inv-loop : tie.InvT-loop
 Inv-loop benefits uses limits shares choice sums resources r₀ r = (r ≤ resources) × ((q : ℕ) → 1 ≤ q → q ≤ r → getD sums (q - 1) 0 ≤ getD limits (q - 1) 0)

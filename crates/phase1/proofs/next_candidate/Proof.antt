@@ -9,17 +9,13 @@ use Rattle.tables.specs.Arrays.{benefitAt}
 use Rattle.phase1.proofs.Laws.{later, next-none, next-taken, next-kept, next-passed, next-end}
 use Rattle.phase1.proofs.next_candidate.Statement.{statement}
 use Rattle.phase1.proofs.next_candidate.Tie as tie
-use Rattle.phase1.proofs.next_candidate.Reads as reads
-use Rattle.phase1.proofs.next_candidate.Lts as lts
-use Rattle.phase1.proofs.comes_after.Reads as comes-after-reads
-use Rattle.tables.proofs.benefit.Reads as benefit-reads
 
 abbrev Inv-loop : tie.InvT-loop
-Inv-loop benefits i a next₀ gain₀ strategies old j₀ next gain j =
-    (j ≤ strategies) × Leads (later benefits i a) (benefitAt benefits i) j next gain
+Inv-loop benefits i a next₀ gain₀ strategies old k₀ next gain k =
+    (k ≤ strategies) × Leads (later benefits i a) (benefitAt benefits i) k next gain
 
 abbrev μ-loop : tie.MeasureT-loop
-μ-loop benefits i a next₀ gain₀ strategies old j₀ next gain j = strategies - j
+μ-loop benefits i a next₀ gain₀ strategies old k₀ next gain k = strategies - k
 
 benefit-requires : tie.Need-benefit-requires Inv-loop μ-loop
 benefit-requires c κs = search needs
@@ -42,8 +38,8 @@ comes-after-requires c κs = search needs
 add-next : tie.Need-add-next Inv-loop μ-loop
 add-next c = search needs
 
-add-j : tie.Need-add-j Inv-loop μ-loop
-add-j c = search needs
+add-k : tie.Need-add-k Inv-loop μ-loop
+add-k c = search needs
 
 loop-less : tie.Need-loop-less Inv-loop μ-loop
 loop-less c = search needs
@@ -78,7 +74,7 @@ next-candidate-spec =
     add-comes-after
     comes-after-requires
     add-next
-    add-j
+    add-k
     loop-less
     loop-again
     returns)

@@ -10,9 +10,6 @@ use Rattle.base.proofs.Sums.{sum-none, sum-end}
 use Rattle.phase1.proofs.Laws.{heldPull, held-cell, pull-turn, pull-skip, pull-le, pull-sum}
 use Rattle.phase1.proofs.pull_of.Statement.{statement}
 use Rattle.phase1.proofs.pull_of.Tie as tie
-use Rattle.phase1.proofs.pull_of.Reads as reads
-use Rattle.phase1.proofs.pull_of.Lts as lts
-use Rattle.phase1.proofs.chosen_share.Reads as chosen-share-reads
 
 abbrev Inv-loop : tie.InvT-loop
 Inv-loop benefits uses limits shares choice sums over i all₀ resources r₀ all r = (r ≤ resources) × (all ≡ sum r (heldPull shares choice over i))

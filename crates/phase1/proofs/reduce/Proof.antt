@@ -8,12 +8,6 @@ use Rattle.tables.proofs.Laws.{gains-of}
 use Rattle.phase1.proofs.Laws.{Down, down-start, down-within, down-nobody, down-spent, down-next, weakest-inside, weakest-cell, next-le, bound-le}
 use Rattle.phase1.proofs.reduce.Statement.{statement}
 use Rattle.phase1.proofs.reduce.Tie as tie
-use Rattle.phase1.proofs.reduce.Reads as reads
-use Rattle.phase1.proofs.reduce.Lts as lts
-use Rattle.phase1.proofs.limits_hold.Reads as limits-hold-reads
-use Rattle.phase1.proofs.next_candidate.Reads as next-candidate-reads
-use Rattle.phase1.proofs.weakest_of.Reads as weakest-of-reads
-use Rattle.tables.proofs.make_one.Reads as make-one-reads
 
 abbrev Inv-loop : tie.InvT-loop
 Inv-loop z benefits uses limits shares choice₀ sums₀ steps₀ bound choice sums steps = Down z benefits uses limits shares choice₀ choice sums steps

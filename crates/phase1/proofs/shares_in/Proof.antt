@@ -9,9 +9,6 @@ use Rattle.base.proofs.Sums.{sum-none, sum-next, sum-end}
 use Rattle.phase1.proofs.Laws.{heldShare, held-cell, shares-le, shares-sum}
 use Rattle.phase1.proofs.shares_in.Statement.{statement}
 use Rattle.phase1.proofs.shares_in.Tie as tie
-use Rattle.phase1.proofs.shares_in.Reads as reads
-use Rattle.phase1.proofs.shares_in.Lts as lts
-use Rattle.phase1.proofs.chosen_share.Reads as chosen-share-reads
 
 abbrev Inv-loop : tie.InvT-loop
 Inv-loop benefits uses limits shares choice sums r all₀ segments i₀ all i = (i ≤ segments) × (all ≡ sum i (heldShare shares choice r))

@@ -13,10 +13,6 @@ use Rattle.tables.proofs.Laws.{gains-of, uses-of}
 use Rattle.phase1.proofs.Laws.{start-chosen}
 use Rattle.phase1.proofs.start.Statement.{statement}
 use Rattle.phase1.proofs.start.Tie as tie
-use Rattle.phase1.proofs.start.Reads as reads
-use Rattle.phase1.proofs.start.Lts as lts
-use Rattle.phase1.proofs.choose_tops.Reads as choose-tops-reads
-use Rattle.phase1.proofs.used_of.Reads as used-of-reads
 
 abbrev Inv-loop : tie.InvT-loop
 Inv-loop z benefits uses limits choice sums₀ resources r₀ sums r =

@@ -6,9 +6,6 @@ use Rattle.phase1.proofs.Laws.{surplus-none, surplus-some}
 use borrow.Author.Needs.{needs}
 use Rattle.phase1.proofs.surplus_of.Statement.{statement}
 use Rattle.phase1.proofs.surplus_of.Tie as tie
-use Rattle.phase1.proofs.surplus_of.Reads as reads
-use Rattle.phase1.proofs.surplus_of.Lts as lts
-use Rattle.phase1.proofs.shares_in.Reads as shares-in-reads
 
 sub-if1 : tie.Need-sub-if1
 sub-if1 c = search needs

@@ -10,9 +10,6 @@ use Rattle.rules.specs.Phases.{surplus}
 use Rattle.tables.specs.Arrays.{tables}
 use Rattle.phase1.proofs.surpluses.Statement.{statement}
 use Rattle.phase1.proofs.surpluses.Tie as tie
-use Rattle.phase1.proofs.surpluses.Reads as reads
-use Rattle.phase1.proofs.surpluses.Lts as lts
-use Rattle.phase1.proofs.surplus_of.Reads as surplus-of-reads
 
 abbrev Inv-loop : tie.InvT-loop
 Inv-loop z benefits uses limits shares choice sums over₀ resources r₀ over r =

@@ -8,15 +8,12 @@ use Rattle.tables.specs.Arrays.{benefitAt}
 use Rattle.phase1.proofs.Laws.{gainful, top-none, top-taken, top-kept, top-end}
 use Rattle.phase1.proofs.top_candidate.Statement.{statement}
 use Rattle.phase1.proofs.top_candidate.Tie as tie
-use Rattle.phase1.proofs.top_candidate.Reads as reads
-use Rattle.phase1.proofs.top_candidate.Lts as lts
-use Rattle.tables.proofs.benefit.Reads as benefit-reads
 
 abbrev Inv-loop : tie.InvT-loop
-Inv-loop benefits i top₀ gain₀ strategies j₀ top gain j = (j ≤ strategies) × Leads (gainful benefits i) (benefitAt benefits i) j top gain
+Inv-loop benefits i top₀ most₀ strategies j₀ top most j = (j ≤ strategies) × Leads (gainful benefits i) (benefitAt benefits i) j top most
 
 abbrev μ-loop : tie.MeasureT-loop
-μ-loop benefits i top₀ gain₀ strategies j₀ top gain j = strategies - j
+μ-loop benefits i top₀ most₀ strategies j₀ top most j = strategies - j
 
 loop-holds : tie.Need-loop-holds Inv-loop μ-loop
 loop-holds c = (search needs, top-none _ _)

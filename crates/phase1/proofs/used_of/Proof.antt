@@ -11,9 +11,6 @@ use Rattle.tables.specs.Arrays.{usageAt}
 use Rattle.phase1.proofs.Laws.{used-le}
 use Rattle.phase1.proofs.used_of.Statement.{statement}
 use Rattle.phase1.proofs.used_of.Tie as tie
-use Rattle.phase1.proofs.used_of.Reads as reads
-use Rattle.phase1.proofs.used_of.Lts as lts
-use Rattle.phase1.proofs.chosen_usage.Reads as chosen-usage-reads
 
 abbrev Inv-loop : tie.InvT-loop
 Inv-loop uses choice r so-far₀ segments i₀ so-far i = (i ≤ segments) × (so-far ≡ sum i (λ k. usageAt uses k (strategyAt choice k) r))

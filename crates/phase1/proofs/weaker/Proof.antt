@@ -1,15 +1,10 @@
 -- `phase1::weaker` meets its contract: it goes by cases as the rules do. Assumes nothing.
 use native.Mathlib.Omega.{arith}
-use denote.Ref.{now}
-use Rattle.rules.specs.Phases.{strategyAt, chosenBenefit}
+use Rattle.rules.specs.Phases.{chosenBenefit}
 use Rattle.tables.proofs.Laws.{benefit-lt, gains-of}
 use Rattle.phase1.proofs.Laws.{held-cell, weak-idle, weak-first, weak-taken, weak-worse}
 use Rattle.phase1.proofs.weaker.Statement.{statement}
 use Rattle.phase1.proofs.weaker.Tie as tie
-use Rattle.phase1.proofs.weaker.Reads as reads
-use Rattle.phase1.proofs.weaker.Lts as lts
-use Rattle.phase1.proofs.pull_of.Reads as pull-of-reads
-use Rattle.tables.proofs.chosen_benefit.Reads as chosen-benefit-reads
 
 pull-of-requires : tie.Need-pull-of-requires
 pull-of-requires c κs = c .before .before .before .before .before .before .pre
@@ -22,24 +17,21 @@ chosen-benefit-requires c κs = let s = c .before .before .before .before .befor
     let h = s .pre .0 .ready in
     ((gains-of _ _ _ _ (h .sound), h .chosen .places), held-cell _ _ _ _ _ _ _ (s .pre .0) (s .args .i) (s .pre .1 .1 .0) (s .pre .1 .1 .1))
 
-mul-ratio : tie.Need-mul-ratio
-mul-ratio c = let s = c .before .before .before .before .before .before .before .before .before in
-    omega (arith, c .chosen-benefit .ensures, benefit-lt (now (s .args .benefits)) (gains-of _ _ _ _ (s .pre .0 .ready .sound)) (s .args .i) (strategyAt (now (s .args .choice)) (s .args .i)))
-
-div-ratio : tie.Need-div-ratio
-div-ratio c = omega arith
+ratio-of-requires : tie.Need-ratio-of-requires
+ratio-of-requires c κs = let s = c .before .before .before .before .before .before .before .before .before in
+    (rw (c .chosen-benefit .ensures) (benefit-lt _ (gains-of _ _ _ _ (s .pre .0 .ready .sound)) _ _), omega (arith, c .before .if1 .left))
 
 returns-2 : tie.Need-returns-2
 unfolding chosenBenefit
-returns-2 c = λ k e. weak-first _ _ k (c .before .before .before .before .before .before .before .before .before .before .before .args .i) e (c .before .before .chosen-benefit .ensures) (c .before .before .before .before .pull-of .ensures) (c .before .before .before .if1 .left) (c .if2 .taken)
+returns-2 c = λ k e. weak-first _ _ k (c .before .before .before .before .before .before .before .before .before .before .before .before .args .i) e (c .before .before .ratio-of .ensures) (c .before .before .before .chosen-benefit .ensures) (c .before .before .before .before .before .pull-of .ensures) (c .before .before .before .before .if1 .left) (c .if2 .taken)
 
 returns-3 : tie.Need-returns-3
 unfolding chosenBenefit
-returns-3 c = λ k e. weak-taken _ _ k (c .before .before .before .before .before .before .before .before .before .before .before .before .before .args .i) e (c .before .before .before .before .chosen-benefit .ensures) (c .before .before .before .before .before .before .pull-of .ensures) (c .before .before .before .before .before .if1 .left) (c .before .before .if2 .left) (c .if3 .taken)
+returns-3 c = λ k e. weak-taken _ _ k (c .before .before .before .before .before .before .before .before .before .before .before .before .before .before .args .i) e (c .before .before .before .before .ratio-of .ensures) (c .before .before .before .before .before .chosen-benefit .ensures) (c .before .before .before .before .before .before .before .pull-of .ensures) (c .before .before .before .before .before .before .if1 .left) (c .before .before .if2 .left) (c .if3 .taken)
 
 returns-4 : tie.Need-returns-4
 unfolding chosenBenefit
-returns-4 c = λ k e. weak-worse _ _ k (c .before .before .before .before .before .before .before .before .before .before .before .before .before .args .i) e (c .before .before .before .before .chosen-benefit .ensures) (c .before .before .before .before .before .before .pull-of .ensures) (c .before .before .before .before .before .if1 .left) (c .before .before .if2 .left) (c .if3 .left)
+returns-4 c = λ k e. weak-worse _ _ k (c .before .before .before .before .before .before .before .before .before .before .before .before .before .before .args .i) e (c .before .before .before .before .ratio-of .ensures) (c .before .before .before .before .before .chosen-benefit .ensures) (c .before .before .before .before .before .before .before .pull-of .ensures) (c .before .before .before .before .before .before .if1 .left) (c .before .before .if2 .left) (c .if3 .left)
 
 pub weaker-spec : {M : Type 1} → statement M
 weaker-spec =
@@ -48,8 +40,7 @@ weaker-spec =
     pull-of-requires
     returns
     chosen-benefit-requires
-    mul-ratio
-    div-ratio
+    ratio-of-requires
     returns-2
     returns-3
     returns-4)

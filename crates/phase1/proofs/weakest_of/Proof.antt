@@ -8,17 +8,13 @@ use Rattle.phase1.specs.Reduce.{weakAt}
 use Rattle.phase1.proofs.Laws.{weakestOf, weakest-none, weakest-next, weakest-end}
 use Rattle.phase1.proofs.weakest_of.Statement.{statement}
 use Rattle.phase1.proofs.weakest_of.Tie as tie
-use Rattle.phase1.proofs.weakest_of.Reads as reads
-use Rattle.phase1.proofs.weakest_of.Lts as lts
-use Rattle.phase1.proofs.surpluses.Reads as surpluses-reads
-use Rattle.phase1.proofs.weaker.Reads as weaker-reads
 
 abbrev Inv-loop : tie.InvT-loop
-Inv-loop z benefits uses limits shares choice sums over least₀ segments i₀ least i =
-    (i ≤ segments) × (least ≡ weakAt (tables z benefits uses limits) choice (weakestOf (tables z benefits uses limits) choice i))
+Inv-loop z benefits uses limits shares choice sums over least₀ segments k₀ least k =
+    (k ≤ segments) × (least ≡ weakAt (tables z benefits uses limits) choice (weakestOf (tables z benefits uses limits) choice k))
 
 abbrev μ-loop : tie.MeasureT-loop
-μ-loop z benefits uses limits shares choice sums over least₀ segments i₀ least i = segments - i
+μ-loop z benefits uses limits shares choice sums over least₀ segments k₀ least k = segments - k
 
 surpluses-requires : tie.Need-surpluses-requires Inv-loop μ-loop
 surpluses-requires c κs = c .before .before .before .before .before .before .pre
@@ -32,8 +28,8 @@ add-weaker c = search needs
 weaker-requires : tie.Need-weaker-requires Inv-loop μ-loop
 weaker-requires c κs = (c .before .before .before .before .before .before .before .before .before .before .pre, (c .before .before .before .surpluses .ensures, (search needs, search needs)))
 
-add-i : tie.Need-add-i Inv-loop μ-loop
-add-i c = search needs
+add-k : tie.Need-add-k Inv-loop μ-loop
+add-k c = search needs
 
 loop-less : tie.Need-loop-less Inv-loop μ-loop
 loop-less c = search needs
@@ -54,7 +50,7 @@ weakest-of-spec =
     loop-holds
     add-weaker
     weaker-requires
-    add-i
+    add-k
     loop-less
     loop-again
     returns)
