@@ -19,6 +19,9 @@ pub sum-next : (n : ℕ) (f : ℕ → ℕ) {t : ℕ} → t ≡ sum n f → t + f
 unfolding sum
 sum-next n f e = rw (add-one, e)
 
+pub sum-end : (n m : ℕ) (f : ℕ → ℕ) {t : ℕ} → t ≡ sum m f → m ≤ n → n ≤ m → t ≡ sum n f
+sum-end n m f e l h = let q : n ≡ m = omega arith in rw q e
+
 pub sum-le : (n : ℕ) (f g : ℕ → ℕ) → ((k : ℕ) → 1 ≤ k → k ≤ n → f k ≤ g k) → sum n f ≤ sum n g
 unfolding sum
 sum-le zero f g h = omega arith

@@ -48,6 +48,23 @@ pub record Sound (z : Size) (b u l : List ℕ) : Type 0 where
   pub nothing-gains : (i : ℕ) → 1 ≤ i → i ≤ 64 → getD b (entry i 0) 0 ≡ 0
   pub nothing-uses : (i r : ℕ) → 1 ≤ i → i ≤ 64 → 1 ≤ r → r ≤ 16 → getD u (16 * entry i 0 + (r - 1)) 0 ≡ 0
 
+-- what is read of benefits alone, and of uses alone
+pub record Gains (b : List ℕ) : Type 0 where
+  pub places : length b ≡ 768
+  pub small : (k : ℕ) → getD b k 0 < 2 ^ 40
+  pub nothing : (i : ℕ) → 1 ≤ i → i ≤ 64 → getD b (entry i 0) 0 ≡ 0
+
+pub record Uses (u : List ℕ) : Type 0 where
+  pub places : length u ≡ 12_288
+  pub small : (k : ℕ) → getD u k 0 < 2 ^ 41
+  pub nothing : (i r : ℕ) → 1 ≤ i → i ≤ 64 → 1 ≤ r → r ≤ 16 → getD u (16 * entry i 0 + (r - 1)) 0 ≡ 0
+
+-- the arrays have an entry for strategy j on segment i
+pub record Cell (i j : ℕ) : Type 0 where
+  pub low : 1 ≤ i
+  pub high : i ≤ 64
+  pub number : j ≤ 11
+
 -- a programme has one strategy number for each of 64 places
 pub record Chosen (z : Size) (c : List ℕ) : Type 0 where
   pub places : length c ≡ 64

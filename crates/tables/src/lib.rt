@@ -1,8 +1,194 @@
 // A district's table held in arrays: reads, tests of the limits, and changes of a programme.
+ghost use mathlib.Core.Path.{_≡_};
+ghost use Prim.Native.Nat.{ℕ, _<_, _≤_};
+ghost use mathlib.Core.List.{List};
+ghost use Rattle.base.specs.Over.{all};
+ghost use lib.ListN.{length};
+ghost use Rattle.rules.specs.Phases.{strategyAt, give, total, within};
+ghost use Rattle.tables.specs.Arrays.{benefitAt, usageAt, tables, Gains, Uses, Cell, Chosen, Ready};
+ghost use Rattle.tables.specs.Moves.{Room, Moves, roomFor, Movable, moved};
 
 // How many segments, strategies and resources there are.
 pub struct Size {
     pub segments: usize,
     pub strategies: usize,
     pub resources: usize,
+}
+
+// The benefit of strategy j on segment i; 0 for nothing.
+pub fn benefit(benefits: &[u64], i: usize, j: usize) -> u64
+    requires { ⌜ Gains (now benefits) ⌝ }
+    requires { ⌜ Cell i j ⌝ }
+    ensures { λ v. ⌜ v ≡ benefitAt (now (benefits .entry)) i j ⌝ }
+{
+    benefits[12 * (i - 1) + j]
+}
+
+// The benefit of the strategy that segment i has.
+pub fn chosen_benefit(benefits: &[u64], choice: &[usize], i: usize) -> u64
+    requires { ⌜ Gains (now benefits) × (length (now choice) ≡ 64) ⌝ }
+    requires { ⌜ Cell i (strategyAt (now choice) i) ⌝ }
+    ensures { λ v. ⌜ v ≡ benefitAt (now (benefits .entry)) i (strategyAt (now (choice .entry)) i) ⌝ }
+{
+    benefit(benefits, i, choice[i - 1])
+}
+
+// What strategy j on segment i uses of resource r; 0 for nothing.
+pub fn usage(uses: &[u64], i: usize, j: usize, r: usize) -> u64
+    requires { ⌜ Uses (now uses) ⌝ }
+    requires { ⌜ Cell i j × (1 ≤ r) × (r ≤ 16) ⌝ }
+    ensures { λ v. ⌜ v ≡ usageAt (now (uses .entry)) i j r ⌝ }
+{
+    uses[16 * (12 * (i - 1) + j) + (r - 1)]
+}
+
+// Resource r suffices where segment i goes from x to a and segment k from y to b.
+fn room_in(
+    uses: &[u64],
+    limits: &[u64],
+    sums: &[u64],
+    i: usize,
+    x: usize,
+    a: usize,
+    k: usize,
+    y: usize,
+    b: usize,
+    r: usize,
+) -> bool
+    requires { ⌜ Room r (now uses) (now limits) (now sums) ⌝ }
+    requires { ⌜ Moves i x a k y b × (1 ≤ r) ⌝ }
+    ensures { λ ok. ⌜ ok ≡ roomFor (now (uses .entry)) (now (limits .entry)) (now (sums .entry)) i x a k y b r ⌝ }
+{
+    let more = usage(uses, i, a, r) + usage(uses, k, b, r);
+    let less = usage(uses, i, x, r) + usage(uses, k, y, r);
+    sums[r - 1] + more <= limits[r - 1] + less
+}
+
+// Every resource suffices where segment i goes from x to a and segment k from y to b.
+fn room(
+    resources: usize,
+    uses: &[u64],
+    limits: &[u64],
+    sums: &[u64],
+    i: usize,
+    x: usize,
+    a: usize,
+    k: usize,
+    y: usize,
+    b: usize,
+) -> bool
+    requires { ⌜ Room resources (now uses) (now limits) (now sums) ⌝ }
+    requires { ⌜ Moves i x a k y b ⌝ }
+    ensures { λ ok. ⌜ ok ≡ all resources (roomFor (now (uses .entry)) (now (limits .entry)) (now (sums .entry)) i x a k y b) ⌝ }
+{
+    for r in 0..resources {
+        if !room_in(uses, limits, sums, i, x, a, k, y, b, r + 1) {
+            return false;
+        }
+    }
+    true
+}
+
+// The limits hold where segment i gets strategy a.
+pub fn fits_one(
+    z: Size,
+    benefits: &[u64],
+    uses: &[u64],
+    limits: &[u64],
+    choice: &[usize],
+    sums: &[u64],
+    i: usize,
+    a: usize,
+) -> bool
+    requires { ⌜ Ready z (now benefits) (now uses) (now limits) (now choice) (now sums) ⌝ }
+    requires { ⌜ (1 ≤ i) × (i ≤ z .segments) × (a ≤ z .strategies) ⌝ }
+    ensures { λ ok. ⌜ ok ≡ within (tables z (now (benefits .entry)) (now (uses .entry)) (now (limits .entry))) (give (now (choice .entry)) i a) ⌝ }
+{
+    room(
+        z.resources,
+        uses,
+        limits,
+        sums,
+        i,
+        choice[i - 1],
+        a,
+        i,
+        0,
+        0,
+    )
+}
+
+// The limits hold where segment i gets strategy a and a higher segment k strategy b.
+pub fn fits_two(
+    z: Size,
+    benefits: &[u64],
+    uses: &[u64],
+    limits: &[u64],
+    choice: &[usize],
+    sums: &[u64],
+    i: usize,
+    k: usize,
+    a: usize,
+    b: usize,
+) -> bool
+    requires { ⌜ Ready z (now benefits) (now uses) (now limits) (now choice) (now sums) ⌝ }
+    requires { ⌜ (1 ≤ i) × (i < k) × (k ≤ z .segments) × (a ≤ z .strategies) × (b ≤ z .strategies) ⌝ }
+    ensures { λ ok. ⌜ ok ≡ within (tables z (now (benefits .entry)) (now (uses .entry)) (now (limits .entry))) (give (give (now (choice .entry)) i a) k b) ⌝ }
+{
+    room(
+        z.resources,
+        uses,
+        limits,
+        sums,
+        i,
+        choice[i - 1],
+        a,
+        k,
+        choice[k - 1],
+        b,
+    )
+}
+
+// The sums after segment i goes from x to a.
+fn move_sums(resources: usize, uses: &[u64], sums: &mut [u64], i: usize, x: usize, a: usize)
+    requires { ⌜ Movable resources (now uses) (now sums) i x a ⌝ }
+    ensures { λ _. ⌜ ((r : ℕ) → 1 ≤ r → r ≤ resources → moved (now (uses .entry)) (now (sums .entry)) (now (sums .exit)) i x a r) ⌝ }
+{
+    for r in 0..resources {
+        sums[r] = sums[r] - usage(uses, i, x, r + 1) + usage(uses, i, a, r + 1);
+    }
+}
+
+// Segment i gets strategy a, and the sums move along.
+pub fn make_one(
+    z: Size,
+    benefits: &[u64],
+    uses: &[u64],
+    limits: &[u64],
+    choice: &mut [usize],
+    sums: &mut [u64],
+    i: usize,
+    a: usize,
+)
+    requires { ⌜ Ready z (now benefits) (now uses) (now limits) (now choice) (now sums) ⌝ }
+    requires { ⌜ (1 ≤ i) × (i ≤ z .segments) × (a ≤ z .strategies) ⌝ }
+    ensures { λ _. ⌜ Ready z (now (benefits .entry)) (now (uses .entry)) (now (limits .entry)) (now (choice .exit)) (now (sums .exit)) ⌝ }
+    ensures { λ _. ⌜ now (choice .exit) ≡ give (now (choice .entry)) i a ⌝ }
+{
+    let x = choice[i - 1];
+    move_sums(z.resources, uses, sums, i, x, a);
+    choice[i - 1] = a;
+}
+
+// What a programme gains in all.
+pub fn total_of(z: Size, benefits: &[u64], choice: &[usize]) -> u64
+    requires { ⌜ (z .segments ≤ 64) × (z .strategies ≤ 11) × Gains (now benefits) × Chosen z (now choice) ⌝ }
+    ensures { λ v. ⌜ ((u l : List ℕ) → v ≡ total (tables z (now (benefits .entry)) u l) (now (choice .entry))) ⌝ }
+{
+    let mut so_far: u64 = 0;
+    let segments = z.segments;
+    for i in 0..segments {
+        so_far += chosen_benefit(benefits, choice, i + 1);
+    }
+    so_far
 }

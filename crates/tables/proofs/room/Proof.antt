@@ -1,0 +1,58 @@
+-- `tables::room` meets its contract: every resource that the loop passed suffices. Assumes nothing.
+use Prim.Native.Nat.{_+_, _-_, _≤_}
+use mathlib.Core.Path.{_≡_, sym, _∙_}
+use mathlib.Core.Bool.{true}
+use native.Mathlib.Omega.{arith}
+use borrow.Author.Tests.{not-true, not-false}
+use Rattle.base.specs.Over.{all}
+use Rattle.base.proofs.All.{all-none, all-next, all-fails, all-end}
+use Rattle.tables.specs.Moves.{roomFor}
+use Rattle.tables.proofs.Laws.{room-part}
+use borrow.Author.Needs.{needs}
+use Rattle.tables.proofs.room.Statement.{statement}
+use Rattle.tables.proofs.room.Tie as tie
+
+abbrev Inv-loop : tie.InvT-loop
+Inv-loop resources uses limits sums i x a k y b r₀ r = (r ≤ resources) × (all r (roomFor uses limits sums i x a k y b) ≡ true)
+
+abbrev μ-loop : tie.MeasureT-loop
+μ-loop resources uses limits sums i x a k y b r₀ r = resources - r
+
+loop-holds : tie.Need-loop-holds Inv-loop μ-loop
+loop-holds c = (search needs, all-none _)
+
+add-room-in : tie.Need-add-room-in Inv-loop μ-loop
+add-room-in c = search needs
+
+room-in-requires : tie.Need-room-in-requires Inv-loop μ-loop
+room-in-requires c κs = (room-part _ _ _ _ _ (c .before .before .before .before .before .pre .0) (omega arith), (c .before .before .before .before .before .pre .1, omega arith))
+
+returns : tie.Need-returns Inv-loop μ-loop
+returns c = sym (all-fails _ _ (c .before .before .before .loop .r + 1) (omega arith) (omega arith) (sym (c .before .room-in .ensures) ∙ not-true _ (c .if1 .taken)))
+
+add-r : tie.Need-add-r Inv-loop μ-loop
+add-r c = search needs
+
+loop-less : tie.Need-loop-less Inv-loop μ-loop
+loop-less c = search needs
+
+loop-again : tie.Need-loop-again Inv-loop μ-loop
+loop-again c = (search needs, all-next _ _ (c .before .before .before .loop .inv .1) (sym (c .before .room-in .ensures) ∙ not-false _ (c .if1 .left)))
+
+returns-2 : tie.Need-returns-2 Inv-loop μ-loop
+returns-2 c = sym (all-end _ _ _ (c .before .loop .inv .1) (c .before .loop .inv .0) (omega arith))
+
+pub room-spec : {M : Type 1} → statement M
+room-spec =
+    tie.close
+    (tie.spec
+    Inv-loop
+    μ-loop
+    loop-holds
+    add-room-in
+    room-in-requires
+    returns
+    add-r
+    loop-less
+    loop-again
+    returns-2)

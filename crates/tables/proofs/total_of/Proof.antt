@@ -1,0 +1,67 @@
+-- `tables::total_of` meets its contract: the sum so far is that of the segments passed. Assumes nothing.
+use Prim.Native.Nat.{_+_, _-_, _≤_}
+use mathlib.Core.Path.{_≡_}
+use denote.Ref.{now}
+use native.Mathlib.Omega.{arith}
+use Rattle.base.specs.Over.{sum}
+use Rattle.base.proofs.Sums.{sum-none, sum-next, sum-end}
+use Rattle.rules.specs.Phases.{strategyAt, chosenBenefit, total}
+use Rattle.tables.specs.Arrays.{benefitAt}
+use Rattle.tables.proofs.Laws.{benefit-lt, gained-le}
+use borrow.Author.Needs.{needs}
+use Rattle.tables.proofs.total_of.Statement.{statement}
+use Rattle.tables.proofs.total_of.Tie as tie
+
+abbrev Inv-loop : tie.InvT-loop
+Inv-loop benefits choice so-far₀ segments i₀ so-far i = (i ≤ segments) × (so-far ≡ sum i (λ k. benefitAt benefits k (strategyAt choice k)))
+
+abbrev μ-loop : tie.MeasureT-loop
+μ-loop benefits choice so-far₀ segments i₀ so-far i = segments - i
+
+loop-holds : tie.Need-loop-holds Inv-loop μ-loop
+loop-holds c = (search needs, sum-none _)
+
+add-chosen-benefit : tie.Need-add-chosen-benefit Inv-loop μ-loop
+add-chosen-benefit c = search needs
+
+chosen-benefit-requires : tie.Need-chosen-benefit-requires Inv-loop μ-loop
+chosen-benefit-requires c κs =
+    let p = c .before .before .before .before .pre in
+    let n = p .3 .numbers (c .before .loop .i + 1) in
+    ((p .2, p .3 .places), record { low = omega arith; high = omega arith; number = omega arith })
+
+add-so-far : tie.Need-add-so-far Inv-loop μ-loop
+add-so-far c =
+    let s = c .before .before .before .before .before in
+    let l = c .before .before .loop in
+    let sum = gained-le (now (s .args .benefits)) (s .pre .2) (l .i) (now (s .args .choice)) in
+    let more = benefit-lt (now (s .args .benefits)) (s .pre .2) (l .i + 1) (strategyAt (now (s .args .choice)) (l .i + 1)) in
+    omega (arith, l .inv .1, c .chosen-benefit .ensures)
+
+add-i : tie.Need-add-i Inv-loop μ-loop
+add-i c = search needs
+
+loop-less : tie.Need-loop-less Inv-loop μ-loop
+loop-less c = search needs
+
+loop-again : tie.Need-loop-again Inv-loop μ-loop
+loop-again c = (search needs, rw (c .chosen-benefit .ensures) (sum-next _ _ (c .before .before .loop .inv .1)))
+
+returns : tie.Need-returns Inv-loop μ-loop
+unfolding total chosenBenefit
+returns c = λ u l. sum-end _ _ _ (c .before .loop .inv .1) (c .before .loop .inv .0) (omega arith)
+
+pub total-of-spec : {M : Type 1} → statement M
+total-of-spec =
+    tie.close
+    (tie.spec
+    Inv-loop
+    μ-loop
+    loop-holds
+    add-chosen-benefit
+    chosen-benefit-requires
+    add-so-far
+    add-i
+    loop-less
+    loop-again
+    returns)
