@@ -1,7 +1,7 @@
 -- What a segment's new strategy does to a programme, its total and its uses. Assumes nothing.
-use Prim.Native.Nat.{ℕ, _+_, _-_, _≤_, _<_}
+use Prim.Native.Nat.{ℕ, zero, suc, _+_, _-_, _≤_}
 use mathlib.Core.Path.{_≡_, ap, sym}
-use mathlib.Core.List.{List}
+use mathlib.Core.List.{List, [], _∷_}
 use native.Mathlib.Omega.{arith}
 use lib.ListN.{getD, length, set}
 use lib.Seq.{getD-set-same, getD-set-other}
@@ -15,6 +15,20 @@ given c i j l h = getD-set-same c (i - 1) j 0 (omega arith)
 
 pub kept : (c : List ℕ) (i j k : ℕ) → 1 ≤ i → 1 ≤ k → (k ≡ i → ⊥) → strategyAt (give c i j) k ≡ strategyAt c k
 kept c i j k l m ne = getD-set-other c (i - 1) (k - 1) j 0 (λ e. ne (omega arith))
+
+-- a bound on the strategy numbers stays
+set-le : (l : List ℕ) (n a s : ℕ) → a ≤ s → ((k : ℕ) → getD l k 0 ≤ s) → (k : ℕ) → getD (set l n a) k 0 ≤ s
+set-le [] n a s h before k = before k
+set-le (x ∷ l) zero a s h before zero = h
+set-le (x ∷ l) zero a s h before (suc k) = before (suc k)
+set-le (x ∷ l) (suc n) a s h before zero = before 0
+set-le (x ∷ l) (suc n) a s h before (suc k) = set-le l n a s h (λ m. before (suc m)) k
+
+pub give-numbers : (c : List ℕ) (i j s : ℕ) → j ≤ s → ((k : ℕ) → strategyAt c k ≤ s) → (k : ℕ) → strategyAt (give c i j) k ≤ s
+give-numbers c i j s h before k = set-le c (i - 1) j s h (λ m. rw (← add-sub m) (before (m + 1))) (k - 1)
+  where
+    add-sub : (m : ℕ) → m + 1 - 1 ≡ m
+    add-sub m = omega arith
 
 module _ (t : Table) (c : List ℕ) (i j : ℕ) (l : 1 ≤ i) (h : i ≤ t .segments) (room : t .segments ≤ length c) where
   -- what a sum over the segments loses and gains

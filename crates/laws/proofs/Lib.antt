@@ -1,1 +1,2 @@
 pub mod Give
+pub mod Changes

@@ -4,17 +4,15 @@ use mathlib.Core.Path.{_≡_, refl, sym, _∙_}
 use mathlib.Core.Bool.{Bool, true, false, _&&_}
 use mathlib.Core.List.{List}
 use native.Mathlib.Omega.{arith}
-use borrow.Author.Tests.{le-leb, lt-leb, leb-true, leb-false, eqb-true, eqb-false}
-use lib.Dec.{leb, eqb, lit<}
-use lib.ListN.{getD, length, set, length-set}
-use lib.Seq.{getD-set-other}
+use borrow.Author.Tests.{le-leb, lt-leb, leb-true, leb-false}
+use lib.Dec.{leb, lit<}
+use lib.ListN.{getD, length, length-set}
 use Rattle.base.specs.Choice.{pick}
 use Rattle.base.specs.Over.{sum, all, between}
 use Rattle.base.proofs.Sums.{sum-bound, sum-part}
 use Rattle.base.proofs.All.{all-cong}
-use Rattle.rules.specs.Table.{Table}
 use Rattle.rules.specs.Phases.{strategyAt, give, chosenBenefit, total, chosenUsage, used, holds, within}
-use Rattle.laws.proofs.Give.{given, kept, total-give, used-give}
+use Rattle.laws.proofs.Give.{kept, used-give, give-numbers}
 use Rattle.tables.specs.declared.Size.{Size}
 use Rattle.tables.specs.Arrays.{entry, benefitAt, usageAt, limitAt, tables, Sound, Gains, Uses, Cell, Chosen, Ready}
 use Rattle.tables.specs.Moves.{Room, Moves, roomFor, Movable, moved}
@@ -175,11 +173,8 @@ module _ (z : Size) (b u l c sums : List ℕ) (ready : Ready z b u l c sums) whe
         }
 
     chosen-give : Chosen z (give c i a)
-    chosen-give = record { places = simp length-set (ready .chosen .places); numbers = λ k. known k (eqb (k - 1) (i - 1)) refl }
-      where
-        known : (k : ℕ) (v : Bool) → eqb (k - 1) (i - 1) ≡ v → strategyAt (give c i a) k ≤ z .strategies
-        known k true e = rw (eqb-true (k - 1) (i - 1) e, given c i a low (omega (arith, places))) number
-        known k false e = rw (getD-set-other c (i - 1) (k - 1) a 0 (eqb-false (k - 1) (i - 1) e)) (ready .chosen .numbers k)
+    chosen-give =
+        record { places = simp length-set (ready .chosen .places); numbers = give-numbers c i a (z .strategies) number (ready .chosen .numbers) }
 
     pub ready-give : (sums₂ : List ℕ) → length sums₂ ≡ 16 → ((r : ℕ) → 1 ≤ r → r ≤ z .resources → moved u sums sums₂ i (strategyAt c i) a r) → Ready z b u l (give c i a) sums₂
     unfolding moved
