@@ -9,6 +9,7 @@ use borrow.Author.Tests.{lt-ltb, le-ltb, ltb-false, ne-eqb}
 use lib.Dec.{ltb, eqb}
 use lib.ListN.{getD, length, length-set}
 use Rattle.base.specs.Choice.{pick, only}
+use Rattle.base.specs.Over.{most}
 use Rattle.base.specs.Search.{first, orElse, Run, run}
 use Rattle.base.proofs.Sums.{most-part, most-bound}
 use Rattle.base.proofs.Runs.{Reached, reached-start, reached-next, reached-end}
@@ -41,7 +42,7 @@ use Rattle.laws.proofs.Give.{kept, total-give}
 use Rattle.tables.specs.declared.Size.{Size}
 use Rattle.tables.specs.Arrays.{benefitAt, tables, Gains, Ready}
 use Rattle.tables.proofs.Laws.{benefit-nothing, benefit-lt, gains-of, total-le}
-use Rattle.phase3.specs.Improve.{after, isNothing, made, Found, countsOne, countsTwo, top, Programme, presentAt, pairMayRise, withMayRise}
+use Rattle.phase3.specs.Improve.{after, isNothing, made, Found, countsOne, countsTwo, top, Programme, present, pairMayRise, withMayRise}
 use Rattle.phase3.specs.declared.Change.{Change}
 use Rattle.phase3.specs.declared.Change.the-variants.{Nothing, One, Two}
 
@@ -169,35 +170,35 @@ module _ (t : Table) where
 
 -- ---- what cannot rise is passed over
 
-pub top-ge : (s : ℕ) (b : List ℕ) (i j : ℕ) → j ≤ s → benefitAt b i j ≤ top s b i
-unfolding top
-top-ge s b i zero h = omega (arith, benefit-nothing b i)
-top-ge s b i (suc j) h = most-part s (benefitAt b i) (suc j) (omega arith) h
+module _ (t : Table) (c : List ℕ) (nothing : (i : ℕ) → t .benefit i 0 ≡ 0) (room : t .segments ≤ length c) (i k : ℕ) (low : 1 ≤ i) (above : i < k) (high : k ≤ t .segments) where
+  top-ge : (i j : ℕ) → j < t .strategies + 1 → t .benefit i j ≤ top t i
+  top-ge i zero h = omega (arith, nothing i)
+  top-ge i (suc j) h = most-part (t .strategies) (t .benefit i) (suc j) (omega arith) (omega arith)
 
-pub top-le : (s : ℕ) (b : List ℕ) → Gains b → (i : ℕ) → top s b i ≤ 2 ^ 40
-unfolding top
-top-le s b g i = most-bound s (2 ^ 40) (benefitAt b i) (λ j l h. let lt = benefit-lt b g i j in omega arith)
+  low-pair : (a b : ℕ) → t .benefit i a + t .benefit k b ≤ present t c i k → pair t c i k a b ≡ none
+  low-pair a b h = pair-none t c i k a b (low-two t c i a low (omega arith) room k b above high h)
 
-module _ (z : Size) (b u l c : List ℕ) (room : z .segments ≤ length c) (i k : ℕ) (low : 1 ≤ i) (above : i < k) (high : k ≤ z .segments) where
-  no-pair : (a v : ℕ) → benefitAt b i a + benefitAt b k v ≤ presentAt b c i k → pair (tables z b u l) c i k a v ≡ none
-  no-pair a v h = pair-none (tables z b u l) c i k a v (low-two (tables z b u l) c i a low (omega arith) room k v above high h)
-
-  pub no-with : (a : ℕ) → withMayRise z b c i k a ≡ false → pairsWith (tables z b u l) c i k a ≡ none
-  no-with a e =
-      with-none (tables z b u l) c i k a
-      (λ v lv. no-pair a v (omega (arith, ltb-false (presentAt b c i k) (benefitAt b i a + top (z .strategies) b k) e, top-ge (z .strategies) b k v (omega arith))))
-
-  pub no-of : pairMayRise z b c i k ≡ false → pairsOf (tables z b u l) c i k ≡ none
+  pub no-of : pairMayRise t c i k ≡ false → pairsOf t c i k ≡ none
   no-of e =
-      of-none (tables z b u l) c i k
-      (λ a la. with-none (tables z b u l) c i k a
-      (λ v lv. no-pair a v
-      (omega (
-        arith,
-        ltb-false (presentAt b c i k) (top (z .strategies) b i + top (z .strategies) b k) e,
-        top-ge (z .strategies) b i a (omega arith),
-        top-ge (z .strategies) b k v (omega arith),
-      ))))
+      let none-more = ltb-false (present t c i k) (top t i + top t k) e in
+      of-none t c i k (λ a la. with-none t c i k a (λ b lb. low-pair a b (omega (arith, top-ge i a la, top-ge k b lb))))
+
+  pub no-with : (a : ℕ) → withMayRise t c i k a ≡ false → pairsWith t c i k a ≡ none
+  no-with a e = with-none t c i k a (λ b lb. go b lb (another t c i a) refl)
+    where
+      go : (b : ℕ) → b < t .strategies + 1 → (x : Bool) → another t c i a ≡ x → pair t c i k a b ≡ none
+      go b lb false q = pair-none t c i k a b (not-first t c i k a b q)
+      go b lb true q =
+          let none-more = ltb-false (present t c i k) (t .benefit i a + top t k) (sym (ap (λ (x : Bool). x && ltb (present t c i k) (t .benefit i a + top t k)) q) ∙ e) in
+          low-pair a b (omega (arith, top-ge k b lb))
+
+-- a first strategy that is looked at is another one
+pub another-of : (x y : Bool) → (x && y) ≡ true → x ≡ true
+another-of true y e = refl
+another-of false y e = e
+
+pub top-le : (s : ℕ) (b : List ℕ) → Gains b → (i : ℕ) → most s (benefitAt b i) ≤ 2 ^ 40
+top-le s b g i = most-bound s (2 ^ 40) (benefitAt b i) (λ j l h. let lt = benefit-lt b g i j in omega arith)
 
 -- ---- what the loop of changes keeps
 

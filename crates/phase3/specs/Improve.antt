@@ -50,12 +50,12 @@ abbrev pub countsTwo : Table → List ℕ → ℕ → ℕ → ℕ → ℕ → Bo
 countsTwo t c i k a b = another t c i a && (another t c k b && counts t c (give (give c i a) k b))
 
 -- the greatest of segment i's benefits
-unfoldable pub top : ℕ → List ℕ → ℕ → ℕ
-top strategies b i = most strategies (benefitAt b i)
+abbrev pub top : Table → ℕ → ℕ
+top t i = most (t .strategies) (t .benefit i)
 
 pub record Tops (z : Size) (b tops : List ℕ) : Type 0 where
   pub places : length tops ≡ 64
-  pub each : (i : ℕ) → 1 ≤ i → i ≤ z .segments → getD tops (i - 1) 0 ≡ top (z .strategies) b i
+  pub each : (i : ℕ) → 1 ≤ i → i ≤ z .segments → getD tops (i - 1) 0 ≡ most (z .strategies) (benefitAt b i)
 
 -- a programme and the benefits that a comparison reads
 pub record Programme (z : Size) (b c : List ℕ) : Type 0 where
@@ -65,12 +65,12 @@ pub record Programme (z : Size) (b c : List ℕ) : Type 0 where
   pub chosen : Chosen z c
 
 -- what segments i and k gain now
-abbrev pub presentAt : List ℕ → List ℕ → ℕ → ℕ → ℕ
-presentAt b c i k = benefitAt b i (strategyAt c i) + benefitAt b k (strategyAt c k)
+abbrev pub present : Table → List ℕ → ℕ → ℕ → ℕ
+present t c i k = t .benefit i (strategyAt c i) + t .benefit k (strategyAt c k)
 
--- without a rise here there is none for segments i and k, and none with strategy a of segment i
-abbrev pub pairMayRise : Size → List ℕ → List ℕ → ℕ → ℕ → Bool
-pairMayRise z b c i k = ltb (presentAt b c i k) (top (z .strategies) b i + top (z .strategies) b k)
+-- without this no change of segments i and k counts, and without the next none that gives segment i strategy a
+abbrev pub pairMayRise : Table → List ℕ → ℕ → ℕ → Bool
+pairMayRise t c i k = ltb (present t c i k) (top t i + top t k)
 
-abbrev pub withMayRise : Size → List ℕ → List ℕ → ℕ → ℕ → ℕ → Bool
-withMayRise z b c i k a = ltb (presentAt b c i k) (benefitAt b i a + top (z .strategies) b k)
+abbrev pub withMayRise : Table → List ℕ → ℕ → ℕ → ℕ → Bool
+withMayRise t c i k a = another t c i a && ltb (present t c i k) (t .benefit i a + top t k)

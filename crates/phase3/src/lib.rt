@@ -1,12 +1,14 @@
 // Phase 3: the first change that raises the total and stays within the limits is made, and the search begins again.
 ghost use mathlib.Core.Path.{_≡_};
 ghost use Prim.Native.Nat.{ℕ, _<_, _≤_, max};
+ghost use mathlib.Core.Bool.{true};
 ghost use mathlib.Core.List.{List};
 ghost use lib.ListN.{length};
-ghost use Rattle.rules.specs.Phases.{strategyAt, another, firstSingle, firstPair, change, phase3};
+ghost use Rattle.base.specs.Over.{most};
+ghost use Rattle.rules.specs.Phases.{another, firstSingle, firstPair, change, phase3};
 use tables::Size;
-ghost use Rattle.tables.specs.Arrays.{tables, Gains, Cell, Sound, Ready};
-ghost use Rattle.phase3.specs.Improve.{after, isNothing, Inside, Found, countsOne, countsTwo, top, Tops, Programme, presentAt, pairMayRise, withMayRise};
+ghost use Rattle.tables.specs.Arrays.{benefitAt, tables, Gains, Ready};
+ghost use Rattle.phase3.specs.Improve.{after, isNothing, Inside, Found, countsOne, countsTwo, Tops, Programme, present, pairMayRise, withMayRise};
 
 // A change: none, segment i gets strategy a, or segments i and k get strategies a and b.
 pub enum Change {
@@ -25,7 +27,7 @@ fn larger(a: u64, b: u64) -> u64
 fn top_of(strategies: usize, benefits: &[u64], i: usize) -> u64
     requires { ⌜ Gains (now benefits) ⌝ }
     requires { ⌜ (1 ≤ i) × (i ≤ 64) × (strategies ≤ 11) ⌝ }
-    ensures { λ v. ⌜ v ≡ top strategies (now (benefits .entry)) i ⌝ }
+    ensures { λ v. ⌜ v ≡ most strategies (benefitAt (now (benefits .entry)) i) ⌝ }
 {
     let mut greatest: u64 = 0;
     for j in 0..strategies {
@@ -46,16 +48,31 @@ fn fill_tops(z: Size, benefits: &[u64], tops: &mut [u64])
     }
 }
 
+// Strategy a is not the one that segment i has, and is a candidate or nothing.
+fn is_another(z: Size, benefits: &[u64], choice: &[usize], i: usize, a: usize) -> bool
+    requires { ⌜ Programme z (now benefits) (now choice) ⌝ }
+    requires { ⌜ (1 ≤ i) × (i ≤ z .segments) × (a ≤ z .strategies) ⌝ }
+    ensures { λ ok. ⌜ ((u l : List ℕ) → ok ≡ another (tables z (now (benefits .entry)) u l) (now (choice .entry)) i a) ⌝ }
+{
+    if a == choice[i - 1] {
+        return false;
+    }
+    if a == 0 {
+        return true;
+    }
+    0 < tables::benefit(benefits, i, a)
+}
+
 // What segments i and k gain now.
-fn present(z: Size, benefits: &[u64], choice: &[usize], i: usize, k: usize) -> u64
+fn present_benefit(z: Size, benefits: &[u64], choice: &[usize], i: usize, k: usize) -> u64
     requires { ⌜ Programme z (now benefits) (now choice) ⌝ }
     requires { ⌜ (1 ≤ i) × (i < k) × (k ≤ z .segments) ⌝ }
-    ensures { λ v. ⌜ v ≡ presentAt (now (benefits .entry)) (now (choice .entry)) i k ⌝ }
+    ensures { λ v. ⌜ ((u l : List ℕ) → v ≡ present (tables z (now (benefits .entry)) u l) (now (choice .entry)) i k) ⌝ }
 {
     tables::chosen_benefit(benefits, choice, i) + tables::chosen_benefit(benefits, choice, k)
 }
 
-// Some strategies of segments i and k, whatever they use, gain more than the present ones.
+// The greatest benefits of segments i and k are more than the present ones.
 fn pair_may_rise(
     z: Size,
     benefits: &[u64],
@@ -66,12 +83,12 @@ fn pair_may_rise(
 ) -> bool
     requires { ⌜ Programme z (now benefits) (now choice) × Tops z (now benefits) (now tops) ⌝ }
     requires { ⌜ (1 ≤ i) × (i < k) × (k ≤ z .segments) ⌝ }
-    ensures { λ ok. ⌜ ok ≡ pairMayRise z (now (benefits .entry)) (now (choice .entry)) i k ⌝ }
+    ensures { λ ok. ⌜ ((u l : List ℕ) → ok ≡ pairMayRise (tables z (now (benefits .entry)) u l) (now (choice .entry)) i k) ⌝ }
 {
-    present(z, benefits, choice, i, k) < tops[i - 1] + tops[k - 1]
+    present_benefit(z, benefits, choice, i, k) < tops[i - 1] + tops[k - 1]
 }
 
-// Strategy a of segment i gains more with some strategy of segment k.
+// Strategy a is another for segment i, and with the greatest benefit of segment k it is more than the present ones.
 fn with_may_rise(
     z: Size,
     benefits: &[u64],
@@ -83,24 +100,12 @@ fn with_may_rise(
 ) -> bool
     requires { ⌜ Programme z (now benefits) (now choice) × Tops z (now benefits) (now tops) ⌝ }
     requires { ⌜ (1 ≤ i) × (i < k) × (k ≤ z .segments) × (a ≤ z .strategies) ⌝ }
-    ensures { λ ok. ⌜ ok ≡ withMayRise z (now (benefits .entry)) (now (choice .entry)) i k a ⌝ }
+    ensures { λ ok. ⌜ ((u l : List ℕ) → ok ≡ withMayRise (tables z (now (benefits .entry)) u l) (now (choice .entry)) i k a) ⌝ }
 {
-    present(z, benefits, choice, i, k) < tables::benefit(benefits, i, a) + tops[k - 1]
-}
-
-// Strategy a is not the one that segment i has, and is a candidate or nothing.
-fn is_another(benefits: &[u64], choice: &[usize], i: usize, a: usize) -> bool
-    requires { ⌜ Gains (now benefits) × (length (now choice) ≡ 64) ⌝ }
-    requires { ⌜ Cell i a ⌝ }
-    ensures { λ ok. ⌜ ((z : Size) (u l : List ℕ) → ok ≡ another (tables z (now (benefits .entry)) u l) (now (choice .entry)) i a) ⌝ }
-{
-    if a == choice[i - 1] {
+    if !is_another(z, benefits, choice, i, a) {
         return false;
     }
-    if a == 0 {
-        return true;
-    }
-    0 < tables::benefit(benefits, i, a)
+    present_benefit(z, benefits, choice, i, k) < tables::benefit(benefits, i, a) + tops[k - 1]
 }
 
 // Giving segment i strategy a counts. A strategy of greater benefit is another one, and a candidate.
@@ -124,7 +129,7 @@ fn counts_one(
     tables::fits_one(z, benefits, uses, limits, choice, sums, i, a)
 }
 
-// Giving segments i and k strategies a and b counts: the rise first, and the limits last.
+// Giving segments i and k strategies a, another one, and b counts: the rise is tested first, and the limits last.
 fn counts_two(
     z: Size,
     benefits: &[u64],
@@ -139,16 +144,14 @@ fn counts_two(
 ) -> bool
     requires { ⌜ Ready z (now benefits) (now uses) (now limits) (now choice) (now sums) ⌝ }
     requires { ⌜ (1 ≤ i) × (i < k) × (k ≤ z .segments) × (a ≤ z .strategies) × (b ≤ z .strategies) ⌝ }
+    requires { ⌜ another (tables z (now benefits) (now uses) (now limits)) (now choice) i a ≡ true ⌝ }
     ensures { λ ok. ⌜ ok ≡ countsTwo (tables z (now (benefits .entry)) (now (uses .entry)) (now (limits .entry))) (now (choice .entry)) i k a b ⌝ }
 {
     let new = tables::benefit(benefits, i, a) + tables::benefit(benefits, k, b);
-    if new <= present(z, benefits, choice, i, k) {
+    if new <= present_benefit(z, benefits, choice, i, k) {
         return false;
     }
-    if !is_another(benefits, choice, i, a) {
-        return false;
-    }
-    if !is_another(benefits, choice, k, b) {
+    if !is_another(z, benefits, choice, k, b) {
         return false;
     }
     tables::fits_two(z, benefits, uses, limits, choice, sums, i, k, a, b)

@@ -8,10 +8,7 @@ use Rattle.phase3.proofs.counts_one.Statement.{statement}
 use Rattle.phase3.proofs.counts_one.Tie as tie
 
 benefit-requires : tie.Need-benefit-requires
-benefit-requires c κs =
-    let s = c .before .before .before .before .before in
-    let m = s .pre .1 in
-    (gains-of _ _ _ _ (s .pre .0 .sound), cell-of _ _ _ _ (s .pre .0 .sound) _ _ (m .0) (m .1) (m .2))
+benefit-requires c κs = search needs
 
 chosen-benefit-requires : tie.Need-chosen-benefit-requires
 chosen-benefit-requires c κs =

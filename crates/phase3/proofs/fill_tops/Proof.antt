@@ -5,13 +5,14 @@ use native.Mathlib.Omega.{arith}
 use lib.ListN.{length, getD, length-set}
 use lib.Seq.{getD-set-same, getD-set-other}
 use Rattle.base.proofs.All.{each-none, each-next}
-use Rattle.phase3.specs.Improve.{top}
+use Rattle.base.specs.Over.{most}
+use Rattle.tables.specs.Arrays.{benefitAt}
 use borrow.Author.Needs.{needs}
 use Rattle.phase3.proofs.fill_tops.Statement.{statement}
 use Rattle.phase3.proofs.fill_tops.Tie as tie
 
 abbrev Inv-loop : tie.InvT-loop
-Inv-loop z benefits tops₀ segments i₀ tops i = (i ≤ segments) × (length tops ≡ length tops₀) × ((p : ℕ) → 1 ≤ p → p ≤ i → getD tops (p - 1) 0 ≡ top (z .strategies) benefits p)
+Inv-loop z benefits tops₀ segments i₀ tops i = (i ≤ segments) × (length tops ≡ length tops₀) × ((p : ℕ) → 1 ≤ p → p ≤ i → getD tops (p - 1) 0 ≡ most (z .strategies) (benefitAt benefits p))
 
 abbrev μ-loop : tie.MeasureT-loop
 μ-loop z benefits tops₀ segments i₀ tops i = segments - i

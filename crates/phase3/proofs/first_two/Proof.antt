@@ -5,9 +5,10 @@ use mathlib.Core.Logic.{⊎-elim}
 use mathlib.Core.Option.{none}
 use borrow.Author.Count.{below-none, below-more}
 use native.Mathlib.Omega.{arith}
+use denote.Ref.{now}
 use Rattle.rules.specs.Phases.{pair, pairsWith, pairsOf, pairsFrom}
 use Rattle.tables.specs.Arrays.{tables}
-use Rattle.tables.proofs.Laws.{places}
+use Rattle.tables.proofs.Laws.{benefit-nothing, places}
 use Rattle.phase3.specs.declared.Change.the-variants.{Nothing}
 use Rattle.phase3.proofs.Laws.{
   pair-none,
@@ -19,6 +20,7 @@ use Rattle.phase3.proofs.Laws.{
   pair-found,
   no-with,
   no-of,
+  another-of,
   programme-of,
   found-nothing,
 }
@@ -135,7 +137,10 @@ counts-two-requires :
     μ-loop
     Inv-search
     μ-search
-counts-two-requires c κs = (c .before .before .before .before .before .before .before .before .before .before .before .before .before .before .before .before .before .before .before .before .pre .0, (omega arith, omega arith, omega arith, omega arith, omega arith))
+counts-two-requires c κs = (
+  c .before .before .before .before .before .before .before .before .before .before .before .before .before .before .before .before .before .before .before .before .pre .0,
+  ((omega arith, omega arith, omega arith, omega arith, omega arith), another-of _ _ (sym (c .before .before .before .with-may-rise .ensures _ _) ∙ c .before .before .if2 .taken)),
+)
 
 add-b : tie.Need-add-b Inv-loop3 μ-loop3 Inv-loop2 μ-loop2 Inv-loop μ-loop Inv-search μ-search
 add-b c = omega (arith, c .before .before .loop3-test .taken, c .before .before .before .before .before .before .before .before .before .before .before .before .before .before .before .before .before .before .before .before .before .before .pre .0 .sound .strategies)
@@ -172,7 +177,7 @@ loop2-again c =
     ))
     (λ w. (
       search needs,
-      below-more _ _ (l .inv .1) (no-with _ _ _ _ _ room _ _ (omega arith) (omega arith) (omega arith) _ (sym (c .before .with-may-rise .ensures) ∙ w .0 .left)),
+      below-more _ _ (l .inv .1) (no-with _ _ (benefit-nothing _) room _ _ (omega arith) (omega arith) (omega arith) _ (sym (c .before .with-may-rise .ensures _ _) ∙ w .0 .left)),
       w .1 ∙ l .inv .2,
     ))
     (c .if2 .came)
@@ -188,7 +193,8 @@ loop-again :
     tie.Need-loop-again Inv-loop3 μ-loop3 Inv-loop2 μ-loop2 Inv-loop μ-loop Inv-search μ-search
 loop-again c =
     let l = c .before .before .before .loop in
-    let room = places _ _ _ _ _ _ (c .before .before .before .before .before .before .before .before .before .before .before .before .before .before .pre .0) in
+    let s = c .before .before .before .before .before .before .before .before .before .before .before .before .before .before in
+    let room = places _ _ _ _ _ _ (s .pre .0) in
     ⊎-elim
     (λ w. (
       search needs,
@@ -199,7 +205,7 @@ loop-again c =
     (λ w. (
       search needs,
       search needs,
-      below-more _ _ (l .inv .2) (λ one. no-of _ _ _ _ _ room _ _ (omega arith) (omega arith) (omega arith) (sym (c .before .pair-may-rise .ensures) ∙ w .0 .left)),
+      below-more _ _ (l .inv .2) (λ one. no-of _ _ (benefit-nothing _) room _ _ (omega arith) (omega arith) (omega arith) (sym (c .before .pair-may-rise .ensures (now (s .args .uses)) (now (s .args .limits))) ∙ w .0 .left)),
       w .1 ∙ l .inv .3,
     ))
     (c .if1 .came)

@@ -6,8 +6,8 @@ use borrow.Author.Needs.{needs}
 use Rattle.phase3.proofs.pair_may_rise.Statement.{statement}
 use Rattle.phase3.proofs.pair_may_rise.Tie as tie
 
-present-requires : tie.Need-present-requires
-present-requires c κs = search needs
+present-benefit-requires : tie.Need-present-benefit-requires
+present-benefit-requires c κs = search needs
 
 sub-result : tie.Need-sub-result
 sub-result c = search needs
@@ -40,13 +40,13 @@ returns c =
     let s = c .before .before .before .before .before .before in
     let a = s .args in
     let e = s .pre .0 .1 .each in
-    rw (c .before .before .present .ensures, e (a .i) (omega arith) (omega arith), e (a .k) (omega arith) (omega arith))
+    λ u l. rw (c .before .before .present-benefit .ensures u l, e (a .i) (omega arith) (omega arith), e (a .k) (omega arith) (omega arith))
 
 pub pair-may-rise-spec : {M : Type 1} → statement M
 pair-may-rise-spec =
     tie.close
     (tie.spec
-    present-requires
+    present-benefit-requires
     sub-result
     mul-result
     shared-slice-read-result

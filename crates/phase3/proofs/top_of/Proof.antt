@@ -5,7 +5,6 @@ use native.Mathlib.Omega.{arith}
 use Rattle.base.specs.Over.{most}
 use Rattle.base.proofs.Sums.{most-none, most-next, most-end}
 use Rattle.tables.specs.Arrays.{benefitAt}
-use Rattle.phase3.specs.Improve.{top}
 use borrow.Author.Needs.{needs}
 use Rattle.phase3.proofs.top_of.Statement.{statement}
 use Rattle.phase3.proofs.top_of.Tie as tie
@@ -38,7 +37,6 @@ loop-again : tie.Need-loop-again Inv-loop μ-loop
 loop-again c = (search needs, rw (c .larger .ensures, c .before .benefit .ensures) (most-next _ _ (c .before .before .before .loop .inv .1)))
 
 returns : tie.Need-returns Inv-loop μ-loop
-unfolding top
 returns c = most-end _ _ _ (c .before .loop .inv .1) (c .before .loop .inv .0) (omega arith)
 
 pub top-of-spec : {M : Type 1} → statement M

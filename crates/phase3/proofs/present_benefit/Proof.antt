@@ -1,12 +1,12 @@
--- `phase3::present` meets its contract. Assumes nothing.
+-- `phase3::present_benefit` meets its contract. Assumes nothing.
 use Prim.Native.Nat.{_+_}
 use native.Mathlib.Omega.{arith}
 use denote.Ref.{now}
 use Rattle.rules.specs.Phases.{strategyAt}
 use Rattle.tables.proofs.Laws.{benefit-lt}
 use borrow.Author.Needs.{needs}
-use Rattle.phase3.proofs.present.Statement.{statement}
-use Rattle.phase3.proofs.present.Tie as tie
+use Rattle.phase3.proofs.present_benefit.Statement.{statement}
+use Rattle.phase3.proofs.present_benefit.Tie as tie
 
 chosen-benefit-requires : tie.Need-chosen-benefit-requires
 chosen-benefit-requires c κs =
@@ -35,6 +35,6 @@ add-result c =
 returns : tie.Need-returns
 returns c = search needs
 
-pub present-spec : {M : Type 1} → statement M
-present-spec =
+pub present-benefit-spec : {M : Type 1} → statement M
+present-benefit-spec =
     tie.close (tie.spec chosen-benefit-requires chosen-benefit-requires-2 add-result returns)
