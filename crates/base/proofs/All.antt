@@ -32,6 +32,11 @@ all-at n f e k l h = known (f k) refl
     known true q = q
     known false q = cc (all-fails n f k l h q)
 
+pub all-true : (n : ℕ) (f : ℕ → Bool) → ((k : ℕ) → 1 ≤ k → k ≤ n → f k ≡ true) → all n f ≡ true
+unfolding all
+all-true zero f h = refl
+all-true (suc n) f h = rw (all-true n f (λ k l u. h k l (omega arith))) (h (suc n) (omega arith) (omega arith))
+
 pub all-cong : (n : ℕ) (f g : ℕ → Bool) → ((k : ℕ) → 1 ≤ k → k ≤ n → f k ≡ g k) → all n f ≡ all n g
 unfolding all
 all-cong zero f g h = refl

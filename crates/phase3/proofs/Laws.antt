@@ -21,6 +21,8 @@ use Rattle.rules.specs.Phases.{
   isCandidate,
   chosenBenefit,
   total,
+  chosenUsage,
+  used,
   within,
   start,
   another,
@@ -38,11 +40,11 @@ use Rattle.rules.specs.Phases.{
   phase3,
 }
 use Rattle.laws.proofs.Changes.{change-rises, change-numbers, total-most}
-use Rattle.laws.proofs.Give.{kept, total-give}
+use Rattle.laws.proofs.Give.{kept, total-give, used-give, within-less}
 use Rattle.tables.specs.declared.Size.{Size}
 use Rattle.tables.specs.Arrays.{benefitAt, tables, Gains, Ready}
 use Rattle.tables.proofs.Laws.{benefit-nothing, benefit-lt, gains-of, total-le}
-use Rattle.phase3.specs.Improve.{after, isNothing, made, Found, countsOne, countsTwo, top, Programme, present, pairMayRise, withMayRise}
+use Rattle.phase3.specs.Improve.{after, isNothing, made, Found, countsOne, countsTwo, top, Programme, present, pairMayRise, withMayCount}
 use Rattle.phase3.specs.declared.Change.{Change}
 use Rattle.phase3.specs.declared.Change.the-variants.{Nothing, One, Two}
 
@@ -93,6 +95,11 @@ not-first t c i k a b e = rw e
 
 pub not-second : (t : Table) (c : List ℕ) (i k a b : ℕ) → another t c k b ≡ false → countsTwo t c i k a b ≡ false
 not-second t c i k a b e = rw e (and-false (another t c i a))
+
+pub over-two : (t : Table) (c : List ℕ) (i k a b : ℕ) → within t (give (give c i a) k b) ≡ false → countsTwo t c i k a b ≡ false
+unfolding counts
+over-two t c i k a b e =
+    rw (e, and-false (ltb (total t c) (total t (give (give c i a) k b))), and-false (another t c k b)) (and-false (another t c i a))
 
 -- ---- the nested searches, as the loops go through them
 
@@ -170,32 +177,68 @@ module _ (t : Table) where
 
 -- ---- what cannot rise is passed over
 
-module _ (t : Table) (c : List ℕ) (nothing : (i : ℕ) → t .benefit i 0 ≡ 0) (room : t .segments ≤ length c) (i k : ℕ) (low : 1 ≤ i) (above : i < k) (high : k ≤ t .segments) where
-  top-ge : (i j : ℕ) → j < t .strategies + 1 → t .benefit i j ≤ top t i
-  top-ge i zero h = omega (arith, nothing i)
-  top-ge i (suc j) h = most-part (t .strategies) (t .benefit i) (suc j) (omega arith) (omega arith)
-
+module _ (t : Table) (c : List ℕ) (room : t .segments ≤ length c) (i k : ℕ) (low : 1 ≤ i) (above : i < k) (high : k ≤ t .segments) where
   low-pair : (a b : ℕ) → t .benefit i a + t .benefit k b ≤ present t c i k → pair t c i k a b ≡ none
   low-pair a b h = pair-none t c i k a b (low-two t c i a low (omega arith) room k b above high h)
 
-  pub no-of : pairMayRise t c i k ≡ false → pairsOf t c i k ≡ none
-  no-of e =
-      let none-more = ltb-false (present t c i k) (top t i + top t k) e in
-      of-none t c i k (λ a la. with-none t c i k a (λ b lb. low-pair a b (omega (arith, top-ge i a la, top-ge k b lb))))
+  module _ (gain : (i : ℕ) → t .benefit i 0 ≡ 0) where
+    top-ge : (i j : ℕ) → j < t .strategies + 1 → t .benefit i j ≤ top t i
+    top-ge i zero h = omega (arith, gain i)
+    top-ge i (suc j) h = most-part (t .strategies) (t .benefit i) (suc j) (omega arith) (omega arith)
 
-  pub no-with : (a : ℕ) → withMayRise t c i k a ≡ false → pairsWith t c i k a ≡ none
-  no-with a e = with-none t c i k a (λ b lb. go b lb (another t c i a) refl)
+    pub no-of : pairMayRise t c i k ≡ false → pairsOf t c i k ≡ none
+    no-of e =
+        let no-more = ltb-false (present t c i k) (top t i + top t k) e in
+        of-none t c i k (λ a la. with-none t c i k a (λ b lb. low-pair a b (omega (arith, top-ge i a la, top-ge k b lb))))
+
+    module _ (cost : (i r : ℕ) → t .usage i 0 r ≡ 0) (a : ℕ) where
+      -- what does not fit beside nothing fits beside no strategy
+      not-within : (b : ℕ) → within t (give (give c i a) k 0) ≡ false → within t (give (give c i a) k b) ≡ false
+      unfolding chosenUsage
+      not-within b e = go (within t (give (give c i a) k b)) refl
+        where
+          wide : t .segments ≤ length (give c i a)
+          wide = simp length-set room
+
+          less : (r : ℕ) → used t (give (give c i a) k 0) r ≤ used t (give (give c i a) k b) r
+          less r =
+              omega (
+                arith,
+                used-give t (give c i a) k 0 (omega arith) high wide r,
+                used-give t (give c i a) k b (omega arith) high wide r,
+                cost k r,
+              )
+
+          go : (x : Bool) → within t (give (give c i a) k b) ≡ x → x ≡ false
+          go false q = refl
+          go true q = sym (within-less t (give (give c i a) k b) (give (give c i a) k 0) less q) ∙ e
+
+      pub no-with : withMayCount t c i k a ≡ false → pairsWith t c i k a ≡ none
+      no-with e = with-none t c i k a (λ b lb. go b lb (another t c i a) refl (ltb (present t c i k) (t .benefit i a + top t k)) refl)
+        where
+          go : (b : ℕ) → b < t .strategies + 1 → (x : Bool) → another t c i a ≡ x → (y : Bool) → ltb (present t c i k) (t .benefit i a + top t k) ≡ y → pair t c i k a b ≡ none
+          go b lb false q y qy = pair-none t c i k a b (not-first t c i k a b q)
+          go b lb true q false qy = low-pair a b (omega (arith, ltb-false (present t c i k) (t .benefit i a + top t k) qy, top-ge k b lb))
+          go b lb true q true qy = pair-none t c i k a b (over-two t c i k a b (not-within b (rw (q, qy) at e)))
+
+-- the test of a first strategy, step by step
+module _ (t : Table) (c : List ℕ) (i k a : ℕ) where
+  pub not-another : another t c i a ≡ false → withMayCount t c i k a ≡ false
+  not-another e = rw e
+
+  pub not-more : t .benefit i a + top t k ≤ present t c i k → withMayCount t c i k a ≡ false
+  not-more h = rw (le-ltb (present t c i k) (t .benefit i a + top t k) h) (and-false (another t c i a))
+
+  pub more-fits : another t c i a ≡ true → present t c i k < t .benefit i a + top t k → withMayCount t c i k a ≡ within t (give (give c i a) k 0)
+  more-fits e h = rw (e, lt-ltb (present t c i k) (t .benefit i a + top t k) h)
+
+  -- a first strategy that is looked at is another one
+  pub another-of : withMayCount t c i k a ≡ true → another t c i a ≡ true
+  another-of e = go (another t c i a) refl
     where
-      go : (b : ℕ) → b < t .strategies + 1 → (x : Bool) → another t c i a ≡ x → pair t c i k a b ≡ none
-      go b lb false q = pair-none t c i k a b (not-first t c i k a b q)
-      go b lb true q =
-          let none-more = ltb-false (present t c i k) (t .benefit i a + top t k) (sym (ap (λ (x : Bool). x && ltb (present t c i k) (t .benefit i a + top t k)) q) ∙ e) in
-          low-pair a b (omega (arith, top-ge k b lb))
-
--- a first strategy that is looked at is another one
-pub another-of : (x y : Bool) → (x && y) ≡ true → x ≡ true
-another-of true y e = refl
-another-of false y e = e
+      go : (x : Bool) → another t c i a ≡ x → x ≡ true
+      go true q = refl
+      go false q = sym (not-another q) ∙ e
 
 pub top-le : (s : ℕ) (b : List ℕ) → Gains b → (i : ℕ) → most s (benefitAt b i) ≤ 2 ^ 40
 top-le s b g i = most-bound s (2 ^ 40) (benefitAt b i) (λ j l h. let lt = benefit-lt b g i j in omega arith)

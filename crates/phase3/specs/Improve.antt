@@ -8,7 +8,7 @@ use lib.Dec.{ltb}
 use lib.ListN.{getD, length}
 use Rattle.base.specs.Over.{most}
 use Rattle.rules.specs.Table.{Table}
-use Rattle.rules.specs.Phases.{strategyAt, give, another, counts}
+use Rattle.rules.specs.Phases.{strategyAt, give, within, another, counts}
 use Rattle.tables.specs.declared.Size.{Size}
 use Rattle.tables.specs.Arrays.{benefitAt, Gains, Chosen}
 use Rattle.phase3.specs.declared.Change.{Change}
@@ -72,5 +72,6 @@ present t c i k = t .benefit i (strategyAt c i) + t .benefit k (strategyAt c k)
 abbrev pub pairMayRise : Table → List ℕ → ℕ → ℕ → Bool
 pairMayRise t c i k = ltb (present t c i k) (top t i + top t k)
 
-abbrev pub withMayRise : Table → List ℕ → ℕ → ℕ → ℕ → Bool
-withMayRise t c i k a = another t c i a && ltb (present t c i k) (t .benefit i a + top t k)
+abbrev pub withMayCount : Table → List ℕ → ℕ → ℕ → ℕ → Bool
+withMayCount t c i k a =
+    another t c i a && (ltb (present t c i k) (t .benefit i a + top t k) && within t (give (give c i a) k 0))

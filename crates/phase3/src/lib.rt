@@ -8,7 +8,7 @@ ghost use Rattle.base.specs.Over.{most};
 ghost use Rattle.rules.specs.Phases.{another, firstSingle, firstPair, change, phase3};
 use tables::Size;
 ghost use Rattle.tables.specs.Arrays.{benefitAt, tables, Gains, Ready};
-ghost use Rattle.phase3.specs.Improve.{after, isNothing, Inside, Found, countsOne, countsTwo, Tops, Programme, present, pairMayRise, withMayRise};
+ghost use Rattle.phase3.specs.Improve.{after, isNothing, Inside, Found, countsOne, countsTwo, Tops, Programme, present, pairMayRise, withMayCount};
 
 // A change: none, segment i gets strategy a, or segments i and k get strategies a and b.
 pub enum Change {
@@ -88,24 +88,31 @@ fn pair_may_rise(
     present_benefit(z, benefits, choice, i, k) < tops[i - 1] + tops[k - 1]
 }
 
-// Strategy a is another for segment i, and with the greatest benefit of segment k it is more than the present ones.
-fn with_may_rise(
+// Strategy a is another for segment i, more than the present with the greatest benefit of segment k, and within the
+// limits where segment k gets nothing.
+fn with_may_count(
     z: Size,
     benefits: &[u64],
+    uses: &[u64],
+    limits: &[u64],
     choice: &[usize],
+    sums: &[u64],
     tops: &[u64],
     i: usize,
     k: usize,
     a: usize,
 ) -> bool
-    requires { ⌜ Programme z (now benefits) (now choice) × Tops z (now benefits) (now tops) ⌝ }
+    requires { ⌜ Ready z (now benefits) (now uses) (now limits) (now choice) (now sums) × Tops z (now benefits) (now tops) ⌝ }
     requires { ⌜ (1 ≤ i) × (i < k) × (k ≤ z .segments) × (a ≤ z .strategies) ⌝ }
-    ensures { λ ok. ⌜ ((u l : List ℕ) → ok ≡ withMayRise (tables z (now (benefits .entry)) u l) (now (choice .entry)) i k a) ⌝ }
+    ensures { λ ok. ⌜ ok ≡ withMayCount (tables z (now (benefits .entry)) (now (uses .entry)) (now (limits .entry))) (now (choice .entry)) i k a ⌝ }
 {
     if !is_another(z, benefits, choice, i, a) {
         return false;
     }
-    present_benefit(z, benefits, choice, i, k) < tables::benefit(benefits, i, a) + tops[k - 1]
+    if tables::benefit(benefits, i, a) + tops[k - 1] <= present_benefit(z, benefits, choice, i, k) {
+        return false;
+    }
+    tables::fits_two(z, benefits, uses, limits, choice, sums, i, k, a, 0)
 }
 
 // Giving segment i strategy a counts. A strategy of greater benefit is another one, and a candidate.
@@ -184,7 +191,7 @@ fn first_one(
 }
 
 // The first pair that counts: by first segment, second (the higher), first strategy, second strategy. Segments and
-// first strategies that cannot raise the total are passed over.
+// first strategies with which no pair can count are passed over.
 fn first_two(
     z: Size,
     benefits: &[u64],
@@ -205,7 +212,7 @@ fn first_two(
         for k in i + 1..segments_end {
             if pair_may_rise(z, benefits, choice, tops, i, k) {
                 for a in 0..strategies_end {
-                    if with_may_rise(z, benefits, choice, tops, i, k, a) {
+                    if with_may_count(z, benefits, uses, limits, choice, sums, tops, i, k, a) {
                         for b in 0..strategies_end {
                             if counts_two(z, benefits, uses, limits, choice, sums, i, k, a, b) {
                                 found = Change::Two(i, k, a, b);

@@ -8,7 +8,7 @@ use native.Mathlib.Omega.{arith}
 use denote.Ref.{now}
 use Rattle.rules.specs.Phases.{pair, pairsWith, pairsOf, pairsFrom}
 use Rattle.tables.specs.Arrays.{tables}
-use Rattle.tables.proofs.Laws.{benefit-nothing, places}
+use Rattle.tables.proofs.Laws.{benefit-nothing, usage-nothing, places}
 use Rattle.phase3.specs.declared.Change.the-variants.{Nothing}
 use Rattle.phase3.proofs.Laws.{
   pair-none,
@@ -109,8 +109,8 @@ loop2-holds :
     tie.Need-loop2-holds Inv-loop3 μ-loop3 Inv-loop2 μ-loop2 Inv-loop μ-loop Inv-search μ-search
 loop2-holds c = (search needs, below-none _, c .before .before .before .loop .inv .3)
 
-with-may-rise-requires :
-    tie.Need-with-may-rise-requires
+with-may-count-requires :
+    tie.Need-with-may-count-requires
     Inv-loop3
     μ-loop3
     Inv-loop2
@@ -119,9 +119,7 @@ with-may-rise-requires :
     μ-loop
     Inv-search
     μ-search
-with-may-rise-requires c κs =
-    let s = c .before .before .before .before .before .before .before .before .before .before .before .before .before .before .before .before .pre in
-    ((programme-of _ _ _ _ _ _ (s .0), s .1), (omega arith, omega arith, omega arith, omega arith))
+with-may-count-requires c κs = (c .before .before .before .before .before .before .before .before .before .before .before .before .before .before .before .before .pre, (omega arith, omega arith, omega arith, omega arith))
 
 loop3-holds :
     tie.Need-loop3-holds Inv-loop3 μ-loop3 Inv-loop2 μ-loop2 Inv-loop μ-loop Inv-search μ-search
@@ -139,7 +137,7 @@ counts-two-requires :
     μ-search
 counts-two-requires c κs = (
   c .before .before .before .before .before .before .before .before .before .before .before .before .before .before .before .before .before .before .before .before .pre .0,
-  ((omega arith, omega arith, omega arith, omega arith, omega arith), another-of _ _ (sym (c .before .before .before .with-may-rise .ensures _ _) ∙ c .before .before .if2 .taken)),
+  ((omega arith, omega arith, omega arith, omega arith, omega arith), another-of _ _ _ _ _ (sym (c .before .before .before .with-may-count .ensures) ∙ c .before .before .if2 .taken)),
 )
 
 add-b : tie.Need-add-b Inv-loop3 μ-loop3 Inv-loop2 μ-loop2 Inv-loop μ-loop Inv-search μ-search
@@ -177,7 +175,7 @@ loop2-again c =
     ))
     (λ w. (
       search needs,
-      below-more _ _ (l .inv .1) (no-with _ _ (benefit-nothing _) room _ _ (omega arith) (omega arith) (omega arith) _ (sym (c .before .with-may-rise .ensures _ _) ∙ w .0 .left)),
+      below-more _ _ (l .inv .1) (no-with _ _ room _ _ (omega arith) (omega arith) (omega arith) (benefit-nothing _) (usage-nothing _) _ (sym (c .before .with-may-count .ensures) ∙ w .0 .left)),
       w .1 ∙ l .inv .2,
     ))
     (c .if2 .came)
@@ -205,7 +203,7 @@ loop-again c =
     (λ w. (
       search needs,
       search needs,
-      below-more _ _ (l .inv .2) (λ one. no-of _ _ (benefit-nothing _) room _ _ (omega arith) (omega arith) (omega arith) (sym (c .before .pair-may-rise .ensures (now (s .args .uses)) (now (s .args .limits))) ∙ w .0 .left)),
+      below-more _ _ (l .inv .2) (λ one. no-of _ _ room _ _ (omega arith) (omega arith) (omega arith) (benefit-nothing _) (sym (c .before .pair-may-rise .ensures (now (s .args .uses)) (now (s .args .limits))) ∙ w .0 .left)),
       w .1 ∙ l .inv .3,
     ))
     (c .if1 .came)
@@ -260,7 +258,7 @@ first-two-spec =
     loop-holds
     pair-may-rise-requires
     loop2-holds
-    with-may-rise-requires
+    with-may-count-requires
     loop3-holds
     counts-two-requires
     add-b
