@@ -115,6 +115,9 @@ pub most-next : (n : ℕ) (f : ℕ → ℕ) {t : ℕ} → t ≡ most n f → max
 unfolding most
 most-next n f e = rw (add-one, e)
 
+pub most-end : (n m : ℕ) (f : ℕ → ℕ) {t : ℕ} → t ≡ most m f → m ≤ n → n ≤ m → t ≡ most n f
+most-end n m f e l h = let q : n ≡ m = omega arith in rw q e
+
 pub most-part : (n : ℕ) (f : ℕ → ℕ) (k : ℕ) → 1 ≤ k → k ≤ n → f k ≤ most n f
 unfolding most
 most-part zero f k l h = absurd (omega arith)

@@ -2,13 +2,16 @@
 use Prim.Native.Nat.{ℕ, zero, suc, _+_, _-_, _≤_}
 use mathlib.Core.Path.{_≡_, ap, sym}
 use mathlib.Core.List.{List, [], _∷_}
+use mathlib.Core.Bool.{true}
 use native.Mathlib.Omega.{arith}
+use borrow.Author.Tests.{le-leb, leb-true}
 use lib.ListN.{getD, length, set}
 use lib.Seq.{getD-set-same, getD-set-other}
 use Rattle.base.specs.Over.{sum}
+use Rattle.base.proofs.All.{all-true, all-at}
 use Rattle.base.proofs.Sums.{sum-change}
 use Rattle.rules.specs.Table.{Table}
-use Rattle.rules.specs.Phases.{strategyAt, give, chosenBenefit, total, chosenUsage, used}
+use Rattle.rules.specs.Phases.{strategyAt, give, chosenBenefit, total, chosenUsage, used, holds, within}
 
 pub given : (c : List ℕ) (i j : ℕ) → 1 ≤ i → i ≤ length c → strategyAt (give c i j) i ≡ j
 given c i j l h = getD-set-same c (i - 1) j 0 (omega arith)
@@ -45,3 +48,10 @@ module _ (t : Table) (c : List ℕ) (i j : ℕ) (l : 1 ≤ i) (h : i ≤ t .segm
   pub used-give : (r : ℕ) → used t (give c i j) r + chosenUsage t c r i ≡ used t c r + t .usage i j r
   unfolding used chosenUsage
   used-give r = sum-give (λ k m. t .usage k m r)
+
+-- a programme that uses no more is within the limits too
+pub within-less : (t : Table) (c e : List ℕ) → ((r : ℕ) → used t e r ≤ used t c r) → within t c ≡ true → within t e ≡ true
+unfolding within holds
+within-less t c e less w =
+    all-true (t .resources) (holds t e)
+    (λ r l h. le-leb (used t e r) (t .limit r) (omega (arith, less r, leb-true (used t c r) (t .limit r) (all-at (t .resources) (holds t c) w r l h))))

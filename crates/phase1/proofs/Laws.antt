@@ -313,7 +313,7 @@ module _ (z : Size) (b u l s c₀ c sums : List ℕ) (m : ℕ) (down : Down z b 
             ready = ready;
             fit = down .held .fit;
             shares = down .held .shares;
-            candidates = step-allowed (tables z b u l) (down .held .fit .segments) c d some-step (down .held .candidates);
+            candidates = step-allowed (tables z b u l) c d some-step (down .held .candidates);
           };
           reached = reached-next (step (tables z b u l)) (z .segments * z .strategies) c₀ c d m (down .reached) h some-step;
         }

@@ -1,0 +1,335 @@
+-- Laws of the search for changes: what raises nothing is no change, and how the nested loops find the first. Assumes nothing.
+use Prim.Native.Nat.{ℕ, zero, suc, _+_, _-_, _^_, _≤_, _<_}
+use mathlib.Core.Path.{_≡_, refl, sym, ap, _∙_}
+use mathlib.Core.Bool.{Bool, true, false, not, _&&_, _||_, and-false, or-true, true≢false}
+use mathlib.Core.List.{List}
+use mathlib.Core.Option.{Option, none, some}
+use native.Mathlib.Omega.{arith}
+use borrow.Author.Tests.{lt-ltb, le-ltb, ltb-false, ne-eqb}
+use lib.Dec.{ltb, eqb}
+use lib.ListN.{getD, length, length-set}
+use Rattle.base.specs.Choice.{pick, only}
+use Rattle.base.specs.Over.{most}
+use Rattle.base.specs.Search.{first, orElse, Run, run}
+use Rattle.base.proofs.Sums.{most-part, most-bound}
+use Rattle.base.proofs.Runs.{Reached, reached-start, reached-next, reached-end}
+use Rattle.base.proofs.Search.{first-none, first-found}
+use Rattle.rules.specs.Table.{Table}
+use Rattle.rules.specs.Phases.{
+  strategyAt,
+  give,
+  isCandidate,
+  chosenBenefit,
+  total,
+  chosenUsage,
+  used,
+  within,
+  start,
+  another,
+  counts,
+  single,
+  pair,
+  firstStrategy,
+  singlesOf,
+  firstSingle,
+  pairsWith,
+  pairsOf,
+  pairsFrom,
+  firstPair,
+  change,
+  phase3,
+}
+use Rattle.laws.proofs.Changes.{change-rises, change-numbers, total-most}
+use Rattle.laws.proofs.Give.{kept, total-give, used-give, within-less}
+use Rattle.tables.specs.declared.Size.{Size}
+use Rattle.tables.specs.Arrays.{benefitAt, tables, Gains, Ready}
+use Rattle.tables.proofs.Laws.{benefit-nothing, benefit-lt, gains-of, total-le}
+use Rattle.phase3.specs.Improve.{after, isNothing, made, Found, countsOne, countsTwo, top, Programme, present, pairMayRise, withMayCount}
+use Rattle.phase3.specs.declared.Change.{Change}
+use Rattle.phase3.specs.declared.Change.the-variants.{Nothing, One, Two}
+
+-- ---- whether the total rises, by the benefits of the segments that change
+
+module _ (t : Table) (c : List ℕ) (i a : ℕ) (low : 1 ≤ i) (high : i ≤ t .segments) (room : t .segments ≤ length c) where
+  total-one : total t (give c i a) + t .benefit i (strategyAt c i) ≡ total t c + t .benefit i a
+  unfolding chosenBenefit
+  total-one = total-give t c i a low high room
+
+  pub low-one : t .benefit i a ≤ t .benefit i (strategyAt c i) → countsOne t c i a ≡ false
+  unfolding counts
+  low-one h = rw (le-ltb (total t c) (total t (give c i a)) (omega (arith, total-one))) (and-false (another t c i a))
+
+  -- a strategy of greater benefit is another one, and a candidate
+  another-one : t .benefit i (strategyAt c i) < t .benefit i a → another t c i a ≡ true
+  unfolding another isCandidate
+  another-one h =
+      let ne : a ≡ strategyAt c i → ⊥ = λ e. let q : t .benefit i a ≡ t .benefit i (strategyAt c i) = ap (t .benefit i) e in omega arith in
+      rw (ne-eqb a (strategyAt c i) ne, lt-ltb 0 (t .benefit i a) (omega arith)) (or-true (eqb a 0))
+
+  pub high-one : t .benefit i (strategyAt c i) < t .benefit i a → countsOne t c i a ≡ within t (give c i a)
+  unfolding counts
+  high-one h = rw (another-one h, lt-ltb (total t c) (total t (give c i a)) (omega (arith, total-one)))
+
+  -- a second segment
+  module _ (k b : ℕ) (above : i < k) (top-k : k ≤ t .segments) where
+    total-two : total t (give (give c i a) k b) + (t .benefit i (strategyAt c i) + t .benefit k (strategyAt c k)) ≡ total t c + (t .benefit i a + t .benefit k b)
+    unfolding chosenBenefit
+    total-two =
+        let wide : t .segments ≤ length (give c i a) = simp length-set room in
+        let second = total-give t (give c i a) k b (omega arith) top-k wide in
+        let same : t .benefit k (strategyAt (give c i a) k) ≡ t .benefit k (strategyAt c k) = ap (t .benefit k) (kept c i a k low (omega arith) (λ e. omega arith)) in
+        omega (arith, total-one)
+
+    pub low-two : t .benefit i a + t .benefit k b ≤ t .benefit i (strategyAt c i) + t .benefit k (strategyAt c k) → countsTwo t c i k a b ≡ false
+    unfolding counts
+    low-two h =
+        rw (le-ltb (total t c) (total t (give (give c i a) k b)) (omega (arith, total-two)), and-false (another t c k b)) (and-false (another t c i a))
+
+    pub high-two : t .benefit i (strategyAt c i) + t .benefit k (strategyAt c k) < t .benefit i a + t .benefit k b → another t c i a ≡ true → another t c k b ≡ true
+        → countsTwo t c i k a b ≡ within t (give (give c i a) k b)
+    unfolding counts
+    high-two h ei ek = rw (ei, ek, lt-ltb (total t c) (total t (give (give c i a) k b)) (omega (arith, total-two)))
+
+pub not-first : (t : Table) (c : List ℕ) (i k a b : ℕ) → another t c i a ≡ false → countsTwo t c i k a b ≡ false
+not-first t c i k a b e = rw e
+
+pub not-second : (t : Table) (c : List ℕ) (i k a b : ℕ) → another t c k b ≡ false → countsTwo t c i k a b ≡ false
+not-second t c i k a b e = rw e (and-false (another t c i a))
+
+pub over-two : (t : Table) (c : List ℕ) (i k a b : ℕ) → within t (give (give c i a) k b) ≡ false → countsTwo t c i k a b ≡ false
+unfolding counts
+over-two t c i k a b e =
+    rw (e, and-false (ltb (total t c) (total t (give (give c i a) k b))), and-false (another t c k b)) (and-false (another t c i a))
+
+-- ---- the nested searches, as the loops go through them
+
+module _ (t : Table) where
+  pub strategy-none : (f : ℕ → Option (List ℕ)) → ((a : ℕ) → a < t .strategies + 1 → f a ≡ none) → firstStrategy t f ≡ none
+  unfolding firstStrategy
+  strategy-none f h = rw (h 0 (omega arith)) (first-none (t .strategies) f (λ a l u. h a (omega arith)))
+
+  pub strategy-found : (f : ℕ → Option (List ℕ)) (a : ℕ) (e : List ℕ) → a < t .strategies + 1 → ((v : ℕ) → v < a → f v ≡ none) → f a ≡ some e → firstStrategy t f ≡ some e
+  unfolding firstStrategy
+  strategy-found f zero e l before q = rw q
+  strategy-found f (suc a) e l before q =
+      rw (before 0 (omega arith)) (first-found (t .strategies) f (suc a) e (omega arith) (omega arith) (λ v lv u. before v u) q)
+
+  module _ (c : List ℕ) where
+    pub single-none : (i a : ℕ) → countsOne t c i a ≡ false → single t c i a ≡ none
+    unfolding single
+    single-none i a e = rw e
+
+    pub singles-none : (i : ℕ) → ((a : ℕ) → a < t .strategies + 1 → single t c i a ≡ none) → singlesOf t c i ≡ none
+    unfolding singlesOf
+    singles-none i h = strategy-none (single t c i) h
+
+    pub singles-end : ((i : ℕ) → i < t .segments + 1 → 1 ≤ i → singlesOf t c i ≡ none) → firstSingle t c ≡ none
+    unfolding firstSingle
+    singles-end h = first-none (t .segments) (singlesOf t c) (λ i l u. h i (omega arith) l)
+
+    pub single-found : (i a : ℕ) → 1 ≤ i → i ≤ t .segments → ((p : ℕ) → p < i → 1 ≤ p → singlesOf t c p ≡ none)
+        → a < t .strategies + 1 → ((v : ℕ) → v < a → single t c i v ≡ none) → countsOne t c i a ≡ true → firstSingle t c ≡ some (give c i a)
+    unfolding firstSingle singlesOf single
+    single-found i a l h before la none-a e =
+        first-found (t .segments) (singlesOf t c) i (give c i a) l h (λ p lp u. before p u lp)
+        (strategy-found (single t c i) a (give c i a) la none-a (rw e))
+
+    pub pair-none : (i k a b : ℕ) → countsTwo t c i k a b ≡ false → pair t c i k a b ≡ none
+    unfolding pair
+    pair-none i k a b e = rw e
+
+    pub with-none : (i k a : ℕ) → ((b : ℕ) → b < t .strategies + 1 → pair t c i k a b ≡ none) → pairsWith t c i k a ≡ none
+    unfolding pairsWith
+    with-none i k a h = strategy-none (pair t c i k a) h
+
+    pub of-none : (i k : ℕ) → ((a : ℕ) → a < t .strategies + 1 → pairsWith t c i k a ≡ none) → pairsOf t c i k ≡ none
+    unfolding pairsOf
+    of-none i k h = same (ltb i k) (firstStrategy t (pairsWith t c i k)) (strategy-none (pairsWith t c i k) h)
+      where
+        same : (x : Bool) (o : Option (List ℕ)) → o ≡ none → pick x o none ≡ none
+        same true o e = e
+        same false o e = refl
+
+    pub of-low : (i k : ℕ) → k < i + 1 → pairsOf t c i k ≡ none
+    unfolding pairsOf
+    of-low i k l = rw (le-ltb i k (omega arith))
+
+    pub from-none : (i : ℕ) → ((k : ℕ) → k < t .segments + 1 → 1 ≤ k → pairsOf t c i k ≡ none) → pairsFrom t c i ≡ none
+    unfolding pairsFrom
+    from-none i h = first-none (t .segments) (pairsOf t c i) (λ k l u. h k (omega arith) l)
+
+    pub pairs-end : ((i : ℕ) → i < t .segments + 1 → 1 ≤ i → pairsFrom t c i ≡ none) → firstPair t c ≡ none
+    unfolding firstPair
+    pairs-end h = first-none (t .segments) (pairsFrom t c) (λ i l u. h i (omega arith) l)
+
+    pub pair-found : (i k a b : ℕ) → 1 ≤ i → i < k → k ≤ t .segments
+        → ((p : ℕ) → p < i → 1 ≤ p → pairsFrom t c p ≡ none) → ((p : ℕ) → p < k → 1 ≤ p → pairsOf t c i p ≡ none)
+        → a < t .strategies + 1 → ((v : ℕ) → v < a → pairsWith t c i k v ≡ none)
+        → b < t .strategies + 1 → ((v : ℕ) → v < b → pair t c i k a v ≡ none)
+        → countsTwo t c i k a b ≡ true → firstPair t c ≡ some (give (give c i a) k b)
+    unfolding firstPair pairsFrom pairsOf pairsWith pair
+    pair-found i k a b li ik hk none-i none-k la none-a lb none-b e =
+        let d = give (give c i a) k b in
+        first-found (t .segments) (pairsFrom t c) i d li (omega arith) (λ p lp u. none-i p u lp)
+        (first-found (t .segments) (pairsOf t c i) k d (omega arith) hk (λ p lp u. none-k p u lp)
+        (rw (lt-ltb i k ik)
+        (strategy-found (pairsWith t c i k) a d la none-a (strategy-found (pair t c i k a) b d lb none-b (rw e)))))
+
+-- ---- what cannot rise is passed over
+
+module _ (t : Table) (c : List ℕ) (room : t .segments ≤ length c) (i k : ℕ) (low : 1 ≤ i) (above : i < k) (high : k ≤ t .segments) where
+  low-pair : (a b : ℕ) → t .benefit i a + t .benefit k b ≤ present t c i k → pair t c i k a b ≡ none
+  low-pair a b h = pair-none t c i k a b (low-two t c i a low (omega arith) room k b above high h)
+
+  module _ (gain : (i : ℕ) → t .benefit i 0 ≡ 0) where
+    top-ge : (i j : ℕ) → j < t .strategies + 1 → t .benefit i j ≤ top t i
+    top-ge i zero h = omega (arith, gain i)
+    top-ge i (suc j) h = most-part (t .strategies) (t .benefit i) (suc j) (omega arith) (omega arith)
+
+    pub no-of : pairMayRise t c i k ≡ false → pairsOf t c i k ≡ none
+    no-of e =
+        let no-more = ltb-false (present t c i k) (top t i + top t k) e in
+        of-none t c i k (λ a la. with-none t c i k a (λ b lb. low-pair a b (omega (arith, top-ge i a la, top-ge k b lb))))
+
+    module _ (cost : (i r : ℕ) → t .usage i 0 r ≡ 0) (a : ℕ) where
+      -- what does not fit beside nothing fits beside no strategy
+      not-within : (b : ℕ) → within t (give (give c i a) k 0) ≡ false → within t (give (give c i a) k b) ≡ false
+      unfolding chosenUsage
+      not-within b e = go (within t (give (give c i a) k b)) refl
+        where
+          wide : t .segments ≤ length (give c i a)
+          wide = simp length-set room
+
+          less : (r : ℕ) → used t (give (give c i a) k 0) r ≤ used t (give (give c i a) k b) r
+          less r =
+              omega (
+                arith,
+                used-give t (give c i a) k 0 (omega arith) high wide r,
+                used-give t (give c i a) k b (omega arith) high wide r,
+                cost k r,
+              )
+
+          go : (x : Bool) → within t (give (give c i a) k b) ≡ x → x ≡ false
+          go false q = refl
+          go true q = sym (within-less t (give (give c i a) k b) (give (give c i a) k 0) less q) ∙ e
+
+      pub no-with : withMayCount t c i k a ≡ false → pairsWith t c i k a ≡ none
+      no-with e = with-none t c i k a (λ b lb. go b lb (another t c i a) refl (ltb (present t c i k) (t .benefit i a + top t k)) refl)
+        where
+          go : (b : ℕ) → b < t .strategies + 1 → (x : Bool) → another t c i a ≡ x → (y : Bool) → ltb (present t c i k) (t .benefit i a + top t k) ≡ y → pair t c i k a b ≡ none
+          go b lb false q y qy = pair-none t c i k a b (not-first t c i k a b q)
+          go b lb true q false qy = low-pair a b (omega (arith, ltb-false (present t c i k) (t .benefit i a + top t k) qy, top-ge k b lb))
+          go b lb true q true qy = pair-none t c i k a b (over-two t c i k a b (not-within b (rw (q, qy) at e)))
+
+-- the test of a first strategy, step by step
+module _ (t : Table) (c : List ℕ) (i k a : ℕ) where
+  pub not-another : another t c i a ≡ false → withMayCount t c i k a ≡ false
+  not-another e = rw e
+
+  pub not-more : t .benefit i a + top t k ≤ present t c i k → withMayCount t c i k a ≡ false
+  not-more h = rw (le-ltb (present t c i k) (t .benefit i a + top t k) h) (and-false (another t c i a))
+
+  pub more-fits : another t c i a ≡ true → present t c i k < t .benefit i a + top t k → withMayCount t c i k a ≡ within t (give (give c i a) k 0)
+  more-fits e h = rw (e, lt-ltb (present t c i k) (t .benefit i a + top t k) h)
+
+  -- a first strategy that is looked at is another one
+  pub another-of : withMayCount t c i k a ≡ true → another t c i a ≡ true
+  another-of e = go (another t c i a) refl
+    where
+      go : (x : Bool) → another t c i a ≡ x → x ≡ true
+      go true q = refl
+      go false q = sym (not-another q) ∙ e
+
+pub top-le : (s : ℕ) (b : List ℕ) → Gains b → (i : ℕ) → most s (benefitAt b i) ≤ 2 ^ 40
+top-le s b g i = most-bound s (2 ^ 40) (benefitAt b i) (λ j l h. let lt = benefit-lt b g i j in omega arith)
+
+-- ---- what the loop of changes keeps
+
+pub programme-of : (z : Size) (b u l c sums : List ℕ) → Ready z b u l c sums → Programme z b c
+programme-of z b u l c sums ready =
+    record {
+      segments = ready .sound .segments;
+      strategies = ready .sound .strategies;
+      gains = gains-of z b u l (ready .sound);
+      chosen = ready .chosen;
+    }
+
+-- programme c after m changes from c₀
+pub record Under (z : Size) (b u l c₀ c sums : List ℕ) (m : ℕ) : Type 0 where
+  pub ready : Ready z b u l c sums
+  pub reached : Reached (change (tables z b u l)) (total (tables z b u l) (start (tables z b u l))) c₀ c m
+  pub gained : m + total (tables z b u l) c₀ ≤ total (tables z b u l) c
+
+pub under-start : (z : Size) (b u l c sums : List ℕ) → Ready z b u l c sums → Under z b u l c c sums 0
+under-start z b u l c sums r =
+    record {
+      ready = r;
+      reached = reached-start (change (tables z b u l)) (total (tables z b u l) (start (tables z b u l))) c;
+      gained = omega arith;
+    }
+
+module _ (z : Size) (b u l c₀ c sums : List ℕ) (m : ℕ) (under : Under z b u l c₀ c sums m) where
+  abbrev t : Table
+  t = tables z b u l
+
+  pub under-end : change t c ≡ none → (c ≡ phase3 t c₀ .last) × (m ≡ phase3 t c₀ .count)
+  unfolding phase3
+  under-end e =
+      let ended = reached-end (change t) (total t (start t)) c₀ c m (under .reached) e in
+      (sym (ended .0), sym (ended .1))
+
+  module _ (e : List ℕ) (q : change t c ≡ some e) where
+    -- each change raises the total, which bounds them
+    pub under-less : m + 1 ≤ total t (start t)
+    under-less =
+        let rise = change-rises t c e q in
+        let most = total-most t (benefit-nothing b) e (under .ready .sound .segments) (change-numbers t c e q (under .ready .chosen .numbers)) in
+        omega (arith, under .gained)
+
+    pub under-small : m + 1 ≤ 2 ^ 46
+    under-small = omega (arith, under-less, total-le z b u l (under .ready .sound) (start t))
+
+    pub under-next : (c₂ sums₂ : List ℕ) → Ready z b u l c₂ sums₂ → c₂ ≡ e → Under z b u l c₀ c₂ sums₂ (m + 1)
+    under-next c₂ sums₂ r same =
+        let rise = change-rises t c e q in
+        let more : m + 1 + total t c₀ ≤ total t e = omega (arith, under .gained) in
+        record {
+          ready = r;
+          reached = rw same (reached-next (change t) (total t (start t)) c₀ c e m (under .reached) (omega (arith, under-less)) q);
+          gained = rw same more;
+        }
+
+-- ---- the code's own changes
+
+pub nothing-made : (c : List ℕ) (x : Change) → isNothing x ≡ true → made c x ≡ none
+nothing-made c Nothing e = refl
+nothing-made c (One i a) e = absurd (true≢false (sym e))
+nothing-made c (Two i k a b) e = absurd (true≢false (sym e))
+
+pub change-made : (c : List ℕ) (x : Change) → isNothing x ≡ false → made c x ≡ some (after c x)
+change-made c Nothing e = absurd (true≢false e)
+change-made c (One i a) e = refl
+change-made c (Two i k a b) e = refl
+
+pub found-nothing : (z : Size) (c : List ℕ) (x : Change) (search : Option (List ℕ)) → x ≡ Nothing → search ≡ none → Found z c x search
+found-nothing z c x search e q = rw (e, q) (record { is = refl; inside = tt })
+
+-- single changes come before pairs
+module _ (t : Table) (z : Size) (c : List ℕ) (x : Change) (single : Found z c x (firstSingle t c)) where
+  pub change-pair : x ≡ Nothing → (y : Change) → Found z c y (firstPair t c) → Found z c y (change t c)
+  unfolding change
+  change-pair e y pair = record { is = pair .is ∙ sym (ap (λ (o : Option (List ℕ)). orElse o (firstPair t c)) (sym (single .is) ∙ ap (made c) e)); inside = pair .inside }
+
+  pub change-single : isNothing x ≡ false → Found z c x (change t c)
+  unfolding change
+  change-single e =
+      let m = change-made c x e in
+      record { is = m ∙ sym (ap (λ (o : Option (List ℕ)). orElse o (firstPair t c)) (sym (single .is) ∙ m)); inside = single .inside }
+
+-- what a search found, as the loop of changes goes on or ends
+module _ (z : Size) (c : List ℕ) (x : Change) (search : Option (List ℕ)) (found : Found z c x search) where
+  pub turn : isNothing x ≡ false → search ≡ some (after c x)
+  turn e = sym (found .is) ∙ change-made c x e
+
+  pub no-turn : isNothing x ≡ true → search ≡ none
+  no-turn e = sym (found .is) ∙ nothing-made c x e

@@ -1,0 +1,69 @@
+-- `phase3::counts_two` meets its contract. Assumes nothing.
+use mathlib.Core.Path.{sym, _∙_}
+use borrow.Author.Tests.{not-true, not-false}
+use native.Mathlib.Omega.{arith}
+use denote.Ref.{now}
+use Rattle.tables.proofs.Laws.{gains-of, places, benefit-lt}
+use Rattle.phase3.proofs.Laws.{low-two, high-two, not-second}
+use borrow.Author.Needs.{needs}
+use Rattle.phase3.proofs.counts_two.Statement.{statement}
+use Rattle.phase3.proofs.counts_two.Tie as tie
+
+benefit-requires : tie.Need-benefit-requires
+benefit-requires c κs = search needs
+
+benefit-requires-2 : tie.Need-benefit-requires-2
+benefit-requires-2 c κs = search needs
+
+add-new : tie.Need-add-new
+add-new c =
+    let s = c .before .before .before .before .before .before .before in
+    let a = s .args in
+    let small = benefit-lt (now (a .benefits)) (gains-of _ _ _ _ (s .pre .0 .sound)) in
+    omega (arith, small (a .i) (a .a), small (a .k) (a .b), c .benefit2 .ensures, c .before .benefit .ensures)
+
+present-benefit-requires : tie.Need-present-benefit-requires
+present-benefit-requires c κs = search needs
+
+returns : tie.Need-returns
+returns c =
+    let s = c .before .before .before .before .before .before .before .before .before in
+    let r = s .pre .0 in
+    let m = s .pre .1 .0 in
+    let room = places _ _ _ _ _ _ r in
+    sym (low-two _ _ _ _ (m .0) (omega arith) room _ _ (m .1) (m .2) (omega (arith, c .before .present-benefit .ensures (now (s .args .uses)) (now (s .args .limits)), c .before .before .benefit2 .ensures, c .before .before .before .benefit .ensures)))
+
+is-another-requires : tie.Need-is-another-requires
+is-another-requires c κs = search needs
+
+returns-2 : tie.Need-returns-2
+returns-2 c = sym (not-second _ _ _ _ _ _ (sym (c .before .is-another .ensures _ _) ∙ not-true _ (c .if2 .taken)))
+
+fits-two-requires : tie.Need-fits-two-requires
+fits-two-requires c κs = search needs
+
+returns-3 : tie.Need-returns-3
+returns-3 c =
+    let s = c .before .before .before .before .before .before .before .before .before .before .before .before in
+    let r = s .pre .0 in
+    let m = s .pre .1 .0 in
+    let room = places _ _ _ _ _ _ r in
+    c .fits-two .ensures
+    ∙ sym (high-two _ _ _ _ (m .0) (omega arith) room _ _ (m .1) (m .2)
+    (omega (arith, c .before .before .before .before .present-benefit .ensures (now (s .args .uses)) (now (s .args .limits)), c .before .before .before .before .before .benefit2 .ensures, c .before .before .before .before .before .before .benefit .ensures))
+    (s .pre .1 .1)
+    (sym (c .before .before .is-another .ensures _ _) ∙ not-false _ (c .before .if2 .left)))
+
+pub counts-two-spec : {M : Type 1} → statement M
+counts-two-spec =
+    tie.close
+    (tie.spec
+    benefit-requires
+    benefit-requires-2
+    add-new
+    present-benefit-requires
+    returns
+    is-another-requires
+    returns-2
+    fits-two-requires
+    returns-3)

@@ -1,0 +1,76 @@
+-- `phase3::fill_tops` meets its contract: the segments passed have their greatest benefits. Assumes nothing.
+use Prim.Native.Nat.{ℕ, _+_, _-_, _≤_}
+use mathlib.Core.Path.{_≡_, refl}
+use native.Mathlib.Omega.{arith}
+use lib.ListN.{length, getD, length-set}
+use lib.Seq.{getD-set-same, getD-set-other}
+use Rattle.base.proofs.All.{each-none, each-next}
+use Rattle.base.specs.Over.{most}
+use Rattle.tables.specs.Arrays.{benefitAt}
+use borrow.Author.Needs.{needs}
+use Rattle.phase3.proofs.fill_tops.Statement.{statement}
+use Rattle.phase3.proofs.fill_tops.Tie as tie
+
+abbrev Inv-loop : tie.InvT-loop
+Inv-loop z benefits tops₀ segments i₀ tops i = (i ≤ segments) × (length tops ≡ length tops₀) × ((p : ℕ) → 1 ≤ p → p ≤ i → getD tops (p - 1) 0 ≡ most (z .strategies) (benefitAt benefits p))
+
+abbrev μ-loop : tie.MeasureT-loop
+μ-loop z benefits tops₀ segments i₀ tops i = segments - i
+
+loop-holds : tie.Need-loop-holds Inv-loop μ-loop
+loop-holds c = (search needs, refl, each-none _)
+
+add-top-of : tie.Need-add-top-of Inv-loop μ-loop
+add-top-of c = search needs
+
+top-of-requires : tie.Need-top-of-requires Inv-loop μ-loop
+top-of-requires c κs = search needs
+
+mul-tops : tie.Need-mul-tops Inv-loop μ-loop
+mul-tops c = search needs
+
+slice-write-tops : tie.Need-slice-write-tops Inv-loop μ-loop
+slice-write-tops c = search needs
+
+add-i : tie.Need-add-i Inv-loop μ-loop
+add-i c = search needs
+
+loop-less : tie.Need-loop-less Inv-loop μ-loop
+loop-less c = search needs
+
+loop-again : tie.Need-loop-again Inv-loop μ-loop
+loop-again c =
+    let l = c .before .before .loop in
+    let i = l .i in
+    let here : i + 1 - 1 ≡ i = omega arith in (
+      search needs,
+      simp length-set (l .inv .1),
+      each-next _ _
+          (λ p lp hp.
+          let ne : p - 1 ≡ i → ⊥ = λ e. omega arith in
+          rw (getD-set-other (l .tops) i (p - 1) _ 0 ne) (l .inv .2 p lp hp))
+          (rw (here, getD-set-same (l .tops) i _ 0 (omega arith)) (c .top-of .ensures)),
+    )
+
+same-length : tie.Need-same-length Inv-loop μ-loop
+same-length c = search needs
+
+returns : tie.Need-returns Inv-loop μ-loop
+returns c = record { places = search needs; each = λ i low high. c .before .loop .inv .2 i low (omega arith) }
+
+pub fill-tops-spec : {M : Type 1} → statement M
+fill-tops-spec =
+    tie.close
+    (tie.spec
+    Inv-loop
+    μ-loop
+    loop-holds
+    add-top-of
+    top-of-requires
+    mul-tops
+    slice-write-tops
+    add-i
+    loop-less
+    loop-again
+    same-length
+    returns)

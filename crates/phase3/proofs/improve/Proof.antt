@@ -1,0 +1,88 @@
+-- `phase3::improve` meets its contract: what is left of the search from here ends where the whole search does. Assumes nothing.
+use Prim.Native.Nat.{_-_, _^_}
+use mathlib.Core.Path.{sym, _∙_}
+use native.Mathlib.Omega.{arith}
+use Rattle.tables.proofs.Laws.{gains-of}
+use Rattle.phase3.proofs.Laws.{Under, under-start, under-end, under-small, under-next, turn, no-turn}
+use borrow.Author.Needs.{needs}
+use Rattle.phase3.proofs.improve.Statement.{statement}
+use Rattle.phase3.proofs.improve.Tie as tie
+
+abbrev Inv-loop : tie.InvT-loop
+Inv-loop z benefits uses limits choice₀ sums₀ tops changes₀ choice sums changes = Under z benefits uses limits choice₀ choice sums changes
+
+abbrev μ-loop : tie.MeasureT-loop
+μ-loop z benefits uses limits choice₀ sums₀ tops changes₀ choice sums changes = 2 ^ 46 - changes
+
+slice-aggregate-fill-tops : tie.Need-slice-aggregate-fill-tops Inv-loop μ-loop
+slice-aggregate-fill-tops c = search needs
+
+fill-tops-requires : tie.Need-fill-tops-requires Inv-loop μ-loop
+fill-tops-requires c κs =
+    let s = c .before .before .before .before .before .before .pre .sound in
+    (gains-of _ _ _ _ s, (s .segments, s .strategies, search needs))
+
+loop-holds : tie.Need-loop-holds Inv-loop μ-loop
+loop-holds c = under-start _ _ _ _ _ _ (c .before .before .before .before .before .before .before .before .pre)
+
+slice-aggregate-first-change : tie.Need-slice-aggregate-first-change Inv-loop μ-loop
+slice-aggregate-first-change c = search needs
+
+first-change-requires : tie.Need-first-change-requires Inv-loop μ-loop
+first-change-requires c κs = (c .before .before .before .loop .inv .ready, c .before .before .before .before .before .fill-tops .ensures)
+
+is-nothing-requires : tie.Need-is-nothing-requires Inv-loop μ-loop
+is-nothing-requires c κs = search needs
+
+same-length : tie.Need-same-length Inv-loop μ-loop
+same-length c = c .before .before .before .before .before .before .loop .inv .ready .chosen .places ∙ sym (c .before .before .before .before .before .before .before .before .before .before .before .before .before .before .before .pre .chosen .places)
+
+same-length-2 : tie.Need-same-length-2 Inv-loop μ-loop
+same-length-2 c = c .before .before .before .before .before .before .loop .inv .ready .sums-length ∙ sym (c .before .before .before .before .before .before .before .before .before .before .before .before .before .before .before .pre .sums-length)
+
+returns : tie.Need-returns Inv-loop μ-loop
+returns c =
+    let u = c .before .before .before .before .before .before .loop .inv in
+    let e = under-end _ _ _ _ _ _ _ _ u (no-turn _ _ _ _ (c .before .before .first-change .ensures) (sym (c .before .is-nothing .ensures) ∙ c .if1 .taken)) in
+    (u .ready, (e .0, e .1))
+
+make-change-requires : tie.Need-make-change-requires Inv-loop μ-loop
+make-change-requires c κs = (c .before .before .before .before .before .before .before .before .loop .inv .ready, c .before .before .before .before .first-change .ensures .inside)
+
+add-changes : tie.Need-add-changes Inv-loop μ-loop
+add-changes c =
+    let u = c .before .before .before .before .before .before .before .before .before .before .before .before .before .loop .inv in
+    let e = turn _ _ _ _ (c .before .before .before .before .before .before .before .before .before .first-change .ensures) (sym (c .before .before .before .before .before .before .before .before .is-nothing .ensures) ∙ c .before .before .before .before .before .before .before .if1 .left) in
+    omega (arith, under-small _ _ _ _ _ _ _ _ u _ e)
+
+loop-less : tie.Need-loop-less Inv-loop μ-loop
+loop-less c =
+    let u = c .before .before .before .before .before .before .before .before .before .before .before .before .before .loop .inv in
+    let e = turn _ _ _ _ (c .before .before .before .before .before .before .before .before .before .first-change .ensures) (sym (c .before .before .before .before .before .before .before .before .is-nothing .ensures) ∙ c .before .before .before .before .before .before .before .if1 .left) in
+    omega (arith, under-small _ _ _ _ _ _ _ _ u _ e)
+
+loop-again : tie.Need-loop-again Inv-loop μ-loop
+loop-again c =
+    let u = c .before .before .before .before .before .before .before .before .before .before .before .before .before .loop .inv in
+    let e = turn _ _ _ _ (c .before .before .before .before .before .before .before .before .before .first-change .ensures) (sym (c .before .before .before .before .before .before .before .before .is-nothing .ensures) ∙ c .before .before .before .before .before .before .before .if1 .left) in
+    under-next _ _ _ _ _ _ _ _ u _ e _ _ (c .before .before .before .before .make-change .ensures .0) (c .before .before .before .before .make-change .ensures .1)
+
+pub improve-spec : {M : Type 1} → statement M
+improve-spec =
+    tie.close
+    (tie.spec
+    Inv-loop
+    μ-loop
+    slice-aggregate-fill-tops
+    fill-tops-requires
+    loop-holds
+    slice-aggregate-first-change
+    first-change-requires
+    is-nothing-requires
+    same-length
+    same-length-2
+    returns
+    make-change-requires
+    add-changes
+    loop-less
+    loop-again)

@@ -1,0 +1,315 @@
+// Phase 3: the first change that raises the total and stays within the limits is made, and the search begins again.
+ghost use mathlib.Core.Path.{_≡_};
+ghost use Prim.Native.Nat.{ℕ, _<_, _≤_, max};
+ghost use mathlib.Core.Bool.{true};
+ghost use mathlib.Core.List.{List};
+ghost use lib.ListN.{length};
+ghost use Rattle.base.specs.Over.{most};
+ghost use Rattle.rules.specs.Phases.{another, firstSingle, firstPair, change, phase3};
+use tables::Size;
+ghost use Rattle.tables.specs.Arrays.{benefitAt, tables, Gains, Ready};
+ghost use Rattle.phase3.specs.Improve.{after, isNothing, Inside, Found, countsOne, countsTwo, Tops, Programme, present, pairMayRise, withMayCount};
+
+// A change: none, segment i gets strategy a, or segments i and k get strategies a and b.
+pub enum Change {
+    Nothing,
+    One(usize, usize),
+    Two(usize, usize, usize, usize),
+}
+
+fn larger(a: u64, b: u64) -> u64
+    ensures { λ v. ⌜ v ≡ max a b ⌝ }
+{
+    if a < b { b } else { a }
+}
+
+// The greatest of segment i's benefits.
+fn top_of(strategies: usize, benefits: &[u64], i: usize) -> u64
+    requires { ⌜ Gains (now benefits) ⌝ }
+    requires { ⌜ (1 ≤ i) × (i ≤ 64) × (strategies ≤ 11) ⌝ }
+    ensures { λ v. ⌜ v ≡ most strategies (benefitAt (now (benefits .entry)) i) ⌝ }
+{
+    let mut greatest: u64 = 0;
+    for j in 0..strategies {
+        greatest = larger(greatest, tables::benefit(benefits, i, j + 1));
+    }
+    greatest
+}
+
+// Every segment's greatest benefit.
+fn fill_tops(z: Size, benefits: &[u64], tops: &mut [u64])
+    requires { ⌜ Gains (now benefits) ⌝ }
+    requires { ⌜ (z .segments ≤ 64) × (z .strategies ≤ 11) × (length (now tops) ≡ 64) ⌝ }
+    ensures { λ _. ⌜ Tops z (now (benefits .entry)) (now (tops .exit)) ⌝ }
+{
+    let segments = z.segments;
+    for i in 0..segments {
+        tops[i] = top_of(z.strategies, benefits, i + 1);
+    }
+}
+
+// Strategy a is not the one that segment i has, and is a candidate or nothing.
+fn is_another(z: Size, benefits: &[u64], choice: &[usize], i: usize, a: usize) -> bool
+    requires { ⌜ Programme z (now benefits) (now choice) ⌝ }
+    requires { ⌜ (1 ≤ i) × (i ≤ z .segments) × (a ≤ z .strategies) ⌝ }
+    ensures { λ ok. ⌜ ((u l : List ℕ) → ok ≡ another (tables z (now (benefits .entry)) u l) (now (choice .entry)) i a) ⌝ }
+{
+    if a == choice[i - 1] {
+        return false;
+    }
+    if a == 0 {
+        return true;
+    }
+    0 < tables::benefit(benefits, i, a)
+}
+
+// What segments i and k gain now.
+fn present_benefit(z: Size, benefits: &[u64], choice: &[usize], i: usize, k: usize) -> u64
+    requires { ⌜ Programme z (now benefits) (now choice) ⌝ }
+    requires { ⌜ (1 ≤ i) × (i < k) × (k ≤ z .segments) ⌝ }
+    ensures { λ v. ⌜ ((u l : List ℕ) → v ≡ present (tables z (now (benefits .entry)) u l) (now (choice .entry)) i k) ⌝ }
+{
+    tables::chosen_benefit(benefits, choice, i) + tables::chosen_benefit(benefits, choice, k)
+}
+
+// The greatest benefits of segments i and k are more than the present ones.
+fn pair_may_rise(
+    z: Size,
+    benefits: &[u64],
+    choice: &[usize],
+    tops: &[u64],
+    i: usize,
+    k: usize,
+) -> bool
+    requires { ⌜ Programme z (now benefits) (now choice) × Tops z (now benefits) (now tops) ⌝ }
+    requires { ⌜ (1 ≤ i) × (i < k) × (k ≤ z .segments) ⌝ }
+    ensures { λ ok. ⌜ ((u l : List ℕ) → ok ≡ pairMayRise (tables z (now (benefits .entry)) u l) (now (choice .entry)) i k) ⌝ }
+{
+    present_benefit(z, benefits, choice, i, k) < tops[i - 1] + tops[k - 1]
+}
+
+// Strategy a is another for segment i, more than the present with the greatest benefit of segment k, and within the
+// limits where segment k gets nothing.
+fn with_may_count(
+    z: Size,
+    benefits: &[u64],
+    uses: &[u64],
+    limits: &[u64],
+    choice: &[usize],
+    sums: &[u64],
+    tops: &[u64],
+    i: usize,
+    k: usize,
+    a: usize,
+) -> bool
+    requires { ⌜ Ready z (now benefits) (now uses) (now limits) (now choice) (now sums) × Tops z (now benefits) (now tops) ⌝ }
+    requires { ⌜ (1 ≤ i) × (i < k) × (k ≤ z .segments) × (a ≤ z .strategies) ⌝ }
+    ensures { λ ok. ⌜ ok ≡ withMayCount (tables z (now (benefits .entry)) (now (uses .entry)) (now (limits .entry))) (now (choice .entry)) i k a ⌝ }
+{
+    if !is_another(z, benefits, choice, i, a) {
+        return false;
+    }
+    if tables::benefit(benefits, i, a) + tops[k - 1] <= present_benefit(z, benefits, choice, i, k) {
+        return false;
+    }
+    tables::fits_two(z, benefits, uses, limits, choice, sums, i, k, a, 0)
+}
+
+// Giving segment i strategy a counts. A strategy of greater benefit is another one, and a candidate.
+fn counts_one(
+    z: Size,
+    benefits: &[u64],
+    uses: &[u64],
+    limits: &[u64],
+    choice: &[usize],
+    sums: &[u64],
+    i: usize,
+    a: usize,
+) -> bool
+    requires { ⌜ Ready z (now benefits) (now uses) (now limits) (now choice) (now sums) ⌝ }
+    requires { ⌜ (1 ≤ i) × (i ≤ z .segments) × (a ≤ z .strategies) ⌝ }
+    ensures { λ ok. ⌜ ok ≡ countsOne (tables z (now (benefits .entry)) (now (uses .entry)) (now (limits .entry))) (now (choice .entry)) i a ⌝ }
+{
+    if tables::benefit(benefits, i, a) <= tables::chosen_benefit(benefits, choice, i) {
+        return false;
+    }
+    tables::fits_one(z, benefits, uses, limits, choice, sums, i, a)
+}
+
+// Giving segments i and k strategies a, another one, and b counts: the rise is tested first, and the limits last.
+fn counts_two(
+    z: Size,
+    benefits: &[u64],
+    uses: &[u64],
+    limits: &[u64],
+    choice: &[usize],
+    sums: &[u64],
+    i: usize,
+    k: usize,
+    a: usize,
+    b: usize,
+) -> bool
+    requires { ⌜ Ready z (now benefits) (now uses) (now limits) (now choice) (now sums) ⌝ }
+    requires { ⌜ (1 ≤ i) × (i < k) × (k ≤ z .segments) × (a ≤ z .strategies) × (b ≤ z .strategies) ⌝ }
+    requires { ⌜ another (tables z (now benefits) (now uses) (now limits)) (now choice) i a ≡ true ⌝ }
+    ensures { λ ok. ⌜ ok ≡ countsTwo (tables z (now (benefits .entry)) (now (uses .entry)) (now (limits .entry))) (now (choice .entry)) i k a b ⌝ }
+{
+    let new = tables::benefit(benefits, i, a) + tables::benefit(benefits, k, b);
+    if new <= present_benefit(z, benefits, choice, i, k) {
+        return false;
+    }
+    if !is_another(z, benefits, choice, k, b) {
+        return false;
+    }
+    tables::fits_two(z, benefits, uses, limits, choice, sums, i, k, a, b)
+}
+
+// The first single change that counts: by segment, then by strategy, with nothing as 0.
+fn first_one(
+    z: Size,
+    benefits: &[u64],
+    uses: &[u64],
+    limits: &[u64],
+    choice: &[usize],
+    sums: &[u64],
+) -> Change
+    requires { ⌜ Ready z (now benefits) (now uses) (now limits) (now choice) (now sums) ⌝ }
+    ensures { λ x. ⌜ Found z (now (choice .entry)) x (firstSingle (tables z (now (benefits .entry)) (now (uses .entry)) (now (limits .entry))) (now (choice .entry))) ⌝ }
+{
+    let mut found = Change::Nothing;
+    let segments_end = z.segments + 1;
+    let strategies_end = z.strategies + 1;
+    'search: for i in 1..segments_end {
+        for a in 0..strategies_end {
+            if counts_one(z, benefits, uses, limits, choice, sums, i, a) {
+                found = Change::One(i, a);
+                break 'search;
+            }
+        }
+    }
+    found
+}
+
+// The first pair that counts: by first segment, second (the higher), first strategy, second strategy. Segments and
+// first strategies with which no pair can count are passed over.
+fn first_two(
+    z: Size,
+    benefits: &[u64],
+    uses: &[u64],
+    limits: &[u64],
+    choice: &[usize],
+    sums: &[u64],
+    tops: &[u64],
+) -> Change
+    requires { ⌜ Ready z (now benefits) (now uses) (now limits) (now choice) (now sums) ⌝ }
+    requires { ⌜ Tops z (now benefits) (now tops) ⌝ }
+    ensures { λ x. ⌜ Found z (now (choice .entry)) x (firstPair (tables z (now (benefits .entry)) (now (uses .entry)) (now (limits .entry))) (now (choice .entry))) ⌝ }
+{
+    let mut found = Change::Nothing;
+    let segments_end = z.segments + 1;
+    let strategies_end = z.strategies + 1;
+    'search: for i in 1..segments_end {
+        for k in i + 1..segments_end {
+            if pair_may_rise(z, benefits, choice, tops, i, k) {
+                for a in 0..strategies_end {
+                    if with_may_count(z, benefits, uses, limits, choice, sums, tops, i, k, a) {
+                        for b in 0..strategies_end {
+                            if counts_two(z, benefits, uses, limits, choice, sums, i, k, a, b) {
+                                found = Change::Two(i, k, a, b);
+                                break 'search;
+                            }
+                        }
+                    }
+                }
+            }
+        }
+    }
+    found
+}
+
+// The first change that counts: single changes come before pairs.
+fn first_change(
+    z: Size,
+    benefits: &[u64],
+    uses: &[u64],
+    limits: &[u64],
+    choice: &[usize],
+    sums: &[u64],
+    tops: &[u64],
+) -> Change
+    requires { ⌜ Ready z (now benefits) (now uses) (now limits) (now choice) (now sums) ⌝ }
+    requires { ⌜ Tops z (now benefits) (now tops) ⌝ }
+    ensures { λ x. ⌜ Found z (now (choice .entry)) x (change (tables z (now (benefits .entry)) (now (uses .entry)) (now (limits .entry))) (now (choice .entry))) ⌝ }
+{
+    let one = first_one(z, benefits, uses, limits, choice, sums);
+    match one {
+        Change::Nothing => first_two(z, benefits, uses, limits, choice, sums, tops),
+        Change::One(_, _) => one,
+        Change::Two(_, _, _, _) => one,
+    }
+}
+
+fn is_nothing(x: Change) -> bool
+    ensures { λ v. ⌜ v ≡ isNothing x ⌝ }
+{
+    match x {
+        Change::Nothing => true,
+        Change::One(_, _) => false,
+        Change::Two(_, _, _, _) => false,
+    }
+}
+
+// The change x is made.
+fn make_change(
+    z: Size,
+    benefits: &[u64],
+    uses: &[u64],
+    limits: &[u64],
+    choice: &mut [usize],
+    sums: &mut [u64],
+    x: Change,
+)
+    requires { ⌜ Ready z (now benefits) (now uses) (now limits) (now choice) (now sums) ⌝ }
+    requires { ⌜ Inside z x ⌝ }
+    ensures { λ _. ⌜ Ready z (now (benefits .entry)) (now (uses .entry)) (now (limits .entry)) (now (choice .exit)) (now (sums .exit)) ⌝ }
+    ensures { λ _. ⌜ now (choice .exit) ≡ after (now (choice .entry)) x ⌝ }
+{
+    match x {
+        Change::Nothing => {}
+        Change::One(i, a) => {
+            tables::make_one(z, benefits, uses, limits, choice, sums, i, a);
+        }
+        Change::Two(i, k, a, b) => {
+            tables::make_one(z, benefits, uses, limits, choice, sums, i, a);
+            tables::make_one(z, benefits, uses, limits, choice, sums, k, b);
+        }
+    }
+}
+
+// Phase 3: the first change that counts is made and the search begins again, until there is none. Returns how many
+// changes were made.
+pub fn improve(
+    z: Size,
+    benefits: &[u64],
+    uses: &[u64],
+    limits: &[u64],
+    choice: &mut [usize],
+    sums: &mut [u64],
+) -> u64
+    requires { ⌜ Ready z (now benefits) (now uses) (now limits) (now choice) (now sums) ⌝ }
+    ensures { λ _. ⌜ Ready z (now (benefits .entry)) (now (uses .entry)) (now (limits .entry)) (now (choice .exit)) (now (sums .exit)) ⌝ }
+    ensures { λ _. ⌜ now (choice .exit) ≡ phase3 (tables z (now (benefits .entry)) (now (uses .entry)) (now (limits .entry))) (now (choice .entry)) .last ⌝ }
+    ensures { λ n. ⌜ n ≡ phase3 (tables z (now (benefits .entry)) (now (uses .entry)) (now (limits .entry))) (now (choice .entry)) .count ⌝ }
+{
+    let mut tops: [u64; 64] = [0; 64];
+    fill_tops(z, benefits, &mut tops);
+    let mut changes: u64 = 0;
+    loop {
+        let x = first_change(z, benefits, uses, limits, choice, sums, &tops);
+        if is_nothing(x) {
+            return changes;
+        }
+        make_change(z, benefits, uses, limits, choice, sums, x);
+        changes += 1;
+    }
+}
