@@ -71,7 +71,7 @@ module _ (z : Size) (b d : List ℕ) where
         rw (share-is i j k) (mul-le-mul low (sized .share-small i j k inside worth l h)) in
         omega (arith, sum-bound (z .resources) 21_990_232_555_520_000 (costBy (shown z b d) p i j) each)
 
-    margin-small : (p : List ℕ) (i : ℕ) → margin (shown z b d) p i ≤ 2 ^ 40
+    pub margin-small : (p : List ℕ) (i : ℕ) → margin (shown z b d) p i ≤ 2 ^ 40
     unfolding margin net
     margin-small p i =
         most-bound (z .strategies) (2 ^ 40) (net (shown z b d) p i)
@@ -83,6 +83,10 @@ module _ (z : Size) (b d : List ℕ) where
         omega (arith, prices-small p prices (z .resources), sum-bound (z .segments) (2 ^ 40) (margin (shown z b d) p) (λ k l h. margin-small p k))
 
 -- ---- in a trial
+
+-- the ceiling's sum over the first i segments
+abbrev pub Summed : Table → List ℕ → ℕ → ℕ → Type 0
+Summed t p i x = x ≡ 10_000 * sum (t .resources) (priceAt p) + sum i (margin t p)
 
 module _ (z : Size) (b d p : List ℕ) (r price : ℕ) (m : Trial z b d p r price) where
   abbrev new : List ℕ
@@ -119,22 +123,27 @@ module _ (z : Size) (b d p : List ℕ) (r price : ℕ) (m : Trial z b d p r pric
   unfolding net
   margin-takes i j e q w v = v ∙ rw (w, q) (most-next j (net t new i) e)
 
-  -- the sum so far
-  abbrev pub Summed : ℕ → ℕ → Type 0
-  Summed i total = total ≡ 10_000 * sum (z .resources) (priceAt new) + sum i (margin t new)
+  pub whole-fits : {x : ℕ} → x ≡ 10_000 * sum (z .resources) (priceAt p) → (x + price * 10_000 < 2 ^ 64) × (priceAt p r * 10_000 ≤ x + price * 10_000)
+  whole-fits e =
+      let room : z .resources ≤ length p = omega (arith, m .prices .places, m .sized .resources-to) in
+      (omega (arith, m .small, m .sized .resources-to, prices-small p (m .prices) (z .resources)), omega (arith, prices-moved t p r price (m .resource-from) (m .resource-to) room))
 
-  pub summed-none : {x y : ℕ} → x ≡ 10_000 * sum (z .resources) (priceAt p) → y ≡ x + price * 10_000 - priceAt p r * 10_000 → Summed 0 y
+  pub summed-none : {x y : ℕ} → x ≡ 10_000 * sum (z .resources) (priceAt p) → y ≡ x + price * 10_000 - priceAt p r * 10_000 → Summed t new 0 y
   unfolding sum
   summed-none e q =
       let room : z .resources ≤ length p = omega (arith, m .prices .places, m .sized .resources-to) in
       omega (arith, prices-moved t p r price (m .resource-from) (m .resource-to) room)
 
-  pub summed-next : (i : ℕ) {total x : ℕ} → Summed i total → x ≡ margin t new (i + 1) → Summed (i + 1) (total + x)
+  pub summed-next : (i : ℕ) {total x : ℕ} → Summed t new i total → x ≡ margin t new (i + 1) → Summed t new (i + 1) (total + x)
   summed-next i {total} e q = omega (arith, sum-next i (margin t new) refl)
 
-  pub summed-early : (i : ℕ) {total present : ℕ} → Summed i total → i ≤ z .segments → present ≤ total → present ≡ min (ceilingAt t new) present
+  pub summed-early : (i : ℕ) {total present : ℕ} → Summed t new i total → i ≤ z .segments → present ≤ total → present ≡ min (ceilingAt t new) present
   unfolding ceilingAt
   summed-early i e h low = sym (min-eq-right (omega (arith, sum-more i (z .segments) (margin t new) h)))
+
+  pub summed-all : (i : ℕ) {total : ℕ} → Summed t new i total → i ≡ z .segments → total ≡ ceilingAt t new
+  unfolding ceilingAt
+  summed-all i e q = e ∙ rw q
 
 -- ---- costs that are brought to new prices one after another
 
@@ -148,7 +157,7 @@ ltb-same k e f to from = go (ltb k e) refl (ltb k f) refl
     go false p false q = refl
 
 module _ (z : Size) (b d new old c : List ℕ) where
-  pub costs-start : {p : List ℕ} → Costs z b d p p 0 c → Costs z b d new p 0 c
+  pub costs-start : Costs z b d old old 0 c → Costs z b d new old 0 c
   costs-start h = record { places = h .places; costs = λ i j inside worth. h .costs i j inside worth ∙ rw (le-ltb (entry i j) 0 (omega arith)) }
 
   -- past the last segment's
