@@ -3,18 +3,22 @@ use Prim.Native.Nat.{ℕ, zero, suc, _+_, _-_, _*_, _^_, _≤_, _<_, min}
 use mathlib.Core.Path.{_≡_, refl, ap, sym, _∙_}
 use mathlib.Core.Bool.{Bool, true, false, _&&_}
 use mathlib.Core.List.{List, [], _∷_}
-use native.Mathlib.Nat.{min-eq-left, min-le-left, le-of-lt}
+use native.Mathlib.Nat.{min-eq-left, le-of-lt, zero-mul}
 use native.Mathlib.Numerals.{add-one}
 use native.Mathlib.Omega.{arith}
 use borrow.Author.Tests.{lt-ltb, le-ltb, le-leb, lt-leb}
 use lib.Dec.{leb, ltb}
-use lib.ListN.{getD, length, set, replicate, length-set}
+use lib.ListN.{getD, length, set, replicate, length-set, length-replicate}
 use lib.Pow.{pow-pos}
 use lib.Seq.{getD-set-other}
 use Rattle.base.specs.Choice.{pick}
+use Rattle.base.proofs.Sums.{sum-cong, sum-zero}
 use Rattle.rules.specs.Table.{Table}
-use Rattle.rules.specs.Ceiling.{priceAt, raised, lowered, ceilingAt, lowers, priced, pricedAll, pricesAfter}
-use Rattle.ceiling.specs.Prices.{Prices, Room}
+use Rattle.rules.specs.Ceiling.{priceAt, downShare, costBy, cost, raised, lowered, ceilingAt, lowers, priced, pricedAll, pricesAfter}
+use Rattle.tables.specs.Arrays.{entry}
+use Rattle.tables.specs.declared.Size.{Size}
+use Rattle.ceiling.specs.Prices.{Sized, shown, Prices, Costs, Trial, Room}
+use Rattle.ceiling.proofs.Costs.{ceiling-small}
 
 -- ---- which case a step takes
 
@@ -35,6 +39,13 @@ module _ (t : Table) (s : ℕ) (p : List ℕ) (r : ℕ) where
     pub priced-same : s ≤ priceAt p r → ceilingAt t p ≤ ceilingAt t (lowered p r s) → p ≡ priced t s p r
     unfolding priced
     priced-same l h = rw (le-ltb (ceilingAt t (raised p r s)) (ceilingAt t p) up, le-leb s (priceAt p r) l, le-ltb (ceilingAt t (lowered p r s)) (ceilingAt t p) h)
+
+-- what a trial says: x is the lower of the ceiling c at new prices and the present one
+pub min-lower : {x c present : ℕ} → x ≡ min c present → x < present → (x ≡ c) × (c < present)
+min-lower e l = omega arith
+
+pub min-higher : {x c present : ℕ} → x ≡ min c present → present ≤ x → present ≤ c
+min-higher e l = omega arith
 
 pick-all : (P : List ℕ → Type 0) (x : Bool) (a b : List ℕ) → P a → P b → P (pick x a b)
 pick-all P true a b pa pb = pa
@@ -104,7 +115,7 @@ after-next t n e q h = h ∙ rw (add-one, e, q)
 halved : (n : ℕ) → n < 41 → 2 ^ (41 - n) ≡ 2 * 2 ^ (40 - n)
 halved n h = let e : 41 - n ≡ suc (40 - n) = omega arith in rw e (omega arith)
 
-none : (n k : ℕ) → _≡_ {A = ℕ} (getD (replicate n 0) k 0) 0
+pub none : (n k : ℕ) → _≡_ {A = ℕ} (getD (replicate n 0) k 0) 0
 none zero k = refl
 none (suc n) zero = refl
 none (suc n) (suc k) = none n k
@@ -127,9 +138,48 @@ after-room t n e q h =
     let before = after-ready t n (omega arith) in
     rw e (record { places = before .places; room = λ k. omega (arith, before .room k (omega arith), halved n h, pow-pos (40 - n)) })
 
+pub after-places : (t : Table) (n : ℕ) {p : List ℕ} → p ≡ pricesAfter t n → n ≤ 41 → length p ≡ 16
+after-places t n e h = rw e (after-ready t n h .places)
+
 pub room-at : (t : Table) (s : ℕ) (p : List ℕ) (k : ℕ) {q : List ℕ} → Room s p → q ≡ pricedAll t s k p → Ready (2 ^ 41 - 1) s k q
 room-at t s p k h e =
     rw e (all-ready t (2 ^ 41 - 1) s p (record { places = h .places; small = λ q. omega (arith, h .room q); room = λ q l. omega (arith, h .room q) }) k)
 
 pub ready-prices : {s k : ℕ} {p : List ℕ} → Ready (2 ^ 41 - 1) s k p → Prices p
 ready-prices h = record { places = h .places; small = λ q. omega (arith, h .small q) }
+
+module _ (z : Size) (b d : List ℕ) where
+  pub ready-trial : (p : List ℕ) (s r : ℕ) → Sized z b d → Ready (2 ^ 41 - 1) s r p → r < z .resources → Trial z b d p (r + 1) (priceAt p (r + 1) + s)
+  ready-trial p s r sized h l =
+      record { sized = sized; prices = ready-prices h; resource-from = omega arith; resource-to = omega arith; small = omega (arith, h .room (r + 1 - 1) (omega arith)) }
+
+  pub trial-lower : {p : List ℕ} {r q : ℕ} (price : ℕ) → Trial z b d p r q → price ≤ q → Trial z b d p r price
+  trial-lower price m l =
+      record { sized = m .sized; prices = m .prices; resource-from = m .resource-from; resource-to = m .resource-to; small = omega (arith, m .small) }
+
+  -- ---- the start: all prices are 0, so nothing costs anything
+
+  module _ (sized : Sized z b d) where
+    pub start-trial : Trial z b d (replicate 16 0) 1 0
+    start-trial =
+        record {
+          sized = sized;
+          prices = record { places = length-replicate {A = ℕ} 16 0; small = λ k. omega (arith, none 16 k) };
+          resource-from = omega arith;
+          resource-to = sized .resources-from;
+          small = omega arith;
+        }
+
+    pub start-costs : Costs z b d (replicate 16 0) (replicate 16 0) 0 (replicate 768 0)
+    unfolding cost costBy
+    start-costs =
+        record {
+          places = length-replicate {A = ℕ} 768 0;
+          costs = λ i j inside worth.
+          let e = le-ltb (entry i j) 0 (omega arith) in
+          none 768 (entry i j) ∙ sym (rw e (sum-cong (z .resources) (costBy (shown z b d) (replicate 16 0) i j) (λ _. 0) (λ r l h. rw (none 16 (r - 1)) (zero-mul (downShare (shown z b d) i j r))) ∙ sum-zero (z .resources)));
+        }
+
+    pub start-value : {x : ℕ} → x ≡ min (ceilingAt (shown z b d) (set (replicate 16 0) 0 0)) (2 ^ 62) → x ≡ ceilingAt (shown z b d) (replicate 16 0)
+    start-value e =
+        e ∙ min-eq-left (le-of-lt (ceiling-small z b d sized (replicate 16 0) (start-trial .prices)))

@@ -8,7 +8,7 @@ use lib.Dec.{ltb}
 use lib.ListN.{getD, length}
 use Rattle.base.specs.Choice.{pick}
 use Rattle.rules.specs.Table.{Table}
-use Rattle.rules.specs.Ceiling.{downShare, cost}
+use Rattle.rules.specs.Ceiling.{downShare, cost, ceilingAt}
 use Rattle.tables.specs.Arrays.{entry}
 use Rattle.tables.specs.declared.Size.{Size}
 
@@ -76,3 +76,8 @@ pub record Trial (z : Size) (b d p : List ℕ) (r price : ℕ) : Type 0 where
 pub record Room (step : ℕ) (p : List ℕ) : Type 0 where
   pub places : length p ≡ 16
   pub room : (k : ℕ) → getD p k 0 + step < 2 ^ 41
+
+-- the search stands at the prices p: what each candidate costs at them, and the ceiling
+pub record Standing (z : Size) (b d p c : List ℕ) (x : ℕ) : Type 0 where
+  pub costs : Costs z b d p p 0 c
+  pub value : x ≡ ceilingAt (shown z b d) p

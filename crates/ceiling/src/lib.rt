@@ -6,7 +6,7 @@ ghost use lib.ListN.{length, getD, set};
 ghost use Rattle.base.specs.Over.{sum};
 ghost use Rattle.rules.specs.Table.{Table};
 ghost use Rattle.rules.specs.Ceiling.{priceAt, margin, ceilingAt, priced, pricedAll, ceiling};
-ghost use Rattle.ceiling.specs.Prices.{Priced, Sized, shown, Prices, Costs, Trial, Room};
+ghost use Rattle.ceiling.specs.Prices.{Priced, Sized, shown, Prices, Costs, Trial, Room, Standing};
 
 fn larger(a: u64, b: u64) -> u64
     ensures { λ x. ⌜ x ≡ max a b ⌝ }
@@ -157,10 +157,9 @@ fn price_one(
     step: u64,
     r: usize,
 ) -> u64
-    requires { ⌜ (Trial z (now benefits) (now downs) (now prices) r (priceAt (now prices) r + step)) × (Costs z (now benefits) (now downs) (now prices) (now prices) 0 (now costs)) × (present ≡ ceilingAt (shown z (now benefits) (now downs)) (now prices)) ⌝ }
+    requires { ⌜ (Trial z (now benefits) (now downs) (now prices) r (priceAt (now prices) r + step)) × (Standing z (now benefits) (now downs) (now prices) (now costs) present) ⌝ }
     ensures { λ x. ⌜ now (prices .exit) ≡ priced (shown z (now (benefits .entry)) (now (downs .entry))) step (now (prices .entry)) r ⌝ }
-    ensures { λ x. ⌜ Costs z (now (benefits .entry)) (now (downs .entry)) (now (prices .exit)) (now (prices .exit)) 0 (now (costs .exit)) ⌝ }
-    ensures { λ x. ⌜ x ≡ ceilingAt (shown z (now (benefits .entry)) (now (downs .entry))) (now (prices .exit)) ⌝ }
+    ensures { λ x. ⌜ Standing z (now (benefits .entry)) (now (downs .entry)) (now (prices .exit)) (now (costs .exit)) x ⌝ }
 {
     let old = prices[r - 1];
     let up = trial(z, benefits, downs, prices, costs, r, old + step, present);
@@ -189,10 +188,9 @@ fn price_all(
     present: u64,
     step: u64,
 ) -> u64
-    requires { ⌜ (Sized z (now benefits) (now downs)) × (Room step (now prices)) × (Costs z (now benefits) (now downs) (now prices) (now prices) 0 (now costs)) × (present ≡ ceilingAt (shown z (now benefits) (now downs)) (now prices)) ⌝ }
+    requires { ⌜ (Sized z (now benefits) (now downs)) × (Room step (now prices)) × (Standing z (now benefits) (now downs) (now prices) (now costs) present) ⌝ }
     ensures { λ x. ⌜ now (prices .exit) ≡ pricedAll (shown z (now (benefits .entry)) (now (downs .entry))) step (z .resources) (now (prices .entry)) ⌝ }
-    ensures { λ x. ⌜ Costs z (now (benefits .entry)) (now (downs .entry)) (now (prices .exit)) (now (prices .exit)) 0 (now (costs .exit)) ⌝ }
-    ensures { λ x. ⌜ x ≡ ceilingAt (shown z (now (benefits .entry)) (now (downs .entry))) (now (prices .exit)) ⌝ }
+    ensures { λ x. ⌜ Standing z (now (benefits .entry)) (now (downs .entry)) (now (prices .exit)) (now (costs .exit)) x ⌝ }
 {
     let mut value = present;
     let mut r: usize = 0;

@@ -1,0 +1,32 @@
+-- What `ceiling_of` requires can be met: a district of one segment whose one strategy gains 7 and uses the whole of one limit.
+use Prim.Native.Nat.{ℕ, zero, suc, _+_, _-_, _*_, _^_, _≤_, _<_}
+use mathlib.Core.Path.{_≡_, refl, _∙_, ap}
+use mathlib.Core.List.{List, [], _∷_}
+use native.Mathlib.Omega.{arith}
+use lib.ListN.{getD, length, set, replicate, length-set, length-replicate}
+use Rattle.tables.specs.Arrays.{entry}
+use Rattle.tables.specs.declared.Size.{Size}
+use Rattle.ceiling.specs.Prices.{In, Sized, shareEntry}
+use Rattle.ceiling.proofs.Search.{set-le, none}
+
+size : Size
+size = record { segments = 1; strategies = 1; resources = 1 }
+
+benefits : List ℕ
+benefits = set (replicate 768 0) 1 7
+
+shares : List ℕ
+shares = set (replicate 12_288 0) 16 10_000
+
+pub met : Sized size benefits shares
+met =
+    record {
+      segments = omega arith;
+      strategies = omega arith;
+      resources-from = omega arith;
+      resources-to = omega arith;
+      benefits-length = length-set (replicate 768 0) 1 7 ∙ length-replicate {A = ℕ} 768 0;
+      shares-length = length-set (replicate 12_288 0) 16 10_000 ∙ length-replicate {A = ℕ} 12_288 0;
+      benefit-small = λ k. omega (arith, set-le 7 (replicate 768 0) 1 7 (λ q. omega (arith, none 768 q)) (omega arith) k);
+      share-small = λ i j r inside worth l h. set-le 10_000 (replicate 12_288 0) 16 10_000 (λ q. omega (arith, none 12_288 q)) (omega arith) (shareEntry i j r);
+    }
