@@ -176,8 +176,8 @@ module _ (z : Size) (b d : List ℕ) where
         record {
           places = length-replicate {A = ℕ} 768 0;
           costs = λ i j inside worth.
-          let e = le-ltb (entry i j) 0 (omega arith) in
-          none 768 (entry i j) ∙ sym (rw e (sum-cong (z .resources) (costBy (shown z b d) (replicate 16 0) i j) (λ _. 0) (λ r l h. rw (none 16 (r - 1)) (zero-mul (downShare (shown z b d) i j r))) ∙ sum-zero (z .resources)));
+              let e = le-ltb (entry i j) 0 (omega arith) in
+              none 768 (entry i j) ∙ sym (rw e (sum-cong (z .resources) (costBy (shown z b d) (replicate 16 0) i j) (λ _. 0) (λ r l h. rw (none 16 (r - 1)) (zero-mul (downShare (shown z b d) i j r))) ∙ sum-zero (z .resources)));
         }
 
     pub start-value : {x : ℕ} → x ≡ min (ceilingAt (shown z b d) (set (replicate 16 0) 0 0)) (2 ^ 62) → x ≡ ceilingAt (shown z b d) (replicate 16 0)

@@ -9,13 +9,13 @@ use Rattle.tables.specs.declared.Size.{Size}
 use Rattle.ceiling.specs.Prices.{In, Sized, shareEntry}
 use Rattle.ceiling.proofs.Search.{set-le, none}
 
-size : Size
+abbrev size : Size
 size = record { segments = 1; strategies = 1; resources = 1 }
 
-benefits : List ℕ
+abbrev benefits : List ℕ
 benefits = set (replicate 768 0) 1 7
 
-shares : List ℕ
+abbrev shares : List ℕ
 shares = set (replicate 12_288 0) 16 10_000
 
 pub met : Sized size benefits shares
@@ -25,8 +25,8 @@ met =
       strategies = omega arith;
       resources-from = omega arith;
       resources-to = omega arith;
-      benefits-length = length-set (replicate 768 0) 1 7 ∙ length-replicate {A = ℕ} 768 0;
-      shares-length = length-set (replicate 12_288 0) 16 10_000 ∙ length-replicate {A = ℕ} 12_288 0;
+      benefits-length = length-set {A = ℕ} (replicate 768 0) 1 7 ∙ length-replicate {A = ℕ} 768 0;
+      shares-length = length-set {A = ℕ} (replicate 12_288 0) 16 10_000 ∙ length-replicate {A = ℕ} 12_288 0;
       benefit-small = λ k. omega (arith, set-le 7 (replicate 768 0) 1 7 (λ q. omega (arith, none 768 q)) (omega arith) k);
       share-small = λ i j r inside worth l h. set-le 10_000 (replicate 12_288 0) 16 10_000 (λ q. omega (arith, none 12_288 q)) (omega arith) (shareEntry i j r);
     }

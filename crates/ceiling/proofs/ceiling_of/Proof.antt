@@ -66,14 +66,14 @@ loop-less c = search needs
 
 -- src/lib.rt:222:5
 loop-again : tie.Need-loop-again Inv-loop μ-loop
-loop-again c = 
+loop-again c =
     let new = c .before .before .price-all .ensures in
     (omega arith, after-next _ (c .before .before .before .before .before .before .before .loop .k) (c .before .before .before .before .before .before .before .loop .inv .1) (c .before .before .before .power .ensures) (new .0), new .1)
 
 -- src/lib.rt:215:1
 returns : tie.Need-returns Inv-loop μ-loop
 unfolding ceiling
-returns c = 
+returns c =
     λ t priced.
     let e : c .before .loop .k ≡ 41 = omega arith in
     c .before .loop .inv .2 .value ∙ ap (ceilingAt _) (c .before .loop .inv .1 ∙ rw e) ∙ same-ceiling _ _ _ t priced

@@ -98,7 +98,7 @@ shared-slice-read-moved-2 c = search needs
 
 -- src/lib.rt:70:17
 moved-requires : tie.Need-moved-requires Inv-loop μ-loop
-moved-requires c κs = 
+moved-requires c κs =
     let a = c .before .before .before .before .before .before .before .before .before .before .before .before in
     let j = c .before .before .before .before .before .before .loop .j in
     let inside : In (a .args .z) (a .args .i) (j + 1) = record { segment-from = omega arith; segment-to = omega arith; strategy-from = omega arith; strategy-to = omega arith } in
@@ -124,23 +124,24 @@ loop-less c = search needs
 
 -- src/lib.rt:66:5
 loop-again : tie.Need-loop-again Inv-loop μ-loop
-loop-again c = 
+loop-again c =
     let a = c .before .before .before .before .before .before .before .before .before .before in
     let j = c .before .before .before .before .loop .j in
-    let inside : In (a .args .z) (a .args .i) (j + 1) = record { segment-from = omega arith; segment-to = omega arith; strategy-from = omega arith; strategy-to = omega arith } in
-    (search needs,
-    ⊎-elim
-    (λ w.
-    let worth : 0 < getD (a .args .benefits .now) (entry (a .args .i) (j + 1)) 0 = omega arith in
-    let held = costs-held _ _ _ _ _ _ 0 (a .pre .1) (a .args .i) (j + 1) inside worth (omega arith) in
-    w .6 ∙ margin-takes _ _ _ _ _ _ (a .pre .0) (a .args .i) j (c .before .before .before .before .loop .inv .1) (move-is _ _ _ _ _ _ (a .pre .0) (a .args .i) (j + 1) inside worth held (w .3 .ensures)) (w .4 .ensures) (w .5 .ensures))
-    (λ w. w .1 ∙ margin-passes _ _ _ _ _ _ (a .pre .0) (a .args .i) j (c .before .before .before .before .loop .inv .1) (w .0 .left))
-    (c .if2 .came))
+    let inside : In (a .args .z) (a .args .i) (j + 1) = record { segment-from = omega arith; segment-to = omega arith; strategy-from = omega arith; strategy-to = omega arith } in (
+      search needs,
+      ⊎-elim
+          (λ w.
+          let worth : 0 < getD (a .args .benefits .now) (entry (a .args .i) (j + 1)) 0 = omega arith in
+          let held = costs-held _ _ _ _ _ _ 0 (a .pre .1) (a .args .i) (j + 1) inside worth (omega arith) in
+          w .6 ∙ margin-takes _ _ _ _ _ _ (a .pre .0) (a .args .i) j (c .before .before .before .before .loop .inv .1) (move-is _ _ _ _ _ _ (a .pre .0) (a .args .i) (j + 1) inside worth held (w .3 .ensures)) (w .4 .ensures) (w .5 .ensures))
+          (λ w. w .1 ∙ margin-passes _ _ _ _ _ _ (a .pre .0) (a .args .i) j (c .before .before .before .before .loop .inv .1) (w .0 .left))
+          (c .if2 .came),
+    )
 
 -- src/lib.rt:48:1
 returns : tie.Need-returns Inv-loop μ-loop
 unfolding margin
-returns c = 
+returns c =
     let e : c .before .before .loop .j ≡ c .before .before .before .before .before .before .before .before .args .z .strategies = omega arith in
     c .before .before .loop .inv .1 ∙ rw e
 

@@ -39,7 +39,7 @@ loop-less c = search needs
 
 -- src/lib.rt:199:5
 loop-again : tie.Need-loop-again Inv-loop μ-loop
-loop-again c = 
+loop-again c =
     let new = c .before .before .before .before .price-one .ensures in
     (omega arith, all-next _ _ _ (c .before .before .before .before .before .before .before .before .before .loop .r) (c .before .before .before .before .before .before .before .before .before .loop .inv .1) (new .0), new .1)
 
@@ -53,7 +53,7 @@ same-length-2 c = c .before .before .loop .inv .2 .costs .places ∙ sym (c .bef
 
 -- src/lib.rt:183:1
 returns : tie.Need-returns Inv-loop μ-loop
-returns c = 
+returns c =
     let e : c .before .before .loop .r ≡ c .before .before .before .before .before .before .before .args .z .resources = omega arith in
     (c .before .before .loop .inv .1 ∙ rw e, c .before .before .loop .inv .2)
 

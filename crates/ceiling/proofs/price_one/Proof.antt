@@ -50,7 +50,7 @@ same-length-2 c = search needs
 
 -- src/lib.rt:169:9
 returns : tie.Need-returns
-returns c = 
+returns c =
     let a = c .before .before .before .before .before .before .before .before .before .before .before .before .before .before .before .before in
     let new = c .before .before .before .before .reprice .ensures in
     let low = min-lower (c .before .before .before .before .before .before .before .before .trial .ensures) (c .before .before .before .before .before .before .before .if1 .taken) in
@@ -66,7 +66,7 @@ same-length-4 c = search needs
 
 -- src/lib.rt:172:9
 returns-2 : tie.Need-returns-2
-returns-2 c = 
+returns-2 c =
     let a = c .before .before .before .before .before .before .before .before .before .before in
     let high = min-higher (c .before .before .trial .ensures) (c .before .if1 .left) in
     (priced-low (shown (a .args .z) (a .args .benefits .now) (a .args .downs .now)) (a .args .step) (a .args .prices .now) (a .args .r) (omega (arith, a .pre .1 .value)) (c .if2 .taken), a .pre .1)
@@ -89,7 +89,7 @@ same-length-6 c = search needs
 
 -- src/lib.rt:177:9
 returns-3 : tie.Need-returns-3
-returns-3 c = 
+returns-3 c =
     let a = c .before .before .before .before .before .before .before .before .before .before .before .before .before .before .before .before .before .before .before .before .before in
     let new = c .before .before .before .before .reprice2 .ensures in
     let high = min-higher (c .before .before .before .before .before .before .before .before .before .before .before .before .before .trial .ensures) (c .before .before .before .before .before .before .before .before .before .before .before .before .if1 .left) in
@@ -106,7 +106,7 @@ same-length-8 c = search needs
 
 -- src/lib.rt:150:1
 returns-4 : tie.Need-returns-4
-returns-4 c = 
+returns-4 c =
     let a = c .before .before .before .before .before .before .before .before .before .before .before .before .before .before in
     let high = min-higher (c .before .before .before .before .before .before .trial .ensures) (c .before .before .before .before .before .if1 .left) in
     let higher = min-higher (c .before .trial2 .ensures) (c .if3 .left) in

@@ -63,7 +63,7 @@ same-length-2 c = c .before .before .loop .inv .1 .places ∙ sym (c .before .be
 
 -- src/lib.rt:128:1
 returns : tie.Need-returns Inv-loop μ-loop
-returns c = 
+returns c =
     let e : c .before .before .loop .i ≡ c .before .before .before .before .before .before .before .args .z .segments = omega arith in
     (refl, costs-end _ _ _ _ _ _ (rw e at (c .before .before .loop .inv .1)) (c .before .before .before .before .before .before .before .pre .0 .sized .strategies))
 

@@ -93,7 +93,7 @@ shared-slice-read-moved c = search needs
 
 -- src/lib.rt:127:25
 moved-requires : tie.Need-moved-requires Inv-loop μ-loop
-moved-requires c κs = 
+moved-requires c κs =
     let a = c .before .before .before .before .before .before .before .before .before .before .before .before in
     let j = c .before .before .before .before .before .before .loop .j in
     let inside : In (a .args .z) (a .args .i) (j + 1) = record { segment-from = omega arith; segment-to = omega arith; strategy-from = omega arith; strategy-to = omega arith } in
@@ -119,18 +119,19 @@ loop-less c = search needs
 
 -- src/lib.rt:124:5
 loop-again : tie.Need-loop-again Inv-loop μ-loop
-loop-again c = 
+loop-again c =
     let a = c .before .before .before .before .before .before .before .before .before .before in
     let j = c .before .before .before .before .loop .j in
     let inside : In (a .args .z) (a .args .i) (j + 1) = record { segment-from = omega arith; segment-to = omega arith; strategy-from = omega arith; strategy-to = omega arith } in
-    let few : a .args .z .strategies ≤ 11 = omega arith in
-    (search needs,
-    ⊎-elim
-    (λ w.
-    let held = costs-held _ _ _ _ _ _ (entry (a .args .i) (j + 1)) (c .before .before .before .before .loop .inv .1) (a .args .i) (j + 1) inside (w .0 .taken) (omega arith) in
-    rw (w .4) (costs-set _ _ _ _ _ _ (a .args .i) (j + 1) inside few (c .before .before .before .before .loop .inv .1) (omega arith) (move-is _ _ _ _ _ _ (a .pre .0) (a .args .i) (j + 1) inside (w .0 .taken) held (w .3 .ensures))))
-    (λ w. rw (w .1) (costs-skip _ _ _ _ _ _ (a .args .i) (j + 1) inside few (c .before .before .before .before .loop .inv .1) (w .0 .left)))
-    (c .if2 .came))
+    let few : a .args .z .strategies ≤ 11 = omega arith in (
+      search needs,
+      ⊎-elim
+          (λ w.
+          let held = costs-held _ _ _ _ _ _ (entry (a .args .i) (j + 1)) (c .before .before .before .before .loop .inv .1) (a .args .i) (j + 1) inside (w .0 .taken) (omega arith) in
+          rw (w .4) (costs-set _ _ _ _ _ _ (a .args .i) (j + 1) inside few (c .before .before .before .before .loop .inv .1) (omega arith) (move-is _ _ _ _ _ _ (a .pre .0) (a .args .i) (j + 1) inside (w .0 .taken) held (w .3 .ensures))))
+          (λ w. rw (w .1) (costs-skip _ _ _ _ _ _ (a .args .i) (j + 1) inside few (c .before .before .before .before .loop .inv .1) (w .0 .left)))
+          (c .if2 .came),
+    )
 
 -- src/lib.rt:107:1
 same-length : tie.Need-same-length Inv-loop μ-loop

@@ -74,13 +74,13 @@ loop-again c = (omega arith, summed-next _ _ _ _ _ _ (c .before .before .before 
 
 -- src/lib.rt:77:1
 returns-2 : tie.Need-returns-2 Inv-loop μ-loop
-returns-2 c = 
+returns-2 c =
     let all = summed-all _ _ _ _ _ _ (c .before .before .before .before .before .before .before .before .before .before .before .pre .0) (c .before .before .before .loop .i) (c .before .before .before .loop .inv .1) (omega arith) in
     sym (min-eq-right (omega (arith, all)))
 
 -- src/lib.rt:77:1
 returns-3 : tie.Need-returns-3 Inv-loop μ-loop
-returns-3 c = 
+returns-3 c =
     let all = summed-all _ _ _ _ _ _ (c .before .before .before .before .before .before .before .before .before .before .before .pre .0) (c .before .before .before .loop .i) (c .before .before .before .loop .inv .1) (omega arith) in
     all ∙ sym (min-eq-left (omega (arith, all)))
 

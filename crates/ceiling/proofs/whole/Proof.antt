@@ -51,7 +51,7 @@ mul-result c = omega (arith, prices-small (c .before .before .before .args .pric
 
 -- src/lib.rt:33:1
 returns : tie.Need-returns Inv-loop μ-loop
-returns c = 
+returns c =
     let e : c .before .before .loop .r ≡ c .before .before .before .args .z .resources = omega arith in
     rw (c .before .before .loop .inv .1, e)
 
