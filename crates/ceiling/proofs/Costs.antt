@@ -3,7 +3,7 @@ use Prim.Native.Nat.{ℕ, zero, suc, _+_, _-_, _*_, _^_, _≤_, _<_, max, min}
 use mathlib.Core.Path.{_≡_, refl, ap, sym, _∙_}
 use mathlib.Core.Bool.{Bool, true, false}
 use mathlib.Core.List.{List}
-use native.Mathlib.Nat.{mul-le-mul, le-trans, sub-le, max-eq-left, min-eq-left, min-eq-right, mul-div-cancel}
+use native.Mathlib.Nat.{mul-le-mul, le-trans, sub-le, max-eq-left, min-eq-right, mul-div-cancel}
 use native.Mathlib.Omega.{arith}
 use borrow.Author.Tests.{lt-ltb, le-ltb, ltb-true, ltb-false, eqb-true, eqb-false}
 use lib.Dec.{ltb, eqb}

@@ -1,12 +1,10 @@
 -- The ceiling depends on a table's sizes, benefits and down-shares alone. Assumes nothing.
-use Prim.Native.Nat.{ℕ, zero, suc, _+_, _-_, _*_, _^_, _≤_}
-use mathlib.Core.Path.{_≡_, refl, ap, sym, _∙_}
+use Prim.Native.Nat.{ℕ, zero, suc, _-_, _^_, _≤_}
+use mathlib.Core.Path.{_≡_, refl, ap, _∙_}
 use mathlib.Core.List.{List}
-use Rattle.base.specs.Choice.{pick}
-use Rattle.base.specs.Over.{sum, most}
 use Rattle.base.proofs.Sums.{sum-cong, most-cong}
 use Rattle.rules.specs.Table.{Table}
-use Rattle.rules.specs.Ceiling.{priceAt, downShare, costBy, cost, net, margin, ceilingAt, priced, pricedAll, pricesAfter, ceiling}
+use Rattle.rules.specs.Ceiling.{costBy, cost, net, margin, ceilingAt, priced, pricedAll, pricesAfter, ceiling}
 use Rattle.tables.specs.declared.Size.{Size}
 use Rattle.ceiling.specs.Prices.{In, Priced, shown}
 use Rattle.ceiling.proofs.Costs.{share-is}

@@ -1,13 +1,13 @@
 -- Laws of the price search: which price a step takes, and that prices stay below 2 ^ 41. Assumes nothing.
 use Prim.Native.Nat.{ℕ, zero, suc, _+_, _-_, _*_, _^_, _≤_, _<_, min}
-use mathlib.Core.Path.{_≡_, refl, ap, sym, _∙_}
+use mathlib.Core.Path.{_≡_, refl, sym, _∙_}
 use mathlib.Core.Bool.{Bool, true, false, _&&_}
 use mathlib.Core.List.{List, [], _∷_}
 use native.Mathlib.Nat.{min-eq-left, le-of-lt, zero-mul}
 use native.Mathlib.Numerals.{add-one}
 use native.Mathlib.Omega.{arith}
 use borrow.Author.Tests.{lt-ltb, le-ltb, le-leb, lt-leb}
-use lib.Dec.{leb, ltb}
+use lib.Dec.{leb}
 use lib.ListN.{getD, length, set, replicate, length-set, length-replicate}
 use lib.Pow.{pow-pos}
 use lib.Seq.{getD-set-other}

@@ -1,12 +1,11 @@
 -- What `ceiling_of` requires can be met: a district of one segment whose one strategy gains 7 and uses the whole of one limit.
-use Prim.Native.Nat.{ℕ, zero, suc, _+_, _-_, _*_, _^_, _≤_, _<_}
-use mathlib.Core.Path.{_≡_, refl, _∙_, ap}
-use mathlib.Core.List.{List, [], _∷_}
+use Prim.Native.Nat.{ℕ}
+use mathlib.Core.Path.{_∙_}
+use mathlib.Core.List.{List}
 use native.Mathlib.Omega.{arith}
-use lib.ListN.{getD, length, set, replicate, length-set, length-replicate}
-use Rattle.tables.specs.Arrays.{entry}
+use lib.ListN.{set, replicate, length-set, length-replicate}
 use Rattle.tables.specs.declared.Size.{Size}
-use Rattle.ceiling.specs.Prices.{In, Sized, shareEntry}
+use Rattle.ceiling.specs.Prices.{Sized, shareEntry}
 use Rattle.ceiling.proofs.Search.{set-le, none}
 
 abbrev size : Size

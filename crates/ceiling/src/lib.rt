@@ -162,17 +162,19 @@ fn price_one(
     ensures { λ x. ⌜ Standing z (now (benefits .entry)) (now (downs .entry)) (now (prices .exit)) (now (costs .exit)) x ⌝ }
 {
     let old = prices[r - 1];
-    let up = trial(z, benefits, downs, prices, costs, r, old + step, present);
+    let raised = old + step;
+    let lowered = above(old, step);
+    let up = trial(z, benefits, downs, prices, costs, r, raised, present);
     if up < present {
-        reprice(z, benefits, downs, prices, costs, r, old + step);
+        reprice(z, benefits, downs, prices, costs, r, raised);
         return up;
     }
     if old < step {
         return present;
     }
-    let down = trial(z, benefits, downs, prices, costs, r, old - step, present);
+    let down = trial(z, benefits, downs, prices, costs, r, lowered, present);
     if down < present {
-        reprice(z, benefits, downs, prices, costs, r, old - step);
+        reprice(z, benefits, downs, prices, costs, r, lowered);
         return down;
     }
     present

@@ -1,26 +1,18 @@
-use Rattle.ceiling.proofs.Costs.{costs-held, move-fits, move-is, margin-takes, margin-passes}
-use Rattle.ceiling.specs.Prices.{In}
-use Rattle.tables.specs.Arrays.{entry}
-use Rattle.base.proofs.Sums.{most-none}
-use Prim.Native.Nat.{_<_}
-use lib.ListN.{getD}
+-- `ceiling::margin_at` meets its contract. Assumes nothing.
+use Prim.Native.Nat.{_<_, _≤_, _-_, _+_}
 use mathlib.Core.Logic.{⊎-elim}
-use mathlib.Core.Path.{_∙_}
-use Prim.Native.Nat.{_≤_, _-_, _+_}
-use mathlib.Core.Path.{_≡_}
+use mathlib.Core.Path.{_∙_, _≡_}
 use native.Mathlib.Omega.{arith}
-use lib.ListN.{set}
 use borrow.Author.Needs.{needs}
+use lib.ListN.{getD, set}
+use Rattle.base.proofs.Sums.{most-none}
 use Rattle.base.specs.Over.{most}
 use Rattle.rules.specs.Ceiling.{net, margin}
-use Rattle.ceiling.specs.Prices.{shown}
+use Rattle.tables.specs.Arrays.{entry}
+use Rattle.ceiling.specs.Prices.{In, shown}
+use Rattle.ceiling.proofs.Costs.{costs-held, move-fits, move-is, margin-takes, margin-passes}
 use Rattle.ceiling.proofs.margin_at.Statement.{statement}
 use Rattle.ceiling.proofs.margin_at.Tie as tie
-use Rattle.ceiling.proofs.margin_at.Reads as reads
-use Rattle.ceiling.proofs.margin_at.Lts as lts
-use Rattle.ceiling.proofs.above.Reads as above-reads
-use Rattle.ceiling.proofs.larger.Reads as larger-reads
-use Rattle.ceiling.proofs.moved.Reads as moved-reads
 
 abbrev Inv-loop : tie.InvT-loop
 Inv-loop z benefits downs prices costs r price i old best₀ j₀ best j = (j ≤ z .strategies) × (best ≡ most j (net (shown z benefits downs) (set prices (r - 1) price) i))
@@ -28,75 +20,57 @@ Inv-loop z benefits downs prices costs r price i old best₀ j₀ best j = (j �
 abbrev μ-loop : tie.MeasureT-loop
 μ-loop z benefits downs prices costs r price i old best₀ j₀ best j = z .strategies - j
 
--- src/lib.rt:63:22
 sub-old : tie.Need-sub-old Inv-loop μ-loop
 sub-old c = search needs
 
--- src/lib.rt:63:15
 mul-old : tie.Need-mul-old Inv-loop μ-loop
 mul-old c = search needs
 
--- src/lib.rt:63:15
 shared-slice-read-old : tie.Need-shared-slice-read-old Inv-loop μ-loop
 shared-slice-read-old c = search needs
 
--- src/lib.rt:66:5
 loop-holds : tie.Need-loop-holds Inv-loop μ-loop
 loop-holds c = (search needs, most-none _)
 
--- src/lib.rt:67:24
 sub-at : tie.Need-sub-at Inv-loop μ-loop
 sub-at c = search needs
 
--- src/lib.rt:67:18
 mul-at : tie.Need-mul-at Inv-loop μ-loop
 mul-at c = search needs
 
--- src/lib.rt:67:34
 add-at : tie.Need-add-at Inv-loop μ-loop
 add-at c = search needs
 
--- src/lib.rt:67:18
 add-at-2 : tie.Need-add-at-2 Inv-loop μ-loop
 add-at-2 c = search needs
 
--- src/lib.rt:68:23
 mul-benefit : tie.Need-mul-benefit Inv-loop μ-loop
 mul-benefit c = search needs
 
--- src/lib.rt:68:23
 shared-slice-read-benefit : tie.Need-shared-slice-read-benefit Inv-loop μ-loop
 shared-slice-read-benefit c = search needs
 
--- src/lib.rt:70:30
 mul-moved : tie.Need-mul-moved Inv-loop μ-loop
 mul-moved c = search needs
 
--- src/lib.rt:70:30
 shared-slice-read-moved : tie.Need-shared-slice-read-moved Inv-loop μ-loop
 shared-slice-read-moved c = search needs
 
--- src/lib.rt:70:47
 mul-moved-2 : tie.Need-mul-moved-2 Inv-loop μ-loop
 mul-moved-2 c = search needs
 
--- src/lib.rt:70:58
 sub-moved : tie.Need-sub-moved Inv-loop μ-loop
 sub-moved c = search needs
 
--- src/lib.rt:70:47
 add-moved : tie.Need-add-moved Inv-loop μ-loop
 add-moved c = search needs
 
--- src/lib.rt:70:41
 mul-moved-3 : tie.Need-mul-moved-3 Inv-loop μ-loop
 mul-moved-3 c = search needs
 
--- src/lib.rt:70:41
 shared-slice-read-moved-2 : tie.Need-shared-slice-read-moved-2 Inv-loop μ-loop
 shared-slice-read-moved-2 c = search needs
 
--- src/lib.rt:70:17
 moved-requires : tie.Need-moved-requires Inv-loop μ-loop
 moved-requires c κs =
     let a = c .before .before .before .before .before .before .before .before .before .before .before .before in
@@ -106,23 +80,18 @@ moved-requires c κs =
     let held = costs-held _ _ _ _ _ _ 0 (a .pre .1) (a .args .i) (j + 1) inside worth (omega arith) in
     move-fits _ _ _ _ _ _ (a .pre .0) (a .args .i) (j + 1) inside worth held
 
--- src/lib.rt:71:33
 above-requires : tie.Need-above-requires Inv-loop μ-loop
 above-requires c κs = search needs
 
--- src/lib.rt:71:13
 larger-requires : tie.Need-larger-requires Inv-loop μ-loop
 larger-requires c κs = search needs
 
--- src/lib.rt:73:9
 add-j : tie.Need-add-j Inv-loop μ-loop
 add-j c = search needs
 
--- src/lib.rt:66:5
 loop-less : tie.Need-loop-less Inv-loop μ-loop
 loop-less c = search needs
 
--- src/lib.rt:66:5
 loop-again : tie.Need-loop-again Inv-loop μ-loop
 loop-again c =
     let a = c .before .before .before .before .before .before .before .before .before .before in
@@ -138,7 +107,6 @@ loop-again c =
           (c .if2 .came),
     )
 
--- src/lib.rt:48:1
 returns : tie.Need-returns Inv-loop μ-loop
 unfolding margin
 returns c =

@@ -1,15 +1,13 @@
+-- `ceiling::reprice` meets its contract. Assumes nothing.
+use Prim.Native.Nat.{_≤_, _-_, _*_}
+use mathlib.Core.Path.{_≡_, refl, sym, _∙_}
 use native.Mathlib.Omega.{arith}
 use borrow.Author.Needs.{needs}
-use Rattle.ceiling.proofs.Costs.{costs-start, costs-past, costs-end}
-use Rattle.ceiling.specs.Prices.{Costs}
 use lib.ListN.{set, length-set}
-use mathlib.Core.Path.{_≡_, refl, sym, _∙_}
-use Prim.Native.Nat.{_≤_, _-_, _*_}
+use Rattle.ceiling.specs.Prices.{Costs}
+use Rattle.ceiling.proofs.Costs.{costs-start, costs-past, costs-end}
 use Rattle.ceiling.proofs.reprice.Statement.{statement}
 use Rattle.ceiling.proofs.reprice.Tie as tie
-use Rattle.ceiling.proofs.reprice.Reads as reads
-use Rattle.ceiling.proofs.reprice.Lts as lts
-use Rattle.ceiling.proofs.reprice_segment.Reads as reprice-segment-reads
 
 abbrev Inv-loop : tie.InvT-loop
 Inv-loop z benefits downs prices costs₀ r price i₀ costs i = (i ≤ z .segments) × Costs z benefits downs (set prices (r - 1) price) prices (12 * i) costs
@@ -17,51 +15,39 @@ Inv-loop z benefits downs prices costs₀ r price i₀ costs i = (i ≤ z .segme
 abbrev μ-loop : tie.MeasureT-loop
 μ-loop z benefits downs prices costs₀ r price i₀ costs i = z .segments - i
 
--- src/lib.rt:142:5
 loop-holds : tie.Need-loop-holds Inv-loop μ-loop
 loop-holds c = (omega arith, costs-start _ _ _ _ _ _ (c .before .before .before .before .pre .1))
 
--- src/lib.rt:143:70
 add-reprice-segment : tie.Need-add-reprice-segment Inv-loop μ-loop
 add-reprice-segment c = search needs
 
--- src/lib.rt:143:9
 reprice-segment-requires : tie.Need-reprice-segment-requires Inv-loop μ-loop
 reprice-segment-requires c κs = (c .before .before .before .before .before .before .before .before .before .pre .0, costs-past _ _ _ _ _ _ (c .before .before .before .before .loop .inv .1) (λ k n inside lt. omega arith) (λ k n inside lt. omega arith), omega arith, omega arith)
 
--- src/lib.rt:144:9
 add-i : tie.Need-add-i Inv-loop μ-loop
 add-i c = search needs
 
--- src/lib.rt:142:5
 loop-less : tie.Need-loop-less Inv-loop μ-loop
 loop-less c = search needs
 
--- src/lib.rt:142:5
 loop-again : tie.Need-loop-again Inv-loop μ-loop
 loop-again c = (omega arith, c .before .before .reprice-segment .ensures)
 
--- src/lib.rt:146:12
 sub-prices : tie.Need-sub-prices Inv-loop μ-loop
 sub-prices c = search needs
 
--- src/lib.rt:146:5
 mul-prices : tie.Need-mul-prices Inv-loop μ-loop
 mul-prices c = search needs
 
--- src/lib.rt:146:5
 slice-write-prices : tie.Need-slice-write-prices Inv-loop μ-loop
 slice-write-prices c = search needs
 
--- src/lib.rt:128:1
 same-length : tie.Need-same-length Inv-loop μ-loop
 same-length c = simp length-set
 
--- src/lib.rt:128:1
 same-length-2 : tie.Need-same-length-2 Inv-loop μ-loop
 same-length-2 c = c .before .before .loop .inv .1 .places ∙ sym (c .before .before .before .before .before .before .before .pre .1 .places)
 
--- src/lib.rt:128:1
 returns : tie.Need-returns Inv-loop μ-loop
 returns c =
     let e : c .before .before .loop .i ≡ c .before .before .before .before .before .before .before .args .z .segments = omega arith in

@@ -1,21 +1,14 @@
-use Rattle.ceiling.proofs.Costs.{costs-past, costs-held, costs-set, costs-skip, move-fits, move-is}
-use Rattle.ceiling.specs.Prices.{In}
-use Prim.Native.Nat.{_<_}
-use lib.ListN.{getD}
+-- `ceiling::reprice_segment` meets its contract. Assumes nothing.
+use Prim.Native.Nat.{_<_, _≤_, _-_, _+_}
 use mathlib.Core.Logic.{⊎-elim}
-use mathlib.Core.Path.{_∙_}
-use Prim.Native.Nat.{_≤_, _-_, _+_, _*_}
-use mathlib.Core.Path.{_≡_}
 use native.Mathlib.Omega.{arith}
-use lib.ListN.{set}
 use borrow.Author.Needs.{needs}
+use lib.ListN.{getD, set}
 use Rattle.tables.specs.Arrays.{entry}
-use Rattle.ceiling.specs.Prices.{shown, Costs}
+use Rattle.ceiling.specs.Prices.{In, Costs}
+use Rattle.ceiling.proofs.Costs.{costs-past, costs-held, costs-set, costs-skip, move-fits, move-is}
 use Rattle.ceiling.proofs.reprice_segment.Statement.{statement}
 use Rattle.ceiling.proofs.reprice_segment.Tie as tie
-use Rattle.ceiling.proofs.reprice_segment.Reads as reads
-use Rattle.ceiling.proofs.reprice_segment.Lts as lts
-use Rattle.ceiling.proofs.moved.Reads as moved-reads
 
 abbrev Inv-loop : tie.InvT-loop
 Inv-loop z benefits downs prices costs₀ r price i old j₀ costs j = (j ≤ z .strategies) × Costs z benefits downs (set prices (r - 1) price) prices (entry i (j + 1)) costs
@@ -23,75 +16,57 @@ Inv-loop z benefits downs prices costs₀ r price i old j₀ costs j = (j ≤ z 
 abbrev μ-loop : tie.MeasureT-loop
 μ-loop z benefits downs prices costs₀ r price i old j₀ costs j = z .strategies - j
 
--- src/lib.rt:122:22
 sub-old : tie.Need-sub-old Inv-loop μ-loop
 sub-old c = search needs
 
--- src/lib.rt:122:15
 mul-old : tie.Need-mul-old Inv-loop μ-loop
 mul-old c = search needs
 
--- src/lib.rt:122:15
 shared-slice-read-old : tie.Need-shared-slice-read-old Inv-loop μ-loop
 shared-slice-read-old c = search needs
 
--- src/lib.rt:124:5
 loop-holds : tie.Need-loop-holds Inv-loop μ-loop
 loop-holds c = (search needs, costs-past _ _ _ _ _ _ (c .before .before .before .before .before .pre .1) (λ k l inside lt. omega arith) (λ k l inside lt. omega arith))
 
--- src/lib.rt:125:24
 sub-at : tie.Need-sub-at Inv-loop μ-loop
 sub-at c = search needs
 
--- src/lib.rt:125:18
 mul-at : tie.Need-mul-at Inv-loop μ-loop
 mul-at c = search needs
 
--- src/lib.rt:125:34
 add-at : tie.Need-add-at Inv-loop μ-loop
 add-at c = search needs
 
--- src/lib.rt:125:18
 add-at-2 : tie.Need-add-at-2 Inv-loop μ-loop
 add-at-2 c = search needs
 
--- src/lib.rt:126:16
 mul-if2 : tie.Need-mul-if2 Inv-loop μ-loop
 mul-if2 c = search needs
 
--- src/lib.rt:126:16
 shared-slice-read-if2 : tie.Need-shared-slice-read-if2 Inv-loop μ-loop
 shared-slice-read-if2 c = search needs
 
--- src/lib.rt:127:31
 mul-moved : tie.Need-mul-moved Inv-loop μ-loop
 mul-moved c = search needs
 
--- src/lib.rt:127:31
 slice-read-moved : tie.Need-slice-read-moved Inv-loop μ-loop
 slice-read-moved c = search needs
 
--- src/lib.rt:127:48
 mul-moved-2 : tie.Need-mul-moved-2 Inv-loop μ-loop
 mul-moved-2 c = search needs
 
--- src/lib.rt:127:59
 sub-moved : tie.Need-sub-moved Inv-loop μ-loop
 sub-moved c = search needs
 
--- src/lib.rt:127:48
 add-moved : tie.Need-add-moved Inv-loop μ-loop
 add-moved c = search needs
 
--- src/lib.rt:127:42
 mul-moved-3 : tie.Need-mul-moved-3 Inv-loop μ-loop
 mul-moved-3 c = search needs
 
--- src/lib.rt:127:42
 shared-slice-read-moved : tie.Need-shared-slice-read-moved Inv-loop μ-loop
 shared-slice-read-moved c = search needs
 
--- src/lib.rt:127:25
 moved-requires : tie.Need-moved-requires Inv-loop μ-loop
 moved-requires c κs =
     let a = c .before .before .before .before .before .before .before .before .before .before .before .before in
@@ -101,23 +76,18 @@ moved-requires c κs =
     let held = costs-held _ _ _ _ _ _ (entry (a .args .i) (j + 1)) (c .before .before .before .before .before .before .loop .inv .1) (a .args .i) (j + 1) inside worth (omega arith) in
     move-fits _ _ _ _ _ _ (a .pre .0) (a .args .i) (j + 1) inside worth held
 
--- src/lib.rt:127:13
 mul-costs : tie.Need-mul-costs Inv-loop μ-loop
 mul-costs c = search needs
 
--- src/lib.rt:127:13
 slice-write-costs : tie.Need-slice-write-costs Inv-loop μ-loop
 slice-write-costs c = search needs
 
--- src/lib.rt:129:9
 add-j : tie.Need-add-j Inv-loop μ-loop
 add-j c = search needs
 
--- src/lib.rt:124:5
 loop-less : tie.Need-loop-less Inv-loop μ-loop
 loop-less c = search needs
 
--- src/lib.rt:124:5
 loop-again : tie.Need-loop-again Inv-loop μ-loop
 loop-again c =
     let a = c .before .before .before .before .before .before .before .before .before .before in
@@ -133,11 +103,9 @@ loop-again c =
           (c .if2 .came),
     )
 
--- src/lib.rt:107:1
 same-length : tie.Need-same-length Inv-loop μ-loop
 same-length c = search needs
 
--- src/lib.rt:107:1
 returns : tie.Need-returns Inv-loop μ-loop
 returns c = costs-past _ _ _ _ _ _ (c .before .before .loop .inv .1) (λ k l inside lt. omega arith) (λ k l inside lt. omega arith)
 

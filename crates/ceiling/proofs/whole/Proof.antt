@@ -1,15 +1,14 @@
-use Rattle.base.proofs.Sums.{sum-none}
-use Rattle.ceiling.proofs.Costs.{prices-next, prices-small}
+-- `ceiling::whole` meets its contract. Assumes nothing.
 use Prim.Native.Nat.{_≤_, _-_}
 use mathlib.Core.Path.{_≡_}
 use native.Mathlib.Omega.{arith}
 use borrow.Author.Needs.{needs}
+use Rattle.base.proofs.Sums.{sum-none}
 use Rattle.base.specs.Over.{sum}
 use Rattle.rules.specs.Ceiling.{priceAt}
+use Rattle.ceiling.proofs.Costs.{prices-next, prices-small}
 use Rattle.ceiling.proofs.whole.Statement.{statement}
 use Rattle.ceiling.proofs.whole.Tie as tie
-use Rattle.ceiling.proofs.whole.Reads as reads
-use Rattle.ceiling.proofs.whole.Lts as lts
 
 abbrev Inv-loop : tie.InvT-loop
 Inv-loop z prices total₀ r₀ total r = (r ≤ z .resources) × (total ≡ sum r (priceAt prices))
@@ -17,39 +16,37 @@ Inv-loop z prices total₀ r₀ total r = (r ≤ z .resources) × (total ≡ sum
 abbrev μ-loop : tie.MeasureT-loop
 μ-loop z prices total₀ r₀ total r = z .resources - r
 
--- src/lib.rt:39:5
 loop-holds : tie.Need-loop-holds Inv-loop μ-loop
 loop-holds c = (search needs, sum-none _)
 
--- src/lib.rt:40:18
 mul-total : tie.Need-mul-total Inv-loop μ-loop
 mul-total c = search needs
 
--- src/lib.rt:40:18
 shared-slice-read-total : tie.Need-shared-slice-read-total Inv-loop μ-loop
 shared-slice-read-total c = search needs
 
--- src/lib.rt:40:9
 add-total : tie.Need-add-total Inv-loop μ-loop
-add-total c = omega (arith, c .before .before .before .before .pre .1 .small (c .before .before .before .loop .r), prices-small (c .before .before .before .before .args .prices .now) (c .before .before .before .before .pre .1) (c .before .before .before .loop .r))
+add-total c =
+    let a = c .before .before .before .before in
+    let l = c .before .before .before .loop in
+    omega (arith, a .pre .1 .small (l .r), prices-small (a .args .prices .now) (a .pre .1) (l .r))
 
--- src/lib.rt:41:9
 add-r : tie.Need-add-r Inv-loop μ-loop
 add-r c = search needs
 
--- src/lib.rt:39:5
 loop-less : tie.Need-loop-less Inv-loop μ-loop
 loop-less c = search needs
 
--- src/lib.rt:39:5
 loop-again : tie.Need-loop-again Inv-loop μ-loop
-loop-again c = (search needs, prices-next (c .before .before .before .before .args .prices .now) (c .before .before .before .loop .r) (c .before .before .before .loop .inv .1))
+loop-again c =
+    let l = c .before .before .before .loop in
+    (search needs, prices-next (c .before .before .before .before .args .prices .now) (l .r) (l .inv .1))
 
--- src/lib.rt:43:5
 mul-result : tie.Need-mul-result Inv-loop μ-loop
-mul-result c = omega (arith, prices-small (c .before .before .before .args .prices .now) (c .before .before .before .pre .1) (c .before .before .loop .r))
+mul-result c =
+    let a = c .before .before .before in
+    omega (arith, prices-small (a .args .prices .now) (a .pre .1) (c .before .before .loop .r))
 
--- src/lib.rt:33:1
 returns : tie.Need-returns Inv-loop μ-loop
 returns c =
     let e : c .before .before .loop .r ≡ c .before .before .before .args .z .resources = omega arith in
