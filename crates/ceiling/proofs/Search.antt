@@ -12,9 +12,11 @@ use lib.ListN.{getD, length, set, replicate, length-set, length-replicate}
 use lib.Pow.{pow-pos}
 use lib.Seq.{getD-set-other}
 use Rattle.base.specs.Choice.{pick}
+use Rattle.base.proofs.Choice.{pick-all}
 use Rattle.base.proofs.Sums.{sum-cong, sum-zero}
 use Rattle.rules.specs.Table.{Table}
 use Rattle.rules.specs.Ceiling.{priceAt, downShare, costBy, cost, raised, lowered, ceilingAt, lowers, priced, pricedAll, pricesAfter}
+use Rattle.laws.proofs.Give.{set-le}
 use Rattle.tables.specs.Arrays.{entry}
 use Rattle.tables.specs.declared.Size.{Size}
 use Rattle.ceiling.specs.Prices.{Sized, shown, Prices, Costs, Trial, Room}
@@ -47,10 +49,6 @@ min-lower e l = omega arith
 pub min-higher : {x c present : ℕ} → x ≡ min c present → present ≤ x → present ≤ c
 min-higher e l = omega arith
 
-pick-all : (P : List ℕ → Type 0) (x : Bool) (a b : List ℕ) → P a → P b → P (pick x a b)
-pick-all P true a b pa pb = pa
-pick-all P false a b pa pb = pb
-
 -- what holds of each outcome of a step holds of the step
 priced-all : (P : List ℕ → Type 0) (t : Table) (s : ℕ) (p : List ℕ) (r : ℕ) → P (raised p r s) → P (lowered p r s) → P p → P (priced t s p r)
 unfolding priced
@@ -66,18 +64,11 @@ pub record Ready (m s k : ℕ) (p : List ℕ) : Type 0 where
   pub small : (q : ℕ) → getD p q 0 ≤ m
   pub room : (q : ℕ) → k ≤ q → getD p q 0 + s ≤ m
 
-pub set-le : (m : ℕ) (p : List ℕ) (i v : ℕ) → ((k : ℕ) → getD p k 0 ≤ m) → v ≤ m → (k : ℕ) → getD (set p i v) k 0 ≤ m
-set-le m [] i v h l k = h k
-set-le m (x ∷ p) zero v h l zero = l
-set-le m (x ∷ p) zero v h l (suc k) = h (suc k)
-set-le m (x ∷ p) (suc i) v h l zero = h zero
-set-le m (x ∷ p) (suc i) v h l (suc k) = set-le m p i v (λ q. h (suc q)) l k
-
 ready-set : (m s k : ℕ) (p : List ℕ) (v : ℕ) → Ready m s k p → v ≤ m → Ready m s (suc k) (set p k v)
 ready-set m s k p v h l =
     record {
       places = length-set p k v ∙ h .places;
-      small = set-le m p k v (h .small) l;
+      small = set-le p k v m l (h .small);
       room = λ q le. rw (getD-set-other p k q v 0 (λ e. omega arith)) (h .room q (omega arith));
     }
 

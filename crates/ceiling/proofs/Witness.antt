@@ -6,7 +6,8 @@ use native.Mathlib.Omega.{arith}
 use lib.ListN.{set, replicate, length-set, length-replicate}
 use Rattle.tables.specs.declared.Size.{Size}
 use Rattle.ceiling.specs.Prices.{Sized, shareEntry}
-use Rattle.ceiling.proofs.Search.{set-le, none}
+use Rattle.laws.proofs.Give.{set-le}
+use Rattle.ceiling.proofs.Search.{none}
 
 abbrev size : Size
 size = record { segments = 1; strategies = 1; resources = 1 }
@@ -26,6 +27,6 @@ met =
       resources-to = omega arith;
       benefits-length = length-set {A = ℕ} (replicate 768 0) 1 7 ∙ length-replicate {A = ℕ} 768 0;
       shares-length = length-set {A = ℕ} (replicate 12_288 0) 16 10_000 ∙ length-replicate {A = ℕ} 12_288 0;
-      benefit-small = λ k. omega (arith, set-le 7 (replicate 768 0) 1 7 (λ q. omega (arith, none 768 q)) (omega arith) k);
-      share-small = λ i j r inside worth l h. set-le 10_000 (replicate 12_288 0) 16 10_000 (λ q. omega (arith, none 12_288 q)) (omega arith) (shareEntry i j r);
+      benefit-small = λ k. omega (arith, set-le (replicate 768 0) 1 7 7 (omega arith) (λ q. omega (arith, none 768 q)) k);
+      share-small = λ i j r inside worth l h. set-le (replicate 12_288 0) 16 10_000 10_000 (omega arith) (λ q. omega (arith, none 12_288 q)) (shareEntry i j r);
     }

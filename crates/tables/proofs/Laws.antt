@@ -1,7 +1,7 @@
 -- What sound tables and running sums give. Assumes nothing.
 use Prim.Native.Nat.{ℕ, zero, suc, _+_, _-_, _*_, _^_, _≤_, _<_}
 use mathlib.Core.Path.{_≡_, refl, sym, _∙_}
-use mathlib.Core.Bool.{Bool, true, false, _&&_}
+use mathlib.Core.Bool.{Bool, true, false, _&&_, and-false}
 use mathlib.Core.List.{List}
 use native.Mathlib.Omega.{arith}
 use borrow.Author.Tests.{le-leb, lt-leb, leb-true, leb-false}
@@ -36,6 +36,15 @@ usage-at u g i (suc j) r cell l h =
 pub limit-at : (l : List ℕ) (r : ℕ) → 1 ≤ r → r ≤ 16 → limitAt l r ≡ getD l (r - 1) 0
 unfolding limitAt
 limit-at l r low high = rw (inside 1 16 r low high)
+
+-- nothing gains nothing and uses nothing
+pub benefit-nothing : (b : List ℕ) (i : ℕ) → benefitAt b i 0 ≡ 0
+unfolding benefitAt
+benefit-nothing b i = rw (and-false (between 1 64 i))
+
+pub usage-nothing : (u : List ℕ) (i r : ℕ) → usageAt u i 0 r ≡ 0
+unfolding usageAt
+usage-nothing u i r = rw (and-false (between 1 64 i))
 
 -- ---- bounds
 
@@ -127,10 +136,6 @@ module _ (z : Size) (b u l c sums : List ℕ) (ready : Ready z b u l c sums) whe
     used-one : (r : ℕ) → used (tables z b u l) (give c i a) r + usageAt u i (strategyAt c i) r ≡ used (tables z b u l) c r + usageAt u i a r
     unfolding chosenUsage
     used-one r = used-give (tables z b u l) c i a low high places r
-
-    nothing-used : (r : ℕ) → usageAt u i 0 r ≡ 0
-    unfolding usageAt
-    nothing-used r = rw (inside 1 64 i low (from-cell .high))
 
     pub one-fits : all (z .resources) (roomFor u l sums i (strategyAt c i) a i 0 0) ≡ within (tables z b u l) (give c i a)
     unfolding roomFor
