@@ -30,7 +30,7 @@ module _ (t : Table) where
     pub candidate : 1 ≤ t .benefit i j
     pub holds : within t (give c i j) ≡ true
 
-  offer-fits : (c : List ℕ) (i : ℕ) → 1 ≤ offer t c i → (1 ≤ t .benefit i (offer t c i)) × (within t (give c i (offer t c i)) ≡ true)
+  pub offer-fits : (c : List ℕ) (i : ℕ) → 1 ≤ offer t c i → (1 ≤ t .benefit i (offer t c i)) × (within t (give c i (offer t c i)) ≡ true)
   unfolding offer greater fitting isCandidate
   offer-fits c i l =
       let w = and-both (isCandidate t i (offer t c i)) (within t (give c i (offer t c i))) (best-passes (fitting t c i) (t .benefit i) (t .strategies) l) in

@@ -1,0 +1,4 @@
+pub mod Costs
+pub mod Search
+pub mod Same
+pub mod Witness

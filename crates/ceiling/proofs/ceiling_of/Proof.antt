@@ -1,0 +1,90 @@
+-- `ceiling::ceiling_of` meets its contract. Assumes nothing.
+use Prim.Native.Nat.{_≤_, _-_}
+use mathlib.Core.Path.{_≡_, ap, sym, _∙_}
+use native.Mathlib.Omega.{arith}
+use borrow.Author.Needs.{needs}
+use Rattle.rules.specs.Ceiling.{pricesAfter, ceilingAt, ceiling}
+use Rattle.ceiling.specs.Prices.{shown, Standing}
+use Rattle.ceiling.proofs.Same.{same-ceiling}
+use Rattle.ceiling.proofs.Search.{start-trial, start-costs, start-value, after-none, after-next, after-room, after-places}
+use Rattle.ceiling.proofs.ceiling_of.Statement.{statement}
+use Rattle.ceiling.proofs.ceiling_of.Tie as tie
+
+abbrev Inv-loop : tie.InvT-loop
+Inv-loop z benefits downs prices₀ costs₀ value₀ k₀ prices costs value k = (k ≤ 41) × (prices ≡ pricesAfter (shown z benefits downs) k) × (Standing z benefits downs prices costs value)
+
+abbrev μ-loop : tie.MeasureT-loop
+μ-loop z benefits downs prices₀ costs₀ value₀ k₀ prices costs value k = 41 - k
+
+slice-aggregate-trial : tie.Need-slice-aggregate-trial Inv-loop μ-loop
+slice-aggregate-trial c = search needs
+
+slice-aggregate-trial-2 : tie.Need-slice-aggregate-trial-2 Inv-loop μ-loop
+slice-aggregate-trial-2 c = search needs
+
+trial-requires : tie.Need-trial-requires Inv-loop μ-loop
+trial-requires c κs =
+    let a = c .before .before .before .before in
+    (start-trial _ _ _ (a .pre), start-costs _ _ _ (a .pre), omega arith)
+
+loop-holds : tie.Need-loop-holds Inv-loop μ-loop
+loop-holds c =
+    let a = c .before .before .before .before .before in
+    (omega arith, after-none _, record { costs = start-costs _ _ _ (a .pre); value = start-value _ _ _ (a .pre) (c .trial .ensures) })
+
+slice-aggregate-price-all : tie.Need-slice-aggregate-price-all Inv-loop μ-loop
+slice-aggregate-price-all c =
+    let l = c .before .before .loop in
+    sym (after-places _ (l .k) (l .inv .1) (omega arith))
+
+slice-aggregate-price-all-2 : tie.Need-slice-aggregate-price-all-2 Inv-loop μ-loop
+slice-aggregate-price-all-2 c = search needs
+
+sub-power : tie.Need-sub-power Inv-loop μ-loop
+sub-power c = search needs
+
+power-requires : tie.Need-power-requires Inv-loop μ-loop
+power-requires c κs = omega arith
+
+price-all-requires : tie.Need-price-all-requires Inv-loop μ-loop
+price-all-requires c κs =
+    let l = c .before .before .before .before .loop in
+    (c .before .before .before .before .before .before .before .before .before .before .pre, after-room _ (l .k) (l .inv .1) (c .power .ensures) (omega arith), l .inv .2)
+
+add-k : tie.Need-add-k Inv-loop μ-loop
+add-k c = search needs
+
+loop-less : tie.Need-loop-less Inv-loop μ-loop
+loop-less c = search needs
+
+loop-again : tie.Need-loop-again Inv-loop μ-loop
+loop-again c =
+    let new = c .before .before .price-all .ensures in
+    (omega arith, after-next _ (c .before .before .before .before .before .before .before .loop .k) (c .before .before .before .before .before .before .before .loop .inv .1) (c .before .before .before .power .ensures) (new .0), new .1)
+
+returns : tie.Need-returns Inv-loop μ-loop
+unfolding ceiling
+returns c =
+    λ t priced.
+    let e : c .before .loop .k ≡ 41 = omega arith in
+    c .before .loop .inv .2 .value ∙ ap (ceilingAt _) (c .before .loop .inv .1 ∙ rw e) ∙ same-ceiling _ _ _ t priced
+
+pub ceiling-of-spec : {M : Type 1} → statement M
+ceiling-of-spec =
+    tie.close
+    (tie.spec
+    Inv-loop
+    μ-loop
+    slice-aggregate-trial
+    slice-aggregate-trial-2
+    trial-requires
+    loop-holds
+    slice-aggregate-price-all
+    slice-aggregate-price-all-2
+    sub-power
+    power-requires
+    price-all-requires
+    add-k
+    loop-less
+    loop-again
+    returns)

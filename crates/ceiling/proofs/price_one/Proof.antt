@@ -1,0 +1,141 @@
+-- `ceiling::price_one` meets its contract. Assumes nothing.
+use Prim.Native.Nat.{_-_}
+use mathlib.Core.Path.{_≡_, ap, sym, _∙_}
+use native.Mathlib.Omega.{arith}
+use borrow.Author.Needs.{needs}
+use lib.ListN.{set}
+use Rattle.rules.specs.Ceiling.{ceilingAt, lowered}
+use Rattle.ceiling.specs.Prices.{shown}
+use Rattle.ceiling.proofs.Search.{priced-up, priced-low, priced-down, priced-same, min-lower, min-higher, trial-lower}
+use Rattle.ceiling.proofs.Costs.{ceiling-small}
+use Rattle.ceiling.proofs.price_one.Statement.{statement}
+use Rattle.ceiling.proofs.price_one.Tie as tie
+
+sub-old : tie.Need-sub-old
+sub-old c = search needs
+
+mul-old : tie.Need-mul-old
+mul-old c = search needs
+
+slice-read-old : tie.Need-slice-read-old
+slice-read-old c = search needs
+
+add-raised : tie.Need-add-raised
+add-raised c = search needs
+
+above-requires : tie.Need-above-requires
+above-requires c κs = search needs
+
+trial-requires : tie.Need-trial-requires
+trial-requires c κs =
+    let a = c .before .before .before .before .before .before .before .before in
+    (a .pre .0, a .pre .1 .costs, omega (arith, a .pre .1 .value, ceiling-small _ _ _ (a .pre .0 .sized) (a .args .prices .now) (a .pre .0 .prices)))
+
+reprice-requires : tie.Need-reprice-requires
+reprice-requires c κs =
+    let a = c .before .before .before .before .before .before .before .before .before .before .before .before in
+    (a .pre .0, a .pre .1 .costs)
+
+same-length : tie.Need-same-length
+same-length c = search needs
+
+same-length-2 : tie.Need-same-length-2
+same-length-2 c = search needs
+
+returns : tie.Need-returns
+returns c =
+    let a = c .before .before .before .before .before .before .before .before .before .before .before .before .before .before .before .before .before in
+    let p = a .args .prices .now in
+    let t = shown (a .args .z) (a .args .benefits .now) (a .args .downs .now) in
+    let present = a .pre .1 .value in
+    let new = c .before .before .before .before .reprice .ensures in
+    let low = min-lower (c .before .before .before .before .before .before .before .before .trial .ensures) (c .before .before .before .before .before .before .before .if1 .taken) in
+    (new .0 ∙ priced-up t (a .args .step) p (a .args .r) (omega (arith, low .1, present)), record { costs = new .1; value = low .0 ∙ sym (ap (ceilingAt t) (new .0)) })
+
+same-length-3 : tie.Need-same-length-3
+same-length-3 c = search needs
+
+same-length-4 : tie.Need-same-length-4
+same-length-4 c = search needs
+
+returns-2 : tie.Need-returns-2
+returns-2 c =
+    let a = c .before .before .before .before .before .before .before .before .before .before .before in
+    let p = a .args .prices .now in
+    let t = shown (a .args .z) (a .args .benefits .now) (a .args .downs .now) in
+    let present = a .pre .1 .value in
+    let high = min-higher (c .before .before .trial .ensures) (c .before .if1 .left) in
+    (priced-low t (a .args .step) p (a .args .r) (omega (arith, present)) (c .if2 .taken), a .pre .1)
+
+trial-requires-2 : tie.Need-trial-requires-2
+trial-requires-2 c κs =
+    let a = c .before .before .before .before .before .before .before .before .before .before .before .before .before in
+    (trial-lower _ _ _ _ (a .pre .0) (omega arith), a .pre .1 .costs, omega (arith, a .pre .1 .value, ceiling-small _ _ _ (a .pre .0 .sized) (a .args .prices .now) (a .pre .0 .prices)))
+
+reprice-requires-2 : tie.Need-reprice-requires-2
+reprice-requires-2 c κs =
+    let a = c .before .before .before .before .before .before .before .before .before .before .before .before .before .before .before .before .before in
+    (trial-lower _ _ _ _ (a .pre .0) (omega arith), a .pre .1 .costs)
+
+same-length-5 : tie.Need-same-length-5
+same-length-5 c = search needs
+
+same-length-6 : tie.Need-same-length-6
+same-length-6 c = search needs
+
+returns-3 : tie.Need-returns-3
+returns-3 c =
+    let a = c .before .before .before .before .before .before .before .before .before .before .before .before .before .before .before .before .before .before .before .before .before .before in
+    let p = a .args .prices .now in
+    let t = shown (a .args .z) (a .args .benefits .now) (a .args .downs .now) in
+    let present = a .pre .1 .value in
+    let down : set p (a .args .r - 1) (c .before .before .before .before .before .before .before .before .before .before .before .before .before .before .before .before .above .result) ≡ lowered p (a .args .r) (a .args .step) = ap (set p (a .args .r - 1)) (c .before .before .before .before .before .before .before .before .before .before .before .before .before .before .before .before .above .ensures) in
+    let at-down = ap (ceilingAt t) down in
+    let new = c .before .before .before .before .reprice2 .ensures in
+    let high = min-higher (c .before .before .before .before .before .before .before .before .before .before .before .before .before .trial .ensures) (c .before .before .before .before .before .before .before .before .before .before .before .before .if1 .left) in
+    let low = min-lower (c .before .before .before .before .before .before .before .before .trial2 .ensures) (c .before .before .before .before .before .before .before .if3 .taken) in
+    (new .0 ∙ down ∙ priced-down t (a .args .step) p (a .args .r) (omega (arith, present)) (c .before .before .before .before .before .before .before .before .before .before .before .if2 .left) (omega (arith, low .1, present)), record { costs = new .1; value = low .0 ∙ sym (ap (ceilingAt t) (new .0)) })
+
+same-length-7 : tie.Need-same-length-7
+same-length-7 c = search needs
+
+same-length-8 : tie.Need-same-length-8
+same-length-8 c = search needs
+
+returns-4 : tie.Need-returns-4
+returns-4 c =
+    let a = c .before .before .before .before .before .before .before .before .before .before .before .before .before .before .before in
+    let p = a .args .prices .now in
+    let t = shown (a .args .z) (a .args .benefits .now) (a .args .downs .now) in
+    let present = a .pre .1 .value in
+    let down : set p (a .args .r - 1) (c .before .before .before .before .before .before .before .before .before .above .result) ≡ lowered p (a .args .r) (a .args .step) = ap (set p (a .args .r - 1)) (c .before .before .before .before .before .before .before .before .before .above .ensures) in
+    let at-down = ap (ceilingAt t) down in
+    let high = min-higher (c .before .before .before .before .before .before .trial .ensures) (c .before .before .before .before .before .if1 .left) in
+    let higher = min-higher (c .before .trial2 .ensures) (c .if3 .left) in
+    (priced-same t (a .args .step) p (a .args .r) (omega (arith, present)) (c .before .before .before .before .if2 .left) (omega (arith, present)), a .pre .1)
+
+pub price-one-spec : {M : Type 1} → statement M
+price-one-spec =
+    tie.close
+    (tie.spec
+    sub-old
+    mul-old
+    slice-read-old
+    add-raised
+    above-requires
+    trial-requires
+    reprice-requires
+    same-length
+    same-length-2
+    returns
+    same-length-3
+    same-length-4
+    returns-2
+    trial-requires-2
+    reprice-requires-2
+    same-length-5
+    same-length-6
+    returns-3
+    same-length-7
+    same-length-8
+    returns-4)

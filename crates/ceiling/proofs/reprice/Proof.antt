@@ -1,0 +1,73 @@
+-- `ceiling::reprice` meets its contract. Assumes nothing.
+use Prim.Native.Nat.{_≤_, _-_, _*_}
+use mathlib.Core.Path.{_≡_, refl, sym, _∙_}
+use native.Mathlib.Omega.{arith}
+use borrow.Author.Needs.{needs}
+use lib.ListN.{set, length-set}
+use Rattle.ceiling.specs.Prices.{Costs}
+use Rattle.ceiling.proofs.Costs.{costs-start, costs-past, costs-end}
+use Rattle.ceiling.proofs.reprice.Statement.{statement}
+use Rattle.ceiling.proofs.reprice.Tie as tie
+
+abbrev Inv-loop : tie.InvT-loop
+Inv-loop z benefits downs prices costs₀ r price i₀ costs i = (i ≤ z .segments) × Costs z benefits downs (set prices (r - 1) price) prices (12 * i) costs
+
+abbrev μ-loop : tie.MeasureT-loop
+μ-loop z benefits downs prices costs₀ r price i₀ costs i = z .segments - i
+
+loop-holds : tie.Need-loop-holds Inv-loop μ-loop
+loop-holds c = (omega arith, costs-start _ _ _ _ _ _ (c .before .before .before .before .pre .1))
+
+add-reprice-segment : tie.Need-add-reprice-segment Inv-loop μ-loop
+add-reprice-segment c = search needs
+
+reprice-segment-requires : tie.Need-reprice-segment-requires Inv-loop μ-loop
+reprice-segment-requires c κs = (c .before .before .before .before .before .before .before .before .before .pre .0, costs-past _ _ _ _ _ _ (c .before .before .before .before .loop .inv .1) (λ k n inside lt. omega arith) (λ k n inside lt. omega arith), omega arith, omega arith)
+
+add-i : tie.Need-add-i Inv-loop μ-loop
+add-i c = search needs
+
+loop-less : tie.Need-loop-less Inv-loop μ-loop
+loop-less c = search needs
+
+loop-again : tie.Need-loop-again Inv-loop μ-loop
+loop-again c = (omega arith, c .before .before .reprice-segment .ensures)
+
+sub-prices : tie.Need-sub-prices Inv-loop μ-loop
+sub-prices c = search needs
+
+mul-prices : tie.Need-mul-prices Inv-loop μ-loop
+mul-prices c = search needs
+
+slice-write-prices : tie.Need-slice-write-prices Inv-loop μ-loop
+slice-write-prices c = search needs
+
+same-length : tie.Need-same-length Inv-loop μ-loop
+same-length c = simp length-set
+
+same-length-2 : tie.Need-same-length-2 Inv-loop μ-loop
+same-length-2 c = c .before .before .loop .inv .1 .places ∙ sym (c .before .before .before .before .before .before .before .pre .1 .places)
+
+returns : tie.Need-returns Inv-loop μ-loop
+returns c =
+    let e : c .before .before .loop .i ≡ c .before .before .before .before .before .before .before .args .z .segments = omega arith in
+    (refl, costs-end _ _ _ _ _ _ (rw e at (c .before .before .loop .inv .1)) (c .before .before .before .before .before .before .before .pre .0 .sized .strategies))
+
+pub reprice-spec : {M : Type 1} → statement M
+reprice-spec =
+    tie.close
+    (tie.spec
+    Inv-loop
+    μ-loop
+    loop-holds
+    add-reprice-segment
+    reprice-segment-requires
+    add-i
+    loop-less
+    loop-again
+    sub-prices
+    mul-prices
+    slice-write-prices
+    same-length
+    same-length-2
+    returns)

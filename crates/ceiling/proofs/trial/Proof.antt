@@ -1,0 +1,96 @@
+-- `ceiling::trial` meets its contract. Assumes nothing.
+use Prim.Native.Nat.{_≤_, _-_, _+_}
+use mathlib.Core.Path.{sym, _∙_}
+use native.Mathlib.Omega.{arith}
+use native.Mathlib.Nat.{min-eq-left, min-eq-right}
+use borrow.Author.Needs.{needs}
+use lib.ListN.{set}
+use Rattle.ceiling.specs.Prices.{shown}
+use Rattle.ceiling.proofs.Costs.{Summed, whole-fits, summed-none, summed-next, summed-early, summed-all, margin-small}
+use Rattle.ceiling.proofs.trial.Statement.{statement}
+use Rattle.ceiling.proofs.trial.Tie as tie
+
+abbrev Inv-loop : tie.InvT-loop
+Inv-loop z benefits downs prices costs r price present total₀ i₀ total i = (i ≤ z .segments) × Summed (shown z benefits downs) (set prices (r - 1) price) i total
+
+abbrev μ-loop : tie.MeasureT-loop
+μ-loop z benefits downs prices costs r price present total₀ i₀ total i = z .segments - i
+
+whole-requires : tie.Need-whole-requires Inv-loop μ-loop
+whole-requires c κs = (omega arith, c .before .before .before .before .pre .0 .prices)
+
+sub-moved : tie.Need-sub-moved Inv-loop μ-loop
+sub-moved c = search needs
+
+mul-moved : tie.Need-mul-moved Inv-loop μ-loop
+mul-moved c = search needs
+
+shared-slice-read-moved : tie.Need-shared-slice-read-moved Inv-loop μ-loop
+shared-slice-read-moved c = search needs
+
+moved-requires : tie.Need-moved-requires Inv-loop μ-loop
+moved-requires c κs = whole-fits _ _ _ _ _ _ (c .before .before .before .before .before .before .pre .0) (c .before .whole .ensures)
+
+loop-holds : tie.Need-loop-holds Inv-loop μ-loop
+loop-holds c = (omega arith, summed-none _ _ _ _ _ _ (c .before .before .before .before .before .before .before .pre .0) (c .before .before .whole .ensures) (c .moved .ensures))
+
+returns : tie.Need-returns Inv-loop μ-loop
+returns c =
+    let l = c .before .before .before .loop in
+    summed-early _ _ _ _ _ _ (c .before .before .before .before .before .before .before .before .before .before .before .pre .0) (l .i) (l .inv .1) (l .inv .0) (c .if2 .taken)
+
+add-margin-at : tie.Need-add-margin-at Inv-loop μ-loop
+add-margin-at c = search needs
+
+margin-at-requires : tie.Need-margin-at-requires Inv-loop μ-loop
+margin-at-requires c κs =
+    let a = c .before .before .before .before .before .before .before .before .before .before .before in
+    (a .pre .0, a .pre .1, omega arith, omega arith)
+
+add-total : tie.Need-add-total Inv-loop μ-loop
+add-total c =
+    let a = c .before .before .before .before .before .before .before .before .before .before .before .before in
+    omega (arith, c .margin-at .ensures, margin-small _ _ _ (a .pre .0 .sized) (set (a .args .prices .now) (a .args .r - 1) (a .args .price)) (c .before .before .before .before .loop .i + 1))
+
+add-i : tie.Need-add-i Inv-loop μ-loop
+add-i c = search needs
+
+loop-less : tie.Need-loop-less Inv-loop μ-loop
+loop-less c = search needs
+
+loop-again : tie.Need-loop-again Inv-loop μ-loop
+loop-again c =
+    let l = c .before .before .before .before .loop in
+    (omega arith, summed-next _ _ _ _ _ _ (c .before .before .before .before .before .before .before .before .before .before .before .before .pre .0) (l .i) (l .inv .1) (c .margin-at .ensures))
+
+returns-2 : tie.Need-returns-2 Inv-loop μ-loop
+returns-2 c =
+    let all = summed-all _ _ _ _ _ _ (c .before .before .before .before .before .before .before .before .before .before .before .pre .0) (c .before .before .before .loop .i) (c .before .before .before .loop .inv .1) (omega arith) in
+    sym (min-eq-right (omega (arith, all)))
+
+returns-3 : tie.Need-returns-3 Inv-loop μ-loop
+returns-3 c =
+    let all = summed-all _ _ _ _ _ _ (c .before .before .before .before .before .before .before .before .before .before .before .pre .0) (c .before .before .before .loop .i) (c .before .before .before .loop .inv .1) (omega arith) in
+    all ∙ sym (min-eq-left (omega (arith, all)))
+
+pub trial-spec : {M : Type 1} → statement M
+trial-spec =
+    tie.close
+    (tie.spec
+    Inv-loop
+    μ-loop
+    whole-requires
+    sub-moved
+    mul-moved
+    shared-slice-read-moved
+    moved-requires
+    loop-holds
+    returns
+    add-margin-at
+    margin-at-requires
+    add-total
+    add-i
+    loop-less
+    loop-again
+    returns-2
+    returns-3)

@@ -1,0 +1,85 @@
+-- `phase2::best_offer` meets its contract. Assumes nothing.
+use Prim.Native.Nat.{_≤_, _-_, _+_}
+use mathlib.Core.Logic.{⊎-elim}
+use native.Mathlib.Omega.{arith}
+use borrow.Author.Needs.{needs}
+use Rattle.base.proofs.Best.{Leads}
+use Rattle.rules.specs.Phases.{vacant, offerBenefit}
+use Rattle.tables.proofs.Laws.{gains-of, cell-of}
+use Rattle.tables.specs.Arrays.{tables}
+use Rattle.phase2.proofs.Laws.{offer-le, best-none, best-taken, best-kept, best-passed, best-end}
+use Rattle.phase2.proofs.best_offer.Statement.{statement}
+use Rattle.phase2.proofs.best_offer.Tie as tie
+
+abbrev Inv-loop : tie.InvT-loop
+Inv-loop z benefits uses limits choice sums top₀ gain₀ i₀ top gain i = (i ≤ z .segments) × Leads (vacant (tables z benefits uses limits) choice) (offerBenefit (tables z benefits uses limits) choice) i top gain
+
+abbrev μ-loop : tie.MeasureT-loop
+μ-loop z benefits uses limits choice sums top₀ gain₀ i₀ top gain i = z .segments - i
+
+loop-holds : tie.Need-loop-holds Inv-loop μ-loop
+loop-holds c = (search needs, best-none _ _ _ _ _)
+
+mul-if2 : tie.Need-mul-if2 Inv-loop μ-loop
+mul-if2 c = search needs
+
+shared-slice-read-if2 : tie.Need-shared-slice-read-if2 Inv-loop μ-loop
+shared-slice-read-if2 c = search needs
+
+add-offer-of : tie.Need-add-offer-of Inv-loop μ-loop
+add-offer-of c = search needs
+
+offer-of-requires : tie.Need-offer-of-requires Inv-loop μ-loop
+offer-of-requires c κs = (c .before .before .before .before .before .before .before .before .before .before .pre, omega arith, omega arith)
+
+add-benefit : tie.Need-add-benefit Inv-loop μ-loop
+add-benefit c = search needs
+
+benefit-requires : tie.Need-benefit-requires Inv-loop μ-loop
+benefit-requires c κs =
+    let a = c .before .before .before .before .before .before .before .before .before .before .before in
+    (gains-of _ _ _ _ (a .pre .sound), cell-of _ _ _ _ (a .pre .sound) (c .before .before .before .before .before .loop .i + 1) (c .offer-of .result) (omega arith) (omega arith) (rw (c .offer-of .ensures) (offer-le _ _ _ _ _ (c .before .before .before .before .before .loop .i + 1))))
+
+add-top : tie.Need-add-top Inv-loop μ-loop
+add-top c = search needs
+
+add-i : tie.Need-add-i Inv-loop μ-loop
+add-i c = search needs
+
+loop-less : tie.Need-loop-less Inv-loop μ-loop
+loop-less c = search needs
+
+loop-again : tie.Need-loop-again Inv-loop μ-loop
+loop-again c =
+    let i = c .before .before .before .before .loop .i in
+    let led = c .before .before .before .before .loop .inv .1 in (
+      search needs,
+      ⊎-elim
+          (λ w. rw (w .4, w .5) (best-taken _ _ _ _ _ i led (w .1 .ensures) (w .2 .ensures) (w .0 .taken) (w .3 .taken)))
+          (⊎-elim
+          (λ w. rw (w .4, w .5) (best-kept _ _ _ _ _ i led (w .1 .ensures) (w .2 .ensures) (w .3 .left)))
+          (λ w. rw (w .1, w .2) (best-passed _ _ _ _ _ i led (w .0 .left))))
+          (c .if2 .came),
+    )
+
+returns : tie.Need-returns Inv-loop μ-loop
+returns c = best-end _ _ _ _ _ (c .before .before .loop .inv .1) (omega arith)
+
+pub best-offer-spec : {M : Type 1} → statement M
+best-offer-spec =
+    tie.close
+    (tie.spec
+    Inv-loop
+    μ-loop
+    loop-holds
+    mul-if2
+    shared-slice-read-if2
+    add-offer-of
+    offer-of-requires
+    add-benefit
+    benefit-requires
+    add-top
+    add-i
+    loop-less
+    loop-again
+    returns)

@@ -1,0 +1,73 @@
+-- `phase2::fill` meets its contract. Assumes nothing.
+use Prim.Native.Nat.{_-_}
+use mathlib.Core.Option.{some}
+use mathlib.Core.Path.{ap, sym, _∙_}
+use native.Mathlib.Omega.{arith}
+use Rattle.phase2.proofs.Laws.{offer-le, best-le-segments, pick-none, pick-some, Picking, picking-start, picking-end, picking-less, picking-next}
+use Rattle.phase2.proofs.fill.Statement.{statement}
+use Rattle.phase2.proofs.fill.Tie as tie
+
+abbrev Inv-loop : tie.InvT-loop
+Inv-loop z benefits uses limits choice₀ sums₀ picks₀ choice sums picks = Picking z benefits uses limits choice₀ choice sums picks
+
+abbrev μ-loop : tie.MeasureT-loop
+μ-loop z benefits uses limits choice₀ sums₀ picks₀ choice sums picks = z .segments - picks
+
+loop-holds : tie.Need-loop-holds Inv-loop μ-loop
+loop-holds c = picking-start _ _ _ _ _ _ (c .before .before .before .before .before .pre)
+
+best-offer-requires : tie.Need-best-offer-requires Inv-loop μ-loop
+best-offer-requires c κs = c .before .before .loop .inv .ready
+
+same-length : tie.Need-same-length Inv-loop μ-loop
+same-length c = c .before .before .before .before .loop .inv .ready .chosen .places ∙ sym (c .before .before .before .before .before .before .before .before .before .before .pre .chosen .places)
+
+same-length-2 : tie.Need-same-length-2 Inv-loop μ-loop
+same-length-2 c = c .before .before .before .before .loop .inv .ready .sums-length ∙ sym (c .before .before .before .before .before .before .before .before .before .before .pre .sums-length)
+
+returns : tie.Need-returns Inv-loop μ-loop
+returns c =
+    let here = c .before .before .before .before .loop .inv in
+    let done = picking-end _ _ _ _ _ _ _ _ here (pick-none _ _ _ _ _ (c .before .best-offer .ensures) (c .if1 .taken)) in
+    (here .ready, (done .0, done .1))
+
+offer-of-requires : tie.Need-offer-of-requires Inv-loop μ-loop
+offer-of-requires c κs = (c .before .before .before .before .before .before .loop .inv .ready, omega (arith, c .before .before .if1 .left), rw (c .before .before .before .best-offer .ensures) (best-le-segments _ _ _ _ _))
+
+make-one-requires : tie.Need-make-one-requires Inv-loop μ-loop
+make-one-requires c κs = (c .before .before .before .before .before .before .before .before .before .loop .inv .ready, (omega (arith, c .before .before .before .before .before .if1 .left), rw (c .before .before .before .before .before .before .best-offer .ensures) (best-le-segments _ _ _ _ _), rw (c .before .before .offer-of .ensures) (offer-le _ _ _ _ _ _)))
+
+add-picks : tie.Need-add-picks Inv-loop μ-loop
+add-picks c =
+    let here = c .before .before .before .before .before .before .before .before .before .before .before .before .before .before .loop .inv in
+    let next = pick-some _ _ _ _ _ _ _ (c .before .before .before .before .before .before .before .before .before .before .before .best-offer .ensures) (c .before .before .before .before .before .before .before .before .before .before .if1 .left) (c .before .before .before .before .before .before .before .offer-of .ensures) ∙ ap some (sym (c .before .before .before .before .make-one .ensures .1)) in
+    omega (arith, picking-less _ _ _ _ _ _ _ _ here _ next, here .ready .sound .segments)
+
+loop-less : tie.Need-loop-less Inv-loop μ-loop
+loop-less c =
+    let here = c .before .before .before .before .before .before .before .before .before .before .before .before .before .before .loop .inv in
+    let next = pick-some _ _ _ _ _ _ _ (c .before .before .before .before .before .before .before .before .before .before .before .best-offer .ensures) (c .before .before .before .before .before .before .before .before .before .before .if1 .left) (c .before .before .before .before .before .before .before .offer-of .ensures) ∙ ap some (sym (c .before .before .before .before .make-one .ensures .1)) in
+    omega (arith, picking-less _ _ _ _ _ _ _ _ here _ next)
+
+loop-again : tie.Need-loop-again Inv-loop μ-loop
+loop-again c =
+    let here = c .before .before .before .before .before .before .before .before .before .before .before .before .before .before .loop .inv in
+    let next = pick-some _ _ _ _ _ _ _ (c .before .before .before .before .before .before .before .before .before .before .before .best-offer .ensures) (c .before .before .before .before .before .before .before .before .before .before .if1 .left) (c .before .before .before .before .before .before .before .offer-of .ensures) ∙ ap some (sym (c .before .before .before .before .make-one .ensures .1)) in
+    picking-next _ _ _ _ _ _ _ _ here _ next _ (c .before .before .before .before .make-one .ensures .0)
+
+pub fill-spec : {M : Type 1} → statement M
+fill-spec =
+    tie.close
+    (tie.spec
+    Inv-loop
+    μ-loop
+    loop-holds
+    best-offer-requires
+    same-length
+    same-length-2
+    returns
+    offer-of-requires
+    make-one-requires
+    add-picks
+    loop-less
+    loop-again)

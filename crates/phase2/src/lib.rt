@@ -1,0 +1,90 @@
+// Phase 2: segments with nothing are picked up, the greatest benefit that fits first, until none fits.
+use tables::Size;
+ghost use mathlib.Core.Path.{_≡_};
+ghost use Prim.Native.Nat.{_≤_};
+ghost use Rattle.rules.specs.Phases.{offer, bestOffer, phase2};
+ghost use Rattle.tables.specs.Arrays.{tables, Ready};
+
+// The best that segment i could take, or 0.
+fn offer_of(
+    z: Size,
+    benefits: &[u64],
+    uses: &[u64],
+    limits: &[u64],
+    choice: &[usize],
+    sums: &[u64],
+    i: usize,
+) -> usize
+    requires { ⌜ (Ready z (now benefits) (now uses) (now limits) (now choice) (now sums)) × (1 ≤ i) × (i ≤ z .segments) ⌝ }
+    ensures { λ j. ⌜ j ≡ offer (tables z (now (benefits .entry)) (now (uses .entry)) (now (limits .entry))) (now (choice .entry)) i ⌝ }
+{
+    let mut top: usize = 0;
+    let mut gain: u64 = 0;
+    let mut j: usize = 0;
+    while j < z.strategies {
+        let value = tables::benefit(benefits, i, j + 1);
+        if gain < value {
+            if tables::fits_one(z, benefits, uses, limits, choice, sums, i, j + 1) {
+                top = j + 1;
+                gain = value;
+            }
+        }
+        j += 1;
+    }
+    top
+}
+
+// The segment to pick up, or 0.
+fn best_offer(
+    z: Size,
+    benefits: &[u64],
+    uses: &[u64],
+    limits: &[u64],
+    choice: &[usize],
+    sums: &[u64],
+) -> usize
+    requires { ⌜ Ready z (now benefits) (now uses) (now limits) (now choice) (now sums) ⌝ }
+    ensures { λ i. ⌜ i ≡ bestOffer (tables z (now (benefits .entry)) (now (uses .entry)) (now (limits .entry))) (now (choice .entry)) ⌝ }
+{
+    let mut top: usize = 0;
+    let mut gain: u64 = 0;
+    let mut i: usize = 0;
+    while i < z.segments {
+        if choice[i] == 0 {
+            let j = offer_of(z, benefits, uses, limits, choice, sums, i + 1);
+            let offered = tables::benefit(benefits, i + 1, j);
+            if gain < offered {
+                top = i + 1;
+                gain = offered;
+            }
+        }
+        i += 1;
+    }
+    top
+}
+
+// Phase 2. Returns how many segments were picked up.
+pub fn fill(
+    z: Size,
+    benefits: &[u64],
+    uses: &[u64],
+    limits: &[u64],
+    choice: &mut [usize],
+    sums: &mut [u64],
+) -> u64
+    requires { ⌜ Ready z (now benefits) (now uses) (now limits) (now choice) (now sums) ⌝ }
+    ensures { λ m. ⌜ Ready z (now (benefits .entry)) (now (uses .entry)) (now (limits .entry)) (now (choice .exit)) (now (sums .exit)) ⌝ }
+    ensures { λ m. ⌜ now (choice .exit) ≡ phase2 (tables z (now (benefits .entry)) (now (uses .entry)) (now (limits .entry))) (now (choice .entry)) .last ⌝ }
+    ensures { λ m. ⌜ m ≡ phase2 (tables z (now (benefits .entry)) (now (uses .entry)) (now (limits .entry))) (now (choice .entry)) .count ⌝ }
+{
+    let mut picks: u64 = 0;
+    loop {
+        let i = best_offer(z, benefits, uses, limits, choice, sums);
+        if i == 0 {
+            return picks;
+        }
+        let j = offer_of(z, benefits, uses, limits, choice, sums, i);
+        tables::make_one(z, benefits, uses, limits, choice, sums, i, j);
+        picks += 1;
+    }
+}
