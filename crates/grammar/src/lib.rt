@@ -1,1 +1,210 @@
-// The records of a district's file and what a district in their ranges may be taken to hold.
+// The grammar of a district's file: its records in order, and for each of their numbers how many bytes and what range
+// it has. Each function computes the rules' definition of nearly the same name (rules/specs/Format.antt).
+ghost use mathlib.Core.Path.{_≡_};
+ghost use Prim.Native.Nat.{_<_, _-_, _^_, min};
+ghost use Rattle.base.specs.Choice.{pick};
+ghost use Rattle.rules.specs.Format.{number, absent, inside, slot, slotOf, present, countField, limitField, greatestField, rowsField, strategyField, pavementField, segmentField, kindField, fieldAt};
+use rules::Field;
+use rules::Slot;
+
+fn slot_of(kind: usize, places: usize, nth: usize) -> Slot
+    ensures { λ r. ⌜ r ≡ slot kind places nth ⌝ }
+{
+    Slot { kind, places, nth }
+}
+
+// The `n`-th record of the file, from 0.
+pub fn slot_at(n: usize) -> Slot
+    ensures { λ r. ⌜ r ≡ slotOf n ⌝ }
+{
+    if n == 0 {
+        return slot_of(1, 6, 0);
+    }
+    if n == 1 {
+        return slot_of(2, 16, 0);
+    }
+    if n == 2 {
+        return slot_of(3, 9, 0);
+    }
+    if n < 14 {
+        return slot_of(4, 115, n - 3);
+    }
+    if n < 18 {
+        return slot_of(5, 91, n - 14);
+    }
+    if n < 82 {
+        return slot_of(6, 15, n - 18);
+    }
+    slot_of(7, 0, 0)
+}
+
+// Whether the district has the record.
+pub fn is_present(d: &[usize; 2620], s: Slot) -> bool
+    ensures { λ r. ⌜ r ≡ present (now (d .entry)) s ⌝ }
+{
+    let kind = s.kind;
+    let nth = s.nth;
+    if kind == 4 {
+        return nth < d[1];
+    }
+    if kind == 5 {
+        return nth < d[4];
+    }
+    if kind == 6 {
+        return nth < d[0];
+    }
+    true
+}
+
+fn number_of(width: usize, lo: usize, hi: usize) -> Field
+    ensures { λ r. ⌜ r ≡ number width lo hi ⌝ }
+{
+    Field { width, lo, hi }
+}
+
+// The number where the test holds, else one that the district does not have.
+fn number_if(test: bool, width: usize, lo: usize, hi: usize) -> Field
+    ensures { λ r. ⌜ r ≡ pick test (number width lo hi) absent ⌝ }
+{
+    if test {
+        return number_of(width, lo, hi);
+    }
+    number_of(0, 0, 0)
+}
+
+const LEAST: [usize; 6] = [0, 1, 1, 1, 1, 1];
+
+const MOST: [usize; 6] = [64, 11, 10, 9, 4, 16];
+
+fn count_field(n: usize) -> Field
+    ensures { λ r. ⌜ r ≡ countField n ⌝ }
+{
+    if n < 6 {
+        return number_of(1, LEAST[n], MOST[n]);
+    }
+    number_of(1, 0, 0)
+}
+
+fn limit_field(d: &[usize; 2620], n: usize) -> Field
+    ensures { λ r. ⌜ r ≡ limitField (now (d .entry)) n ⌝ }
+{
+    number_if(n < d[5], 4, 0, 999_999_999)
+}
+
+fn greatest_field(d: &[usize; 2620], n: usize) -> Field
+    ensures { λ r. ⌜ r ≡ greatestField (now (d .entry)) n ⌝ }
+{
+    number_if(n < d[3], 1, 1, 50)
+}
+
+fn rows_field(d: &[usize; 2620], most: usize, n: usize) -> Field
+    ensures { λ r. ⌜ r ≡ rowsField (now (d .entry)) most n ⌝ }
+{
+    if n / 10 < d[3] {
+        return number_if(n % 10 < d[2], 1, 0, most);
+    }
+    number_of(0, 0, 0)
+}
+
+fn strategy_field(d: &[usize; 2620], n: usize) -> Field
+    ensures { λ r. ⌜ r ≡ strategyField (now (d .entry)) n ⌝ }
+{
+    if n < 16 {
+        return number_if(n < d[5], 4, 0, 999_999);
+    }
+    if n < 25 {
+        return number_if(n - 16 < d[3], 1, 206, 50);
+    }
+    rows_field(d, 100, n - 25)
+}
+
+fn pavement_field(d: &[usize; 2620], n: usize) -> Field
+    ensures { λ r. ⌜ r ≡ pavementField (now (d .entry)) n ⌝ }
+{
+    if n == 0 {
+        return number_of(2, 0, 450);
+    }
+    rows_field(d, 50, n - 1)
+}
+
+// The largest mask of 16 bits with none from bit `bits` upward.
+fn largest_mask(bits: usize) -> usize
+    ensures { λ r. ⌜ r ≡ 2 ^ min bits 16 - 1 ⌝ }
+{
+    if bits < 16 {
+        (1usize << bits) - 1
+    } else {
+        65535
+    }
+}
+
+fn segment_field(d: &[usize; 2620], n: usize) -> Field
+    requires { ⌜ n < 115 ⌝ }
+    ensures { λ r. ⌜ r ≡ segmentField (now (d .entry)) n ⌝ }
+{
+    if n == 0 {
+        return number_of(1, 1, d[4]);
+    }
+    if n < 3 {
+        return number_of(2, 100, 1000);
+    }
+    if n == 3 {
+        return number_of(2, 1, 9999);
+    }
+    if n == 4 {
+        return number_of(1, 1, 200);
+    }
+    if n == 5 {
+        return number_of(2, 0, largest_mask(d[1]));
+    }
+    number_if(n - 6 < d[3], 1, 0, d[22 + (n - 5 - 1)])
+}
+
+fn kind_field(d: &[usize; 2620], kind: usize, n: usize) -> Field
+    requires { ⌜ n < 115 ⌝ }
+    ensures { λ r. ⌜ r ≡ kindField (now (d .entry)) kind n ⌝ }
+{
+    if kind == 1 {
+        return count_field(n);
+    }
+    if kind == 2 {
+        return limit_field(d, n);
+    }
+    if kind == 3 {
+        return greatest_field(d, n);
+    }
+    if kind == 4 {
+        return strategy_field(d, n);
+    }
+    if kind == 5 {
+        return pavement_field(d, n);
+    }
+    if kind == 6 {
+        return segment_field(d, n);
+    }
+    number_of(0, 0, 0)
+}
+
+// The `n`-th number of the record `s`, from 0; no record has more than 115.
+pub fn field_at(d: &[usize; 2620], s: Slot, n: usize) -> Field
+    requires { ⌜ n < 115 ⌝ }
+    ensures { λ r. ⌜ r ≡ fieldAt (now (d .entry)) s n ⌝ }
+{
+    let kind = s.kind;
+    if is_present(d, s) {
+        return kind_field(d, kind, n);
+    }
+    number_of(0, 0, 0)
+}
+
+// Whether the field may hold `x`.
+pub fn is_inside(f: Field, x: usize) -> bool
+    ensures { λ r. ⌜ r ≡ inside f x ⌝ }
+{
+    let lo = f.lo;
+    let hi = f.hi;
+    if lo <= hi {
+        return lo <= x && x <= hi;
+    }
+    lo <= x || x <= hi
+}

@@ -1,0 +1,49 @@
+-- What being inside a field's range says of a number, and which range each field has. Assumes nothing.
+use Prim.Native.Nat.{ℕ, _≤_, _<_}
+use mathlib.Core.Path.{_≡_, refl, _∙_}
+use mathlib.Core.Bool.{Bool, true, false, _&&_, _||_}
+use native.Mathlib.Omega.{arith}
+use mathlib.Core.Logic.{_⊎_, inl, inr}
+use lib.Dec.{leb, ltb, lit≤}
+use lib.IntN.{natAbs}
+use borrow.Author.Tests.{leb-true, ltb-true, ltb-false, lt-ltb}
+use Rattle.base.specs.Choice.{pick}
+use Rattle.base.proofs.Choice.{pick-yes, pick-all, and-both, or-either}
+use Rattle.base.specs.Bytes.{signed}
+use Rattle.rules.specs.Format.{number, ranged, inside}
+use Rattle.rules.specs.declared.Field.{Field}
+
+-- a field whose range does not run past the largest number, and lies from a to b
+pub record Between (a b : ℕ) (f : Field) : Type 0 where
+  pub straight : leb (f .lo) (f .hi) ≡ true
+  pub least : a ≤ f .lo
+  pub most : f .hi ≤ b
+
+pub between-pick : (a b : ℕ) (t : Bool) (f g : Field) → Between a b f → Between a b g → Between a b (pick t f g)
+between-pick a b t f g h k = pick-all (Between a b) t f g h k
+
+pub between-number : (a b w lo hi : ℕ) → leb lo hi ≡ true → a ≤ lo → hi ≤ b → Between a b (number w lo hi)
+between-number a b w lo hi e h k = record { straight = e; least = h; most = k }
+
+pub ruleset betweens = (tt, refl, lit≤, between-pick, between-number)
+
+pub inside-between : (a b : ℕ) (f : Field) (x : ℕ) → Between a b f → inside f x ≡ true → (a ≤ x) × (x ≤ b)
+unfolding ranged
+inside-between a b f x k e =
+    let lo = f .lo in
+    let hi = f .hi in
+    let both = and-both (leb lo x) (leb x hi) (pick-yes (leb lo hi) (leb lo x && leb x hi) (leb lo x && leb x hi) (leb lo x || leb x hi) (k .straight) refl ∙ e) in
+    let l = leb-true lo x (both .0) in
+    let h = leb-true x hi (both .1) in
+    (omega (arith, k .least), omega (arith, k .most))
+
+-- what a byte inside the range of a gain stands for
+pub gain-most : (x : ℕ) → inside (number 1 206 50) x ≡ true → x < 256 → natAbs (signed x) ≤ 50
+unfolding ranged
+gain-most x e h = go (or-either (leb 206 x) (leb x 50) e) (ltb x 128) refl
+  where
+    go : (leb 206 x ≡ true) ⊎ (leb x 50 ≡ true) → (t : Bool) → ltb x 128 ≡ t → natAbs (signed x) ≤ 50
+    go (inl l) true q = absurd (let a = leb-true 206 x l in let b = ltb-true x 128 q in omega arith)
+    go (inr l) true q = rw q (leb-true x 50 l)
+    go (inl l) false q = rw (q, lt-ltb x 256 h) (omega (arith, leb-true 206 x l))
+    go (inr l) false q = absurd (let a = leb-true x 50 l in let b = ltb-false x 128 q in omega arith)

@@ -1,0 +1,235 @@
+-- Every range fact that the arithmetic needs, of a district in the file's ranges. Assumes nothing.
+use Prim.Native.Nat.{ℕ, _+_, _-_, _*_, _^_, _≤_, _<_, min}
+use mathlib.Core.Path.{_≡_, refl, sym, ap, subst}
+use mathlib.Core.Bool.{Bool, true}
+use native.Mathlib.Nat.{zero-add, add-zero, pow-le-pow-right, min-le-right}
+use native.Mathlib.Omega.{arith}
+use lib.Dec.{leb, ltb}
+use lib.IntN.{natAbs}
+use borrow.Author.Tests.{le-leb, lt-ltb, le-ltb, ne-eqb}
+use Rattle.base.proofs.Choice.{pick-all}
+use Rattle.base.specs.Bytes.{signed}
+use Rattle.base.specs.Choice.{pick}
+use Rattle.rules.specs.District.{District, valueAt, strategyPlace, pavementPlace, segmentPlace, segmentsOf, strategiesOf, yearsOf, distressesOf, pavementsOf, resourcesOf, limitOf, greatestOf, requirementOf, gainOf, percentOf, overallOf, minimumOf, pavementOf, trafficOf, environmentOf, lengthOf, widthOf, barsOf, ratingOf}
+use Rattle.rules.specs.Format.{number, absent, inside, slot, slotOf, present, limitField, greatestField, rowsField, strategyField, pavementField, segmentField, kindField, fieldAt}
+use Rattle.rules.specs.File.{inRange}
+use Rattle.rules.specs.declared.Slot.{Slot}
+use Rattle.rules.specs.declared.Field.{Field}
+use Rattle.grammar.specs.Places.{InRange, SignedBytes}
+use Rattle.grammar.specs.Ranges.{Ranges}
+use Rattle.grammar.proofs.Slots.{slot-strategy, slot-pavement, slot-segment, start-strategy, start-pavement, start-segment}
+use Rattle.grammar.proofs.InRange.{in-range}
+use Rattle.grammar.proofs.Bounds.{Between, between-pick, between-number, betweens, inside-between, gain-most}
+
+module _ (d : District) (ok : InRange d) where
+  -- ---- the numbers of one record, at the district's own places
+
+  pub strategy-in : (j n : ℕ) → 1 ≤ j → j ≤ 11 → n < 115 → inside (fieldAt d (slot 4 115 (j - 1)) n) (valueAt d (strategyPlace j + n)) ≡ true
+  strategy-in j n a b h =
+      let e = slot-strategy (j - 1) (omega arith) in
+      rw (e, start-strategy (j - 1) (omega arith)) at (ok .values (3 + (j - 1)) n (omega arith) (omega (arith, ap (λ (s : Slot). s .places) e)))
+
+  pub pavement-in : (y n : ℕ) → 1 ≤ y → y ≤ 4 → n < 91 → inside (fieldAt d (slot 5 91 (y - 1)) n) (valueAt d (pavementPlace y + n)) ≡ true
+  pavement-in y n a b h =
+      let e = slot-pavement (y - 1) (omega arith) in
+      rw (e, start-pavement (y - 1) (omega arith)) at (ok .values (14 + (y - 1)) n (omega arith) (omega (arith, ap (λ (s : Slot). s .places) e)))
+
+  pub segment-in : (i n : ℕ) → 1 ≤ i → i ≤ 64 → n < 15 → inside (fieldAt d (slot 6 15 (i - 1)) n) (valueAt d (segmentPlace i + n)) ≡ true
+  segment-in i n a b h =
+      let e = slot-segment (i - 1) (omega arith) in
+      rw (e, start-segment (i - 1) (omega arith)) at (ok .values (18 + (i - 1)) n (omega arith) (omega (arith, ap (λ (s : Slot). s .places) e)))
+
+  -- ---- counts, limits and greatest ratings
+
+  count-in : (n lo hi : ℕ) → n < 6 → leb lo hi ≡ true → fieldAt d (slot 1 6 0) n ≡ number 1 lo hi → (lo ≤ valueAt d n) × (valueAt d n ≤ hi)
+  count-in n lo hi h s e = inside-between lo hi (number 1 lo hi) (valueAt d n) (between-number lo hi 1 lo hi s (omega arith) (omega arith)) (rw (e, zero-add n) at (ok .values 0 n (omega arith) h))
+
+  pub segments : (0 ≤ segmentsOf d) × (segmentsOf d ≤ 64)
+  unfolding fieldAt
+  segments = count-in 0 0 64 (omega arith) refl refl
+
+  pub strategies : (1 ≤ strategiesOf d) × (strategiesOf d ≤ 11)
+  unfolding fieldAt
+  strategies = count-in 1 1 11 (omega arith) refl refl
+
+  pub years : (1 ≤ yearsOf d) × (yearsOf d ≤ 10)
+  unfolding fieldAt
+  years = count-in 2 1 10 (omega arith) refl refl
+
+  pub distresses : (1 ≤ distressesOf d) × (distressesOf d ≤ 9)
+  unfolding fieldAt
+  distresses = count-in 3 1 9 (omega arith) refl refl
+
+  pub pavements : (1 ≤ pavementsOf d) × (pavementsOf d ≤ 4)
+  unfolding fieldAt
+  pavements = count-in 4 1 4 (omega arith) refl refl
+
+  pub resources : (1 ≤ resourcesOf d) × (resourcesOf d ≤ 16)
+  unfolding fieldAt
+  resources = count-in 5 1 16 (omega arith) refl refl
+
+  -- a field that a record of its kind has, or none
+  at-most : (b : ℕ) (s : Slot) (n x : ℕ) → Between 0 b (kindField d (s .kind) n) → inside (fieldAt d s n) x ≡ true → x ≤ b
+  unfolding fieldAt
+  at-most b s n x h e = inside-between 0 b (fieldAt d s n) x (between-pick 0 b (present d s) (kindField d (s .kind) n) absent h (between-number 0 b 0 0 0 refl (omega arith) (omega arith))) e .1
+
+  rows : (most n : ℕ) → Between 0 most (rowsField d most n)
+  rows most n =
+      let e = le-leb 0 most (omega arith) in
+      let h : 0 ≤ most = omega arith in
+      let k : most ≤ most = omega arith in
+      search betweens depth 10
+
+  limit : (r : ℕ) → 1 ≤ r → r ≤ 16 → limitOf d r ≤ 999_999_999
+  unfolding limitOf
+  limit r a b =
+      let f : Between 0 999_999_999 (limitField d (r - 1)) = search betweens depth 10 in
+      at-most 999_999_999 (slot 2 16 0) (r - 1) (limitOf d r) f (ok .values 1 (r - 1) (omega arith) (omega arith))
+
+  pub greatest : (k : ℕ) → 1 ≤ k → k ≤ 9 → greatestOf d k ≤ 50
+  unfolding greatestOf
+  greatest k a b =
+      let f : Between 0 50 (greatestField d (k - 1)) = search betweens depth 10 in
+      at-most 50 (slot 3 9 0) (k - 1) (greatestOf d k) f (ok .values 2 (k - 1) (omega arith) (omega arith))
+
+  -- ---- strategies
+
+  requirement : (j r : ℕ) → 1 ≤ j → j ≤ 11 → 1 ≤ r → r ≤ 16 → requirementOf d j r ≤ 999_999
+  unfolding requirementOf
+  requirement j r a b p q =
+      let g : Between 0 999_999 (pick (ltb (r - 1) (resourcesOf d)) (number 4 0 999_999) absent) = search betweens depth 10 in
+      let f : Between 0 999_999 (strategyField d (r - 1)) = rw (lt-ltb (r - 1) 16 (omega arith)) g in
+      at-most 999_999 (slot 4 115 (j - 1)) (r - 1) (requirementOf d j r) f (strategy-in j (r - 1) a b (omega arith))
+
+  percent : (j k t : ℕ) → 1 ≤ j → j ≤ 11 → 1 ≤ k → k ≤ 9 → 1 ≤ t → t ≤ 10 → percentOf d j k t ≤ 100
+  unfolding percentOf
+  percent j k t a b p q v w =
+      let n = 25 + 10 * (k - 1) + (t - 1) in
+      let f : Between 0 100 (strategyField d n) = rw (le-ltb n 16 (omega arith), le-ltb n 25 (omega arith)) (rows 100 (n - 25)) in
+      let e : strategyPlace j + n ≡ strategyPlace j + 25 + 10 * (k - 1) + (t - 1) = omega arith in
+      at-most 100 (slot 4 115 (j - 1)) n (percentOf d j k t) f (rw e at (strategy-in j n a b (omega arith)))
+
+  -- ---- pavement types
+
+  overall : (y : ℕ) → 1 ≤ y → y ≤ 4 → overallOf d y ≤ 450
+  unfolding overallOf
+  overall y a b =
+      let f : Between 0 450 (pavementField d 0) = between-number 0 450 2 0 450 refl (omega arith) (omega arith) in
+      at-most 450 (slot 5 91 (y - 1)) 0 (overallOf d y) f (rw add-zero at (pavement-in y 0 a b (omega arith)))
+
+  minimum : (y k t : ℕ) → 1 ≤ y → y ≤ 4 → 1 ≤ k → k ≤ 9 → 1 ≤ t → t ≤ 10 → minimumOf d y k t ≤ 50
+  unfolding minimumOf
+  minimum y k t a b p q v w =
+      let n = 1 + 10 * (k - 1) + (t - 1) in
+      let f : Between 0 50 (pavementField d n) = rw (ne-eqb n 0 (λ z. omega arith)) (rows 50 (n - 1)) in
+      let e : pavementPlace y + n ≡ pavementPlace y + 1 + 10 * (k - 1) + (t - 1) = omega arith in
+      at-most 50 (slot 5 91 (y - 1)) n (minimumOf d y k t) f (rw e at (pavement-in y n a b (omega arith)))
+
+  -- ---- segments
+
+  some-type : (i : ℕ) → 1 ≤ i → i ≤ segmentsOf d → 1 ≤ pavementOf d i
+  unfolding pavementOf fieldAt
+  some-type i a b =
+      let f : Between 1 4 (segmentField d 0) = between-number 1 4 1 1 (pavementsOf d) (le-leb 1 (pavementsOf d) (pavements .0)) (omega arith) (pavements .1) in
+      inside-between 1 4 (segmentField d 0) (pavementOf d i) f (rw (lt-ltb (i - 1) (segmentsOf d) (omega arith), add-zero) at (segment-in i 0 a (omega (arith, segments .1)) (omega arith))) .0
+
+  pavement : (i : ℕ) → 1 ≤ i → i ≤ 64 → pavementOf d i ≤ 4
+  unfolding pavementOf
+  pavement i a b =
+      let f : Between 0 4 (segmentField d 0) = between-number 0 4 1 1 (pavementsOf d) (le-leb 1 (pavementsOf d) (pavements .0)) (omega arith) (pavements .1) in
+      at-most 4 (slot 6 15 (i - 1)) 0 (pavementOf d i) f (rw add-zero at (segment-in i 0 a b (omega arith)))
+
+  -- one with a range of its own
+  plain : (i n lo hi w : ℕ) → 1 ≤ i → i ≤ 64 → n < 15 → leb lo hi ≡ true → segmentField d n ≡ number w lo hi → valueAt d (segmentPlace i + n) ≤ hi
+  plain i n lo hi w a b h s e =
+      let f : Between 0 hi (segmentField d n) = rw e (between-number 0 hi w lo hi s (omega arith) (omega arith)) in
+      at-most hi (slot 6 15 (i - 1)) n (valueAt d (segmentPlace i + n)) f (segment-in i n a b h)
+
+  bars : (i : ℕ) → 1 ≤ i → i ≤ 64 → barsOf d i < 2 ^ 16
+  unfolding barsOf
+  bars i a b =
+      let p = pow-le-pow-right {n = 2} (omega arith) (min-le-right (strategiesOf d) 16) in
+      let h = plain i 5 0 (2 ^ min (strategiesOf d) 16 - 1) 2 a b (omega arith) (le-leb 0 (2 ^ min (strategiesOf d) 16 - 1) (omega arith)) refl in
+      omega arith
+
+  rating : (i k : ℕ) → 1 ≤ i → i ≤ 64 → 1 ≤ k → k ≤ 9 → ratingOf d i k ≤ greatestOf d k
+  unfolding ratingOf
+  rating i k a b p q =
+      let n = 6 + (k - 1) in
+      let g = greatestOf d k in
+      let e : n - 5 ≡ k = omega arith in
+      let c : segmentPlace i + n ≡ segmentPlace i + 6 + (k - 1) = omega arith in
+      let f : Between 0 g (segmentField d n) =
+      rw (ne-eqb n 0 (λ z. omega arith), le-ltb n 3 (omega arith), ne-eqb n 3 (λ z. omega arith), ne-eqb n 4 (λ z. omega arith), ne-eqb n 5 (λ z. omega arith), e)
+      (between-pick 0 g (ltb (n - 6) (distressesOf d)) (number 1 0 g) absent (between-number 0 g 1 0 g (le-leb 0 g (omega arith)) (omega arith) (omega arith)) (between-number 0 g 0 0 0 refl (omega arith) (omega arith))) in
+      at-most g (slot 6 15 (i - 1)) n (ratingOf d i k) f (rw c at (segment-in i n a b (omega arith)))
+
+  mile-length : (i : ℕ) → 1 ≤ i → i ≤ 64 → lengthOf d i ≤ 9_999
+  unfolding lengthOf
+  mile-length i a b = plain i 3 1 9_999 2 a b (omega arith) refl refl
+
+-- ---- gains
+
+abbrev Gain : ℕ → Field → Type 0
+Gain x f = inside f x ≡ true → (f .hi < f .lo → x < 256) → natAbs (signed x) ≤ 50
+
+gain-picked : (x : ℕ) (s t : Bool) → Gain x (pick s (pick t (number 1 206 50) absent) absent)
+gain-picked x s t =
+    let none : Gain x absent = λ e h. let z : x ≡ 0 = omega (arith, inside-between 0 0 absent x (between-number 0 0 0 0 0 refl (omega arith) (omega arith)) e .1) in rw z (omega arith) in
+    pick-all (Gain x) s (pick t (number 1 206 50) absent) absent
+    (pick-all (Gain x) t (number 1 206 50) absent (λ e h. gain-most x e (h (omega arith))) none)
+    none
+
+gain-field : (d : District) (m n : ℕ) → 16 ≤ n → n < 25 → fieldAt d (slot 4 115 m) n ≡ pick (present d (slot 4 115 m)) (pick (ltb (n - 16) (distressesOf d)) (number 1 206 50) absent) absent
+unfolding fieldAt
+gain-field d m n a b = rw (le-ltb n 16 a, lt-ltb n 25 b)
+
+module _ (d : District) (e : inRange d ≡ true) (signed-bytes : SignedBytes d) where
+  ok : InRange d
+  ok = in-range d e
+
+  gain : (j k : ℕ) → 1 ≤ j → j ≤ 11 → 1 ≤ k → k ≤ 9 → natAbs (gainOf d j k) ≤ 50
+  unfolding ok gainOf
+  gain j k a b p q =
+      let n = 16 + (k - 1) in
+      let s = slot 4 115 (j - 1) in
+      let x = valueAt d (strategyPlace j + n) in
+      let z = slot-strategy (j - 1) (omega arith) in
+      let m : n < slotOf (3 + (j - 1)) .places = omega (arith, ap (λ (s : Slot). s .places) z) in
+      let h : fieldAt d s n .hi < fieldAt d s n .lo → x < 256 = rw (z, start-strategy (j - 1) (omega arith)) at (signed-bytes .bytes (3 + (j - 1)) n (omega arith) m) in
+      let w : strategyPlace j + n ≡ strategyPlace j + 16 + (k - 1) = omega arith in
+      let most = subst (Gain x) (sym (gain-field d (j - 1) n (omega arith) (omega arith))) (gain-picked x (present d s) (ltb (n - 16) (distressesOf d))) in
+      rw w at (most (strategy-in d ok j n a b (omega arith)) h)
+
+  pub in-ranges : Ranges d
+  unfolding ok trafficOf environmentOf widthOf
+  in-ranges =
+      record {
+        places = ok .places;
+        segments = segments d ok .1;
+        some-strategy = strategies d ok .0;
+        strategies = strategies d ok .1;
+        some-year = years d ok .0;
+        years = years d ok .1;
+        some-distress = distresses d ok .0;
+        distresses = distresses d ok .1;
+        some-pavement = pavements d ok .0;
+        pavements = pavements d ok .1;
+        some-resource = resources d ok .0;
+        resources = resources d ok .1;
+        limit = limit d ok;
+        greatest = greatest d ok;
+        requirement = requirement d ok;
+        gain = gain;
+        percent = percent d ok;
+        overall = overall d ok;
+        minimum = minimum d ok;
+        some-type = some-type d ok;
+        pavement = pavement d ok;
+        traffic = λ i a b. plain d ok i 1 100 1_000 2 a b (omega arith) refl refl;
+        environment = λ i a b. plain d ok i 2 100 1_000 2 a b (omega arith) refl refl;
+        mile-length = mile-length d ok;
+        width = λ i a b. plain d ok i 4 1 200 1 a b (omega arith) refl refl;
+        bars = bars d ok;
+        rating = rating d ok;
+      }

@@ -1,0 +1,4 @@
+pub mod Slots
+pub mod InRange
+pub mod Bounds
+pub mod InRanges

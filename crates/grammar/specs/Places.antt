@@ -1,0 +1,29 @@
+-- Where the numbers of each record stand in a district, and a district in the file's ranges, place by place.
+use Prim.Native.Nat.{ℕ, zero, suc, _+_, _≤_, _<_}
+use mathlib.Core.Path.{_≡_}
+use mathlib.Core.Bool.{true}
+use lib.ListN.{length, take}
+use Rattle.rules.specs.District.{District, valueAt}
+use Rattle.rules.specs.Format.{slotOf, present, fieldAt, inside}
+use Rattle.rules.specs.declared.Slot.{Slot}
+
+-- where the numbers of the n-th record start
+abbrev pub startOf : ℕ → ℕ
+startOf zero = 0
+startOf (suc n) = startOf n + slotOf n .places
+
+-- the record s may stand with its numbers from a place on: they are within the district, and they hang on what stands before alone
+pub record Ready (s : Slot) (place : ℕ) : Type 0 where
+  pub room : place + s .places ≤ 2620
+  pub few : s .places ≤ 115
+  pub here : (d : District) → present (take place d) s ≡ present d s
+  pub field : (d : District) (n : ℕ) → n < s .places → fieldAt (take place d) s n ≡ fieldAt d s n
+
+-- each number is one that its field may hold
+pub record InRange (d : District) : Type 0 where
+  pub places : length d ≡ 2620
+  pub values : (n i : ℕ) → n < 83 → i < slotOf n .places → inside (fieldAt d (slotOf n) i) (valueAt d (startOf n + i)) ≡ true
+
+-- a number whose range runs past the largest number is a byte; the rules' test does not ask this
+pub record SignedBytes (d : District) : Type 0 where
+  pub bytes : (n i : ℕ) → n < 83 → i < slotOf n .places → fieldAt d (slotOf n) i .hi < fieldAt d (slotOf n) i .lo → valueAt d (startOf n + i) < 256
