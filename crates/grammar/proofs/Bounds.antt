@@ -1,14 +1,14 @@
 -- What being inside a field's range says of a number, and which range each field has. Assumes nothing.
 use Prim.Native.Nat.{ℕ, _≤_, _<_}
-use mathlib.Core.Path.{_≡_, refl, _∙_}
+use mathlib.Core.Path.{_≡_, sym, refl, _∙_}
 use mathlib.Core.Bool.{Bool, true, false, _&&_, _||_}
 use native.Mathlib.Omega.{arith}
 use mathlib.Core.Logic.{_⊎_, inl, inr}
 use lib.Dec.{leb, ltb, lit≤}
 use lib.IntN.{natAbs}
-use borrow.Author.Tests.{leb-true, ltb-true, ltb-false, lt-ltb}
+use borrow.Author.Tests.{leb-true, le-leb, ltb-true, ltb-false, lt-ltb}
 use Rattle.base.specs.Choice.{pick}
-use Rattle.base.proofs.Choice.{pick-yes, pick-all, and-both, or-either}
+use Rattle.base.proofs.Choice.{pick-yes, pick-all, and-yes, and-both, or-either}
 use Rattle.base.specs.Bytes.{signed}
 use Rattle.rules.specs.Format.{number, ranged, inside}
 use Rattle.rules.specs.declared.Field.{Field}
@@ -36,6 +36,11 @@ inside-between a b f x k e =
     let l = leb-true lo x (both .0) in
     let h = leb-true x hi (both .1) in
     (omega (arith, k .least), omega (arith, k .most))
+
+pub inside-number : (w lo hi x : ℕ) → lo ≤ x → x ≤ hi → inside (number w lo hi) x ≡ true
+unfolding ranged
+inside-number w lo hi x a b =
+    sym (pick-yes (leb lo hi) true (leb lo x && leb x hi) (leb lo x || leb x hi) (le-leb lo hi (omega arith)) (and-yes (leb lo x) (leb x hi) true (le-leb lo x a) (sym (le-leb x hi b))))
 
 -- what a byte inside the range of a gain stands for
 pub gain-most : (x : ℕ) → inside (number 1 206 50) x ≡ true → x < 256 → natAbs (signed x) ≤ 50

@@ -2,9 +2,10 @@
 use Prim.Native.Nat.{ℕ, _+_, _-_, _*_, _^_, _≤_, _<_, min}
 use mathlib.Core.Path.{_≡_, refl, sym, ap, subst}
 use mathlib.Core.Bool.{Bool, true}
-use native.Mathlib.Nat.{zero-add, add-zero, pow-le-pow-right, min-le-right}
+use native.Mathlib.Nat.{zero-add, add-zero, min-le-right}
 use native.Mathlib.Omega.{arith}
 use lib.Dec.{leb, ltb}
+use lib.Pow.{pow-mono}
 use lib.IntN.{natAbs}
 use borrow.Author.Tests.{le-leb, lt-ltb, le-ltb, ne-eqb}
 use Rattle.base.proofs.Choice.{pick-all}
@@ -145,12 +146,12 @@ module _ (d : District) (ok : InRange d) where
       let f : Between 0 hi (segmentField d n) = rw e (between-number 0 hi w lo hi s (omega arith) (omega arith)) in
       at-most hi (slot 6 15 (i - 1)) n (valueAt d (segmentPlace i + n)) f (segment-in i n a b h)
 
-  bars : (i : ℕ) → 1 ≤ i → i ≤ 64 → barsOf d i < 2 ^ 16
+  pub bars-most : (i : ℕ) → 1 ≤ i → i ≤ 64 → barsOf d i ≤ 2 ^ min (strategiesOf d) 16 - 1
   unfolding barsOf
-  bars i a b =
-      let p = pow-le-pow-right {n = 2} (omega arith) (min-le-right (strategiesOf d) 16) in
-      let h = plain i 5 0 (2 ^ min (strategiesOf d) 16 - 1) 2 a b (omega arith) (le-leb 0 (2 ^ min (strategiesOf d) 16 - 1) (omega arith)) refl in
-      omega arith
+  bars-most i a b = plain i 5 0 (2 ^ min (strategiesOf d) 16 - 1) 2 a b (omega arith) (le-leb 0 (2 ^ min (strategiesOf d) 16 - 1) (omega arith)) refl
+
+  bars : (i : ℕ) → 1 ≤ i → i ≤ 64 → barsOf d i < 2 ^ 16
+  bars i a b = omega (arith, bars-most i a b, pow-mono {i = min (strategiesOf d) 16} {j = 16} (min-le-right (strategiesOf d) 16))
 
   rating : (i k : ℕ) → 1 ≤ i → i ≤ 64 → 1 ≤ k → k ≤ 9 → ratingOf d i k ≤ greatestOf d k
   unfolding ratingOf

@@ -2,3 +2,5 @@ pub mod Slots
 pub mod InRange
 pub mod Bounds
 pub mod InRanges
+pub mod Edits
+pub mod Fresh

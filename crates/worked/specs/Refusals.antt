@@ -1,11 +1,9 @@
 -- Refusals in the order of document 01's table, the card's file given back, and entries of Table 1, computed.
 use Prim.Native.Nat.{ℕ}
 use mathlib.Core.Path.{_≡_, refl}
-use mathlib.Core.Bool.{true}
 use mathlib.Core.List.{List, [], _∷_, _++_, map}
 use lib.ListN.{take, set}
-use Rattle.rules.specs.District.{freshDistrict}
-use Rattle.rules.specs.File.{encode, inRange}
+use Rattle.rules.specs.File.{encode}
 use Rattle.rules.specs.Calls.{barRefusal, limitRefusal, ratingRefusal, exportRefusal, loadRefusal, districtIn}
 use Rattle.rules.specs.Survey.{deductPoints, blockOf, pointsOf, surveyRefusal, surveyOf}
 use Rattle.rules.specs.Results.{resultOf}
@@ -52,10 +50,6 @@ loads = refl
 pub given-back : encode (districtIn card) ≡ card
 unfolding card resultOf
 given-back = refl
-
-pub fresh-in-range : inRange freshDistrict ≡ true
-unfolding card resultOf
-fresh-in-range = refl
 
 -- segment 3 and 0, strategy 3; resource 2, limit 1,000,000,000; segment 3, distress 2, rating 21; a buffer of 86 bytes
 unfoldable pub callRefusals : List ℕ → List ℕ
