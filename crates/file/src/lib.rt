@@ -1,0 +1,69 @@
+// The district's file: loading, for any bytes, and export, into any buffer.
+mod bytes;
+mod reading;
+mod writing;
+ghost use mathlib.Core.Path.{_≡_};
+ghost use lib.ListN.{replicate};
+ghost use Rattle.rules.specs.Calls.{exported, exportRefusal};
+ghost use Rattle.rules.specs.File.{encode};
+ghost use Rattle.file.specs.Readings.{loadedFrom};
+use reading::Reading;
+use rules::Answer;
+use rules::District;
+
+// The number of the refusal, or 0 and the district of the file.
+pub struct Loaded {
+    pub refusal: usize,
+    pub district: District,
+}
+
+fn refused(refusal: usize) -> Loaded
+    ensures { λ r. ⌜ r ≡ record { refusal = refusal; district = replicate 2620 0 } ⌝ }
+{
+    Loaded {
+        refusal,
+        district: [0usize; 2620],
+    }
+}
+
+pub fn load(file: &[u8]) -> Loaded
+    ensures { λ r. ⌜ r ≡ loadedFrom (now (file .entry)) ⌝ }
+{
+    let mut d = [0usize; 2620];
+    let mut at: usize = 0;
+    let mut place: usize = 0;
+    let mut n: usize = 0;
+    while n < 83 {
+        let slot = grammar::slot_at(n);
+        let step = reading::read_record(&mut d, file, at, slot, place);
+        match step {
+            Reading::At(next) => {
+                at = next;
+                place += slot.places;
+                n += 1;
+            }
+            Reading::Refused(refusal) => {
+                return refused(refusal);
+            }
+        }
+    }
+    if at < file.len() {
+        return refused(5);
+    }
+    Loaded {
+        refusal: 0,
+        district: d,
+    }
+}
+
+// The file of the district to the front of the buffer, where the buffer has room for it.
+pub fn export(d: District, buffer: &mut [u8]) -> Answer
+    ensures { λ r. ⌜ record { answer = r; buffer = now (buffer .exit) } ≡ exported (exportRefusal d (now (buffer .entry))) (encode d) (now (buffer .entry)) ⌝ }
+{
+    let length = writing::file_length(&d);
+    if buffer.len() < length {
+        return Answer::Refused(9);
+    }
+    writing::write_file(buffer, &d);
+    Answer::Accepted(length)
+}
