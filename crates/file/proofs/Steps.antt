@@ -1,18 +1,18 @@
 -- The rules' definitions one step at a time, as the loops take them. Assumes nothing.
 use Prim.Native.Nat.{ℕ, zero, suc, _+_, _-_, _*_, _≤_, _<_}
 use mathlib.Core.Path.{_≡_, refl, sym, ap, _∙_}
-use mathlib.Core.Bool.{Bool, true, false}
+use mathlib.Core.Bool.{true, false}
 use mathlib.Core.List.{List, [], _∷_, _++_}
 use native.Mathlib.Numerals.{add-one}
 use native.Mathlib.Omega.{arith}
 use lib.ListN.{length, getD, take, drop, set, length-append, length-drop}
-use lib.Seq.{take-suc-set, take-set-le, drop-set-add}
+use lib.Seq.{take-suc-set, drop-set-add}
 use Rattle.base.proofs.Bytes.{length-bytes}
-use Rattle.base.proofs.Choice.{pick-yes, pick-no, pick-all}
-use Rattle.base.specs.Bytes.{bytesOf}
+use Rattle.base.proofs.Choice.{picks, pick-yes, pick-no, pick-all}
+use Rattle.base.specs.Bytes.{bytesOf, numberOf}
 use Rattle.rules.specs.District.{District}
-use Rattle.rules.specs.File.{Read, refused, found, value, widths, size, readNumbers, numberBytes, headerBytes, recordBytes, recordsBytes}
-use Rattle.rules.specs.Format.{absent, present, fieldAt, inside, slotOf}
+use Rattle.rules.specs.File.{refused, found, value, widths, size, readNumbers, readRecord, readRecords, numberBytes, headerBytes, recordBytes, recordsBytes}
+use Rattle.rules.specs.Format.{present, fieldAt, inside, slotOf}
 use Rattle.rules.specs.declared.Field.{Field}
 use Rattle.rules.specs.declared.Slot.{Slot}
 use Rattle.grammar.specs.Places.{Ready}
@@ -103,3 +103,34 @@ length-records (suc m) d n place =
     let s = slotOf n in
     let h = pick-all (λ (l : List ℕ). length l ≤ 4) (present d s) (bytesOf 2 (size d s) ++ bytesOf 2 (s .kind)) [] (omega arith) (omega arith) in
     omega (arith, h, length-append (recordBytes d s place) (recordsBytes m d (n + 1) (place + s .places)), length-record d s place, widths-small (s .places) d s 0, few-places n, length-records m d (n + 1) (place + s .places))
+
+-- ---- reading a record
+
+module _ (d : District) (s : Slot) (bs : List ℕ) where
+  pub record-none : present d s ≡ false → readRecord d s bs ≡ readNumbers (s .places) d s 0 [] bs
+  unfolding readRecord
+  record-none t = sym (pick-no _ _ _ _ t refl)
+
+  pub record-there : present d s ≡ true → 4 ≤ length bs → numberOf (take 2 (drop 2 bs)) ≡ s .kind → numberOf (take 2 bs) ≡ size d s → size d s ≤ length bs - 4 → readRecord d s bs ≡ readNumbers (s .places) d s 0 [] (drop 4 bs)
+  unfolding readRecord
+  record-there t l k n h = sym (search picks depth 10)
+
+-- ---- reading the file
+
+pub records-found : (m n : ℕ) (d bs vs rest : List ℕ) → readRecord d (slotOf n) bs ≡ found vs rest → readRecords (suc m) n d bs ≡ readRecords m (n + 1) (d ++ vs) rest
+unfolding readRecords
+records-found m n d bs vs rest e = rw e
+
+pub records-refused : (m n : ℕ) (d bs : List ℕ) (k : ℕ) → readRecord d (slotOf n) bs ≡ refused k → readRecords (suc m) n d bs ≡ refused k
+unfolding readRecords
+records-refused m n d bs k e = rw e
+
+pub records-end : (n : ℕ) (d bs : List ℕ) → length bs ≡ 0 → readRecords 0 n d bs ≡ found d []
+unfolding readRecords
+records-end n d [] h = refl
+records-end n d (b ∷ bs) h = absurd (omega arith)
+
+pub records-over : (n : ℕ) (d bs : List ℕ) → 0 < length bs → readRecords 0 n d bs ≡ refused 5
+unfolding readRecords
+records-over n d [] h = absurd (omega arith)
+records-over n d (b ∷ bs) h = refl

@@ -5,7 +5,6 @@ use mathlib.Core.List.{List}
 use lib.ListN.{length, take, drop, replicate}
 use Rattle.rules.specs.Answers.{accepting}
 use Rattle.rules.specs.Calls.{loadRefusal, districtIn}
-use Rattle.rules.specs.District.{District}
 use Rattle.rules.specs.File.{Read, refused, found}
 use Rattle.file.specs.declared.Loaded.{Loaded}
 use Rattle.file.specs.declared.reading.Reading.{Reading}

@@ -2,6 +2,7 @@
 mod bytes;
 mod reading;
 mod writing;
+
 ghost use mathlib.Core.Path.{_≡_};
 ghost use lib.ListN.{replicate};
 ghost use Rattle.rules.specs.Calls.{exported, exportRefusal};

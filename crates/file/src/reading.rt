@@ -32,7 +32,13 @@ pub fn payload(d: &[usize; 2620], slot: Slot) -> usize
 }
 
 // The numbers of the record, from `from` on, to the district's places from `place` on.
-fn read_numbers(d: &mut [usize; 2620], file: &[u8], from: usize, slot: Slot, place: usize) -> Reading
+fn read_numbers(
+    d: &mut [usize; 2620],
+    file: &[u8],
+    from: usize,
+    slot: Slot,
+    place: usize,
+) -> Reading
     requires { ⌜ Ready slot place ⌝ }
     requires { ⌜ from + size (take place (now d)) slot ≤ length (now file) ⌝ }
     requires { ⌜ length (now d) ≡ 2620 ⌝ }
@@ -56,7 +62,13 @@ fn read_numbers(d: &mut [usize; 2620], file: &[u8], from: usize, slot: Slot, pla
 }
 
 // The record that starts at `at`, where the district has it.
-pub fn read_record(d: &mut [usize; 2620], file: &[u8], at: usize, slot: Slot, place: usize) -> Reading
+pub fn read_record(
+    d: &mut [usize; 2620],
+    file: &[u8],
+    at: usize,
+    slot: Slot,
+    place: usize,
+) -> Reading
     requires { ⌜ Ready slot place ⌝ }
     requires { ⌜ at ≤ length (now file) ⌝ }
     requires { ⌜ length (now d) ≡ 2620 ⌝ }

@@ -1,72 +1,133 @@
+-- `load` meets its contract: what the file is read as is what the rest of it is read as, after the values so far. Assumes nothing.
+use Prim.Native.Nat.{ℕ, _+_, _-_, _≤_, _<_}
+use mathlib.Core.Path.{_≡_, refl, sym, ap, _∙_}
+use mathlib.Core.List.{List, [], _++_}
+use native.Mathlib.Omega.{arith}
+use lib.ListN.{length, take, drop, length-drop, length-replicate}
+use lib.Seq.{take-all, take-add}
+use Rattle.rules.specs.File.{refused, found, readRecord, readRecords, decode}
+use Rattle.rules.specs.Format.{slotOf}
+use Rattle.rules.specs.declared.Slot.{Slot}
+use Rattle.grammar.specs.Places.{startOf}
+use Rattle.grammar.proofs.Slots.{ready, start-next}
+use Rattle.file.specs.Readings.{readOf, ReadInto}
+use Rattle.file.specs.declared.reading.Reading.{Reading}
+use Rattle.file.specs.declared.reading.Reading.the-variants.{At, Refused}
+use Rattle.file.proofs.Refusals.{loaded-found, loaded-refused}
+use Rattle.file.proofs.Steps.{less, records-found, records-refused, records-end, records-over}
+use borrow.Author.Needs.{needs}
 use Rattle.file.proofs.load.Statement.{statement}
 use Rattle.file.proofs.load.Tie as tie
-use Rattle.file.proofs.load.Reads as reads
-use Rattle.file.proofs.load.Lts as lts
-use Rattle.file.proofs.reading.read_record.Reads as read-record-reads
-use Rattle.file.proofs.refused.Reads as refused-reads
-use Rattle.grammar.proofs.slot_at.Reads as slot-at-reads
 
 abbrev Inv-loop : tie.InvT-loop
-Inv-loop file d₀ at₀ place₀ n₀ d at place n = ?
+Inv-loop file d₀ at₀ place₀ n₀ d at place n =
+    (n ≤ 83)
+    × (decode file ≡ readRecords (83 - n) n (take place d) (drop at file))
+    × (place ≡ startOf n)
+    × (at ≤ length file)
+    × (length d ≡ 2620)
 
 abbrev μ-loop : tie.MeasureT-loop
-μ-loop file d₀ at₀ place₀ n₀ d at place n = ?
+μ-loop file d₀ at₀ place₀ n₀ d at place n = 83 - n
 
--- src/lib.rt:36:5
+-- what a reader's answer says of the records from the n-th on
+module _ (n place at : ℕ) (slot : Slot) (d next file : List ℕ) (res : Reading) (h : n < 83) (e : slot ≡ slotOf n) (r : ReadInto (readRecord (take place d) slot (drop at file)) place (slot .places) file d next res) where
+  answer : readRecord (take place d) (slotOf n) (drop at file) ≡ readOf res (take (slot .places) (drop place next)) file
+  answer = ap (λ (s : Slot). readRecord (take place d) s (drop at file)) (sym e) ∙ r .same
+
+  took : (k : ℕ) → res ≡ At k → readRecords (83 - n) n (take place d) (drop at file) ≡ readRecords (83 - (n + 1)) (n + 1) (take (place + slot .places) next) (drop k file)
+  took k q =
+      let vs = take (slot .places) (drop place next) in
+      ap (λ (m : ℕ). readRecords m n (take place d) (drop at file)) (less 83 n h)
+      ∙ records-found (83 - (n + 1)) n (take place d) (drop at file) vs (drop k file) (answer ∙ ap (λ (x : Reading). readOf x vs file) q)
+      ∙ ap (λ (l : List ℕ). readRecords (83 - (n + 1)) (n + 1) l (drop k file)) (ap (λ (l : List ℕ). l ++ vs) (sym (r .before)) ∙ sym (take-add place (slot .places) next))
+
+  refuses : (k : ℕ) → res ≡ Refused k → readRecords (83 - n) n (take place d) (drop at file) ≡ refused k
+  refuses k q =
+      ap (λ (m : ℕ). readRecords m n (take place d) (drop at file)) (less 83 n h)
+      ∙ records-refused (83 - (n + 1)) n (take place d) (drop at file) k (answer ∙ ap (λ (x : Reading). readOf x (take (slot .places) (drop place next)) file) q)
+
+-- after the last record
+last : (c : tie.After-loop Inv-loop μ-loop) → c .before .loop .n ≡ 83
+last c = omega arith
+
+ended : (c : tie.After-loop Inv-loop μ-loop) → let l = c .before .loop in let file = c .before .before .before .args .file .now in decode file ≡ readRecords 0 (l .n) (take (l .place) (l .d)) (drop (l .at) file)
+ended c =
+    let l = c .before .loop in
+    let file = c .before .before .before .args .file .now in
+    let z : 83 - l .n ≡ 0 = omega arith in
+    l .inv .1 ∙ ap (λ (m : ℕ). readRecords m (l .n) (take (l .place) (l .d)) (drop (l .at) file)) z
+
 loop-holds : tie.Need-loop-holds Inv-loop μ-loop
-loop-holds c = ?
+unfolding decode
+loop-holds c = (omega arith, refl, refl, omega arith, length-replicate {A = ℕ} 2620 0)
 
--- src/lib.rt:37:13
 slot-at-requires : tie.Need-slot-at-requires Inv-loop μ-loop
-slot-at-requires c κs = ?
+slot-at-requires c κs = search needs
 
--- src/lib.rt:38:13
 read-record-requires : tie.Need-read-record-requires Inv-loop μ-loop
-read-record-requires c κs = ?
+read-record-requires c κs =
+    let l = c .before .before .before .loop in
+    (rw (c .before .slot-at .ensures, l .inv .2) (ready (l .n) (omega arith)), (l .inv .3, l .inv .4))
 
--- src/lib.rt:40:25
 enum-known-step : tie.Need-enum-known-step Inv-loop μ-loop
-enum-known-step c = ?
+enum-known-step c = search needs
 
--- src/lib.rt:42:17
 add-place : tie.Need-add-place Inv-loop μ-loop
-add-place c = ?
+add-place c =
+    let l = c .before .before .before .before .before .before .before .before .loop in
+    omega (arith, ap (λ (s : Slot). s .places) (c .before .before .before .before .before .before .slot-at .ensures), ready (l .n) (omega arith) .room)
 
--- src/lib.rt:43:17
 add-n : tie.Need-add-n Inv-loop μ-loop
-add-n c = ?
+add-n c = search needs
 
--- src/lib.rt:36:5
 loop-less : tie.Need-loop-less Inv-loop μ-loop
-loop-less c = ?
+loop-less c = search needs
 
--- src/lib.rt:36:5
 loop-again : tie.Need-loop-again Inv-loop μ-loop
-loop-again c = ?
+loop-again c =
+    let l = c .before .before .before .before .before .before .before .before .loop in
+    let file = c .before .before .before .before .before .before .before .before .before .before .args .file .now in
+    let s = c .before .before .before .before .before .before .slot-at in
+    let r = c .before .before .before .before .read-record in
+    let g = c .before .before .step .given in (
+      omega arith,
+      l .inv .1 ∙ took (l .n) (l .place) (l .at) (s .result) (l .d) (r .last .0) file (r .result) (omega arith) (s .ensures) (r .ensures) (g .0 .0) (g .1),
+      omega (arith, start-next (l .n), ap (λ (s : Slot). s .places) (s .ensures)),
+      rw (g .1) at (r .ensures .inside),
+      r .ensures .all,
+    )
 
--- src/lib.rt:45:30
 enum-known-step-2 : tie.Need-enum-known-step-2 Inv-loop μ-loop
-enum-known-step-2 c = ?
+enum-known-step-2 c = search needs
 
--- src/lib.rt:46:17
 refused-requires : tie.Need-refused-requires Inv-loop μ-loop
-refused-requires c κs = ?
+refused-requires c κs = search needs
 
--- src/lib.rt:46:17
 returns : tie.Need-returns Inv-loop μ-loop
-returns c = ?
+returns c =
+    let l = c .before .before .before .before .before .before .before .before .loop in
+    let file = c .before .before .before .before .before .before .before .before .before .before .args .file .now in
+    let s = c .before .before .before .before .before .before .slot-at in
+    let r = c .before .before .before .before .read-record in
+    let g = c .before .before .step2 .given in
+    c .refused .ensures ∙ loaded-refused file (g .0 .0) (l .inv .1 ∙ refuses (l .n) (l .place) (l .at) (s .result) (l .d) (r .last .0) file (r .result) (omega arith) (s .ensures) (r .ensures) (g .0 .0) (g .1))
 
--- src/lib.rt:51:9
 refused-requires-2 : tie.Need-refused-requires-2 Inv-loop μ-loop
-refused-requires-2 c κs = ?
+refused-requires-2 c κs = search needs
 
--- src/lib.rt:51:9
 returns-2 : tie.Need-returns-2 Inv-loop μ-loop
-returns-2 c = ?
+returns-2 c =
+    let l = c .before .before .before .loop in
+    let file = c .before .before .before .before .before .args .file .now in
+    c .refused2 .ensures ∙ loaded-refused file 5 (ended (c .before .before) ∙ records-over (l .n) (take (l .place) (l .d)) (drop (l .at) file) (simp length-drop (omega arith)))
 
--- src/lib.rt:29:1
 returns-3 : tie.Need-returns-3 Inv-loop μ-loop
-returns-3 c = ?
+returns-3 c =
+    let l = c .before .before .loop in
+    let file = c .before .before .before .before .args .file .now in
+    let all : take (l .place) (l .d) ≡ l .d = take-all (l .place) (l .d) (omega (arith, ap startOf (last (c .before)))) in
+    loaded-found file (l .d) [] (ended (c .before) ∙ records-end (l .n) (take (l .place) (l .d)) (drop (l .at) file) (simp length-drop (omega arith)) ∙ ap (λ (d : List ℕ). found d []) all)
 
 pub load-spec : {M : Type 1} → statement M
 load-spec =

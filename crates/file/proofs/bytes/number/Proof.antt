@@ -50,13 +50,13 @@ cast-byte : tie.Need-cast-byte Inv-loop μ-loop
 cast-byte c = omega (arith, c .shared-slice-known .given (c .before .before .before .args .at + (c .before .before .loop .left - 1)))
 
 mul-value : tie.Need-mul-value Inv-loop μ-loop
-mul-value c = 
+mul-value c =
     let l = c .before .before .loop in
     let a = c .before .before .before .args in
     omega (arith, room (a .file .now) (a .at) (a .width) (l .left) (omega arith) (omega arith) (omega arith) (omega arith) (λ n. omega (arith, c .shared-slice-known .given n)), l .inv .1)
 
 add-value : tie.Need-add-value Inv-loop μ-loop
-add-value c = 
+add-value c =
     let l = c .before .before .loop in
     let a = c .before .before .before .args in
     omega (arith, room (a .file .now) (a .at) (a .width) (l .left) (omega arith) (omega arith) (omega arith) (omega arith) (λ n. omega (arith, c .shared-slice-known .given n)), l .inv .1, c .shared-slice-known .given (a .at + (l .left - 1)))
@@ -65,13 +65,13 @@ loop-less : tie.Need-loop-less Inv-loop μ-loop
 loop-less c = search needs
 
 loop-again : tie.Need-loop-again Inv-loop μ-loop
-loop-again c = 
+loop-again c =
     let l = c .before .before .loop in
     let a = c .before .before .before .args in
     (omega arith, more (a .file .now) (a .at) (a .width) (l .left) (omega arith) (omega arith) (omega arith) (omega arith) (l .value) (l .inv .1))
 
 returns : tie.Need-returns Inv-loop μ-loop
-returns c = 
+returns c =
     let l = c .before .loop in
     let z : l .left ≡ 0 = omega arith in
     l .inv .1 ∙ rw (z, sub-zero, add-zero)

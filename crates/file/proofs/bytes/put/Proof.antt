@@ -1,10 +1,8 @@
 -- `put` meets its contract: what is written so far, and what is still to come, is the whole. Assumes nothing.
 use Prim.Native.Nat.{ℕ, suc, _+_, _-_, _/_, _%_, _≤_}
-use mathlib.Core.Path.{_≡_, sym, ap, _∙_}
-use mathlib.Core.List.{List, []}
-use native.Mathlib.Nat.{sub-zero, sub-self}
+use mathlib.Core.Path.{_≡_, ap, _∙_}
+use native.Mathlib.Nat.{sub-zero}
 use native.Mathlib.Omega.{arith}
-use lib.ListN.{length, drop}
 use Rattle.base.proofs.Bytes.{length-bytes}
 use Rattle.base.proofs.Lists.{Written, written-none, written-one, written-all}
 use Rattle.base.specs.Bytes.{bytesOf}
@@ -34,7 +32,7 @@ loop-less : tie.Need-loop-less Inv-loop μ-loop
 loop-less c = search needs
 
 loop-again : tie.Need-loop-again Inv-loop μ-loop
-loop-again c = 
+loop-again c =
     let l = c .before .loop in
     let a = c .before .before .args in
     let s : a .width - l .i ≡ suc (a .width - (l .i + 1)) = omega arith in
@@ -44,7 +42,7 @@ same-length : tie.Need-same-length Inv-loop μ-loop
 same-length c = c .before .loop .inv .1 .same
 
 returns : tie.Need-returns Inv-loop μ-loop
-returns c = 
+returns c =
     let l = c .before .loop in
     let a = c .before .before .args in
     let z : a .width - l .i ≡ 0 = omega arith in

@@ -4,7 +4,6 @@ use mathlib.Core.Path.{_≡_, ap}
 use native.Mathlib.Nat.{sub-zero, zero-add}
 use native.Mathlib.Omega.{arith}
 use Rattle.rules.specs.File.{widths, size}
-use Rattle.rules.specs.declared.Field.{Field}
 use Rattle.file.proofs.Steps.{widths-step, widths-small}
 use borrow.Author.Needs.{needs}
 use Rattle.file.proofs.reading.payload.Statement.{statement}
@@ -23,7 +22,7 @@ field-at-requires : tie.Need-field-at-requires Inv-loop μ-loop
 field-at-requires c κs = search needs
 
 add-sum : tie.Need-add-sum Inv-loop μ-loop
-add-sum c = 
+add-sum c =
     let l = c .before .before .before .loop in
     let a = c .before .before .before .before .args in
     let f = c .before .field-at in
@@ -36,14 +35,14 @@ loop-less : tie.Need-loop-less Inv-loop μ-loop
 loop-less c = search needs
 
 loop-again : tie.Need-loop-again Inv-loop μ-loop
-loop-again c = 
+loop-again c =
     let l = c .before .before .before .loop in
     let a = c .before .before .before .before .args in
     let f = c .before .field-at in
     (omega arith, omega (arith, widths-step (a .slot .places) (a .d .now) (a .slot) (l .i) (f .result) (omega arith) (f .ensures)))
 
 returns : tie.Need-returns Inv-loop μ-loop
-returns c = 
+returns c =
     let l = c .before .loop in
     let a = c .before .before .args in
     let z : a .slot .places - l .i ≡ 0 = omega arith in

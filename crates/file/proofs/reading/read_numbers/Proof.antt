@@ -1,14 +1,13 @@
 -- `read_numbers` meets its contract: what is read in all is what is read from here on, after the values so far. Assumes nothing.
 use Prim.Native.Nat.{ℕ, _+_, _-_, _≤_}
 use mathlib.Core.Path.{_≡_, refl, sym, ap, _∙_}
-use mathlib.Core.Bool.{true, false}
-use mathlib.Core.List.{List, [], _∷_, _++_}
+use mathlib.Core.List.{List, []}
 use native.Mathlib.Nat.{sub-zero, sub-self}
 use native.Mathlib.Omega.{arith}
 use lib.ListN.{length, take, drop, length-set}
 use lib.Seq.{drop-drop, take-set-le}
 use borrow.Author.Tests.{not-true, not-false}
-use Rattle.rules.specs.File.{found, widths, readNumbers}
+use Rattle.rules.specs.File.{widths, readNumbers}
 use Rattle.rules.specs.Format.{fieldAt}
 use Rattle.rules.specs.declared.Field.{Field}
 use Rattle.grammar.proofs.Slots.{width-small}
@@ -18,7 +17,7 @@ use Rattle.file.proofs.reading.read_numbers.Statement.{statement}
 use Rattle.file.proofs.reading.read_numbers.Tie as tie
 
 abbrev Inv-loop : tie.InvT-loop
-Inv-loop d₀ file from slot place places at₀ i₀ d at i = 
+Inv-loop d₀ file from slot place places at₀ i₀ d at i =
     (i ≤ places)
     × (readNumbers places (take place d₀) slot 0 [] (drop from file) ≡ readNumbers (places - i) (take place d₀) slot i (take i (drop place d)) (drop at file))
     × (at + widths (places - i) (take place d₀) slot i ≤ length file)
@@ -49,7 +48,7 @@ field-at-requires : tie.Need-field-at-requires Inv-loop μ-loop
 field-at-requires c κs = omega (arith, c .before .before .before .before .pre .0 .few)
 
 number-requires : tie.Need-number-requires Inv-loop μ-loop
-number-requires c κs = 
+number-requires c κs =
     let l = c .before .before .before .loop in
     let a = c .before .before .before .before .before .args in
     (omega (arith, width-small (l .d) (a .slot) (l .i), ap (λ (f : Field). f .width) (c .field-at .ensures)), omega (arith, left c))
@@ -58,7 +57,7 @@ is-inside-requires : tie.Need-is-inside-requires Inv-loop μ-loop
 is-inside-requires c κs = search needs
 
 returns : tie.Need-returns Inv-loop μ-loop
-returns c = 
+returns c =
     let l = c .before .before .before .before .before .before .loop in
     let a = c .before .before .before .before .before .before .before .before .args in
     let f = c .before .before .before .field-at in
@@ -93,7 +92,7 @@ loop-less : tie.Need-loop-less Inv-loop μ-loop
 loop-less c = search needs
 
 loop-again : tie.Need-loop-again Inv-loop μ-loop
-loop-again c = 
+loop-again c =
     let l = c .before .before .before .before .before .before .loop in
     let st = c .before .before .before .before .before .before .before .before in
     let a = st .args in
@@ -113,7 +112,7 @@ loop-again c =
 
 returns-2 : tie.Need-returns-2 Inv-loop μ-loop
 unfolding readNumbers
-returns-2 c = 
+returns-2 c =
     let l = c .before .loop in
     let a = c .before .before .before .args in
     let z : l .i ≡ a .slot .places = omega arith in

@@ -1,72 +1,146 @@
+-- `read_record` meets its contract: the tests that led to each answer say which case of the definition holds. Assumes nothing.
+use Prim.Native.Nat.{ℕ, _-_, _≤_, _<_}
+use mathlib.Core.Path.{_≡_, refl, sym, ap, _∙_}
+use mathlib.Core.Bool.{true, false}
+use mathlib.Core.List.{List}
+use native.Mathlib.Omega.{arith}
+use lib.ListN.{length, take, drop, length-drop}
+use lib.Seq.{drop-drop}
+use borrow.Author.Tests.{not-true, not-false}
+use Rattle.base.proofs.Choice.{picks}
+use Rattle.base.specs.Bytes.{numberOf}
+use Rattle.rules.specs.File.{size, readRecord}
+use Rattle.rules.specs.Format.{present}
+use Rattle.file.proofs.Steps.{record-none, record-there, widths-none, widths-take}
 use borrow.Author.Needs.{needs}
 use Rattle.file.proofs.reading.read_record.Statement.{statement}
 use Rattle.file.proofs.reading.read_record.Tie as tie
-use Rattle.file.proofs.reading.read_record.Reads as reads
-use Rattle.file.proofs.reading.read_record.Lts as lts
-use Rattle.file.proofs.bytes.number.Reads as number-reads
-use Rattle.file.proofs.reading.payload.Reads as payload-reads
-use Rattle.file.proofs.reading.read_numbers.Reads as read-numbers-reads
-use Rattle.grammar.proofs.is_present.Reads as is-present-reads
 
--- src/reading.rt:65:9
+-- what each test shows
+none : (c : tie.Then1) → let a = c .before .before .before .before .args in present (take (a .place) (a .d .now)) (a .slot) ≡ false
+none c =
+    let st = c .before .before .before .before in
+    st .pre .0 .here (st .args .d .now) ∙ sym (c .before .is-present .ensures) ∙ not-true _ (c .if1 .taken)
+
+there : (c : tie.Else1) → let a = c .before .before .before .before .args in present (take (a .place) (a .d .now)) (a .slot) ≡ true
+there c =
+    let st = c .before .before .before .before in
+    st .pre .0 .here (st .args .d .now) ∙ sym (c .before .is-present .ensures) ∙ not-false _ (c .if1 .left)
+
+long : (c : tie.Else2) → let a = c .before .before .before .before .before .args in 4 ≤ length (drop (a .at) (a .file .now))
+long c = simp length-drop (omega arith)
+
+kind : (c : tie.Else3) → let a = c .before .before .before .before .before .before .before .args in numberOf (take 2 (drop 2 (drop (a .at) (a .file .now)))) ≡ a .slot .kind
+kind c =
+    let a = c .before .before .before .before .before .before .before .args in
+    rw (drop-drop 2 (a .at) (a .file .now)) (sym (c .before .number .ensures) ∙ c .if3 .left)
+
+sized : (c : tie.After-payload) → let a = c .before .before .before .before .before .before .before .before .before .args in c .payload .result ≡ size (take (a .place) (a .d .now)) (a .slot)
+sized c =
+    let st = c .before .before .before .before .before .before .before .before .before in
+    let a = st .args in
+    c .payload .ensures ∙ sym (widths-take (st .pre .0) (a .d .now) (a .slot .places) 0 (omega arith))
+
+len : (c : tie.Else4) → let a = c .before .before .before .before .before .before .before .before .before .before .before .args in numberOf (take 2 (drop (a .at) (a .file .now))) ≡ size (take (a .place) (a .d .now)) (a .slot)
+len c = sym (c .before .number2 .ensures) ∙ c .if4 .left ∙ sized (c .before .before)
+
 is-present-requires : tie.Need-is-present-requires
 is-present-requires c κs = search needs
 
--- src/reading.rt:66:9
 read-numbers-requires : tie.Need-read-numbers-requires
-read-numbers-requires c κs = ?
+read-numbers-requires c κs =
+    let st = c .before .before .before .before .before in
+    let a = st .args in
+    (st .pre .0, (omega (arith, widths-none (a .slot .places) (take (a .place) (a .d .now)) (a .slot) 0 (none (c .before)), st .pre .1 .0), st .pre .1 .1))
 
--- src/reading.rt:66:9
 returns : tie.Need-returns
-returns c = ?
+returns c =
+    let a = c .before .before .before .before .before .before .args in
+    let n = c .read-numbers .ensures in
+    record { same = record-none (take (a .place) (a .d .now)) (a .slot) (drop (a .at) (a .file .now)) (none (c .before .before)) ∙ n .same; inside = n .inside; before = n .before; all = n .all }
 
--- src/reading.rt:68:16
 sub-left : tie.Need-sub-left
 sub-left c = search needs
 
--- src/reading.rt:70:9
 returns-2 : tie.Need-returns-2
-returns-2 c = ?
+unfolding readRecord
+returns-2 c =
+    let st = c .before .before .before .before .before in
+    let a = st .args in
+    let t = there (c .before) in
+    let h : length (drop (a .at) (a .file .now)) < 4 = simp length-drop (omega arith) in
+    record { same = sym (search picks depth 10); inside = tt; before = refl; all = st .pre .1 .1 }
 
--- src/reading.rt:73:28
 add-number : tie.Need-add-number
 add-number c = search needs
 
--- src/reading.rt:73:8
 number-requires : tie.Need-number-requires
 number-requires c κs = search needs
 
--- src/reading.rt:74:9
 returns-3 : tie.Need-returns-3
-returns-3 c = ?
+unfolding readRecord
+returns-3 c =
+    let st = c .before .before .before .before .before .before .before in
+    let a = st .args in
+    let t = there (c .before .before .before) in
+    let l = long (c .before .before) in
+    let e = ap (λ (l : List ℕ). numberOf (take 2 l)) (drop-drop 2 (a .at) (a .file .now)) in
+    let k : numberOf (take 2 (drop 2 (drop (a .at) (a .file .now)))) ≡ a .slot .kind → ⊥ = λ q. c .if3 .taken (c .before .number .ensures ∙ sym e ∙ q) in
+    record { same = sym (search picks depth 10); inside = tt; before = refl; all = st .pre .1 .1 }
 
--- src/reading.rt:76:9
 payload-requires : tie.Need-payload-requires
 payload-requires c κs = search needs
 
--- src/reading.rt:77:8
 number-requires-2 : tie.Need-number-requires-2
 number-requires-2 c κs = search needs
 
--- src/reading.rt:78:9
 returns-4 : tie.Need-returns-4
-returns-4 c = ?
+unfolding readRecord
+returns-4 c =
+    let st = c .before .before .before .before .before .before .before .before .before .before .before in
+    let a = st .args in
+    let t = there (c .before .before .before .before .before .before .before) in
+    let l = long (c .before .before .before .before .before .before) in
+    let k = kind (c .before .before .before .before) in
+    let n : numberOf (take 2 (drop (a .at) (a .file .now))) ≡ size (take (a .place) (a .d .now)) (a .slot) → ⊥ = λ q. c .if4 .taken (c .before .number2 .ensures ∙ q ∙ sym (sized (c .before .before))) in
+    record { same = sym (search picks depth 10); inside = tt; before = refl; all = st .pre .1 .1 }
 
--- src/reading.rt:81:9
 returns-5 : tie.Need-returns-5
-returns-5 c = ?
+unfolding readRecord
+returns-5 c =
+    let st = c .before .before .before .before .before .before .before .before .before .before .before .before in
+    let a = st .args in
+    let t = there (c .before .before .before .before .before .before .before .before) in
+    let l = long (c .before .before .before .before .before .before .before) in
+    let k = kind (c .before .before .before .before .before) in
+    let n = len (c .before) in
+    let z = sized (c .before .before .before) in
+    let h : length (drop (a .at) (a .file .now)) - 4 < size (take (a .place) (a .d .now)) (a .slot) = simp length-drop (omega arith) in
+    record { same = sym (search picks depth 10); inside = tt; before = refl; all = st .pre .1 .1 }
 
--- src/reading.rt:83:27
 add-read-numbers : tie.Need-add-read-numbers
 add-read-numbers c = search needs
 
--- src/reading.rt:83:5
 read-numbers-requires-2 : tie.Need-read-numbers-requires-2
-read-numbers-requires-2 c κs = ?
+read-numbers-requires-2 c κs =
+    let st = c .before .before .before .before .before .before .before .before .before .before .before .before .before in
+    let z = sized (c .before .before .before .before) in
+    (st .pre .0, (omega (arith, st .pre .1 .0), st .pre .1 .1))
 
--- src/reading.rt:59:1
 returns-6 : tie.Need-returns-6
-returns-6 c = ?
+returns-6 c =
+    let st = c .before .before .before .before .before .before .before .before .before .before .before .before .before .before in
+    let a = st .args in
+    let z = sized (c .before .before .before .before .before) in
+    let n = c .read-numbers2 .ensures in
+    record {
+      same =
+          record-there (take (a .place) (a .d .now)) (a .slot) (drop (a .at) (a .file .now)) (there (c .before .before .before .before .before .before .before .before .before .before)) (long (c .before .before .before .before .before .before .before .before .before)) (kind (c .before .before .before .before .before .before .before)) (len (c .before .before .before)) (simp length-drop (omega arith))
+          ∙ rw (drop-drop 4 (a .at) (a .file .now)) (n .same);
+      inside = n .inside;
+      before = n .before;
+      all = n .all;
+    }
 
 pub read-record-spec : {M : Type 1} → statement M
 read-record-spec =

@@ -1,11 +1,10 @@
 -- `file_length` meets its contract: the sum so far and the records to come are the file. Assumes nothing.
 use Prim.Native.Nat.{ℕ, _+_, _-_, _≤_}
-use mathlib.Core.Path.{_≡_, refl, sym, ap, _∙_}
+use mathlib.Core.Path.{_≡_, refl, ap, _∙_}
 use native.Mathlib.Nat.{zero-add}
 use native.Mathlib.Omega.{arith}
 use lib.ListN.{length, length-append}
 use Rattle.rules.specs.File.{recordBytes, recordsBytes, encode}
-use Rattle.rules.specs.Format.{slotOf}
 use Rattle.rules.specs.declared.Slot.{Slot}
 use Rattle.grammar.specs.Places.{startOf}
 use Rattle.grammar.proofs.Slots.{few-places, start-next, ready}
@@ -39,11 +38,11 @@ record-length-requires c κs = omega (arith, few-places (c .before .before .loop
 
 add-sum : tie.Need-add-sum Inv-loop μ-loop
 unfolding encode
-add-sum c = 
+add-sum c =
     omega (arith, left c, length-records 83 (c .before .before .before .before .args .d .now) 0 0)
 
 add-place : tie.Need-add-place Inv-loop μ-loop
-add-place c = 
+add-place c =
     let l = c .before .before .before .before .loop in
     omega (arith, ap (λ (s : Slot). s .places) (c .before .before .slot-at .ensures), ready (l .n) (omega arith) .room)
 
@@ -54,13 +53,13 @@ loop-less : tie.Need-loop-less Inv-loop μ-loop
 loop-less c = search needs
 
 loop-again : tie.Need-loop-again Inv-loop μ-loop
-loop-again c = 
+loop-again c =
     let l = c .before .before .before .before .loop in
     (omega arith, omega (arith, left (c .before)), omega (arith, start-next (l .n), ap (λ (s : Slot). s .places) (c .before .before .slot-at .ensures)))
 
 returns : tie.Need-returns Inv-loop μ-loop
 unfolding recordsBytes
-returns c = 
+returns c =
     let l = c .before .loop in
     let a = c .before .before .args in
     let z : 83 - l .n ≡ 0 = omega arith in

@@ -1,5 +1,5 @@
 -- `record_length` meets its contract. Assumes nothing.
-use mathlib.Core.Path.{_≡_, sym, _∙_}
+use mathlib.Core.Path.{sym, _∙_}
 use native.Mathlib.Omega.{arith}
 use Rattle.file.proofs.Steps.{length-there, length-none, widths-small}
 use borrow.Author.Needs.{needs}
@@ -13,17 +13,17 @@ payload-requires : tie.Need-payload-requires
 payload-requires c κs = search needs
 
 add-result : tie.Need-add-result
-add-result c = 
+add-result c =
     let a = c .before .before .before .args in
     omega (arith, c .payload .ensures, widths-small (a .slot .places) (a .d .now) (a .slot) 0)
 
 returns : tie.Need-returns
-returns c = 
+returns c =
     let a = c .before .before .before .args in
     omega (arith, c .payload .ensures, length-there (a .d .now) (a .slot) (a .place) (sym (c .before .before .is-present .ensures) ∙ c .before .if1 .taken))
 
 returns-2 : tie.Need-returns-2
-returns-2 c = 
+returns-2 c =
     let a = c .before .before .args in
     omega (arith, length-none (a .d .now) (a .slot) (a .place) (sym (c .before .is-present .ensures) ∙ c .if1 .left))
 

@@ -1,67 +1,96 @@
+-- `write_file` meets its contract: what is written so far and the records to come are the file. Assumes nothing.
+use Prim.Native.Nat.{ℕ, _+_, _-_, _≤_}
+use mathlib.Core.Path.{_≡_, refl, sym, ap}
+use mathlib.Core.List.{_++_}
+use native.Mathlib.Omega.{arith}
+use lib.ListN.{length, length-drop}
+use Rattle.base.proofs.Lists.{Written, whole-tail, tail-room, written-none, written-more, written-all}
+use Rattle.rules.specs.File.{recordBytes, recordsBytes, encode}
+use Rattle.rules.specs.declared.Slot.{Slot}
+use Rattle.grammar.specs.Places.{startOf}
+use Rattle.grammar.proofs.Slots.{ready, start-next}
+use Rattle.file.proofs.Steps.{records-step}
+use borrow.Author.Needs.{needs}
 use Rattle.file.proofs.writing.write_file.Statement.{statement}
 use Rattle.file.proofs.writing.write_file.Tie as tie
-use Rattle.file.proofs.writing.write_file.Reads as reads
-use Rattle.file.proofs.writing.write_file.Lts as lts
-use Rattle.file.proofs.writing.write_record.Reads as write-record-reads
-use Rattle.grammar.proofs.slot_at.Reads as slot-at-reads
 
 abbrev Inv-loop : tie.InvT-loop
-Inv-loop out₀ d at₀ place₀ n₀ out at place n = ?
+Inv-loop out₀ d at₀ place₀ n₀ out at place n = (n ≤ 83) × Written out₀ (encode d) (recordsBytes (83 - n) d n place) at out × (place ≡ startOf n)
 
 abbrev μ-loop : tie.MeasureT-loop
-μ-loop out₀ d at₀ place₀ n₀ out at place n = ?
+μ-loop out₀ d at₀ place₀ n₀ out at place n = 83 - n
 
--- src/writing.rt:94:5
+-- a record is to come, and there is room for it
+now : (c : tie.After-slot-at Inv-loop μ-loop) → let l = c .before .before .loop in let a = c .before .before .before .before .args in Written (a .out .now) (encode (a .d .now)) (recordBytes (a .d .now) (c .slot-at .result) (l .place) ++ recordsBytes (83 - (l .n + 1)) (a .d .now) (l .n + 1) (l .place + c .slot-at .result .places)) (l .at) (l .out)
+now c =
+    let l = c .before .before .loop in
+    rw (records-step (c .before .before .before .before .args .d .now) (l .n) (l .place) (c .slot-at .result) (omega arith) (c .slot-at .ensures)) at (l .inv .1)
+
+room : (c : tie.After-slot-at Inv-loop μ-loop) → let l = c .before .before .loop in l .at + length (recordBytes (c .before .before .before .before .args .d .now) (c .slot-at .result) (l .place)) ≤ length (l .out)
+room c =
+    let l = c .before .before .loop in
+    tail-room (recordBytes (c .before .before .before .before .args .d .now) (c .slot-at .result) (l .place)) _ (now c) (c .before .before .before .before .pre)
+
 loop-holds : tie.Need-loop-holds Inv-loop μ-loop
-loop-holds c = ?
+unfolding encode
+loop-holds c = (omega arith, written-none _ _, refl)
 
--- src/writing.rt:95:13
 slot-at-requires : tie.Need-slot-at-requires Inv-loop μ-loop
-slot-at-requires c κs = ?
+slot-at-requires c κs = search needs
 
--- src/writing.rt:96:35
 sub-write-record : tie.Need-sub-write-record Inv-loop μ-loop
-sub-write-record c = ?
+sub-write-record c = omega (arith, c .before .before .loop .inv .1 .room)
 
--- src/writing.rt:96:35
 part-write-record-start : tie.Need-part-write-record-start Inv-loop μ-loop
-part-write-record-start c = ?
+part-write-record-start c = omega (arith, c .before .before .loop .inv .1 .room)
 
--- src/writing.rt:96:35
 part-write-record-end : tie.Need-part-write-record-end Inv-loop μ-loop
-part-write-record-end c = ?
+part-write-record-end c = search needs
 
--- src/writing.rt:96:13
 write-record-requires : tie.Need-write-record-requires Inv-loop μ-loop
-write-record-requires c κs = ?
+write-record-requires c κs =
+    let l = c .before .before .before .loop in
+    let p = ap (λ (s : Slot). s .places) (c .before .slot-at .ensures) in
+    let r = ready (l .n) (omega arith) in
+    ((omega (arith, r .few), omega (arith, r .room, l .inv .2)), rw (whole-tail (l .out) (l .at)) (simp length-drop (omega (arith, room (c .before)))))
 
--- src/writing.rt:97:9
 add-at : tie.Need-add-at Inv-loop μ-loop
-add-at c = ?
+add-at c = omega (arith, room (c .before .before .before .before), c .before .before .write-record .ensures .0, c .before .before .before .before .before .before .before .before .good)
 
--- src/writing.rt:98:9
 add-place : tie.Need-add-place Inv-loop μ-loop
-add-place c = ?
+add-place c =
+    let l = c .before .before .before .before .before .before .before .loop in
+    omega (arith, ap (λ (s : Slot). s .places) (c .before .before .before .before .before .slot-at .ensures), ready (l .n) (omega arith) .room, l .inv .2)
 
--- src/writing.rt:99:9
 add-n : tie.Need-add-n Inv-loop μ-loop
-add-n c = ?
+add-n c = search needs
 
--- src/writing.rt:94:5
 loop-less : tie.Need-loop-less Inv-loop μ-loop
-loop-less c = ?
+loop-less c = search needs
 
--- src/writing.rt:94:5
 loop-again : tie.Need-loop-again Inv-loop μ-loop
-loop-again c = ?
+loop-again c =
+    let l = c .before .before .before .before .before .before .before .loop in
+    let st = c .before .before .before .before .before .before .before .before .before in
+    let s = c .before .before .before .before .before .slot-at in
+    let w = c .before .before .before .write-record in
+    let d = st .args .d .now in
+    let more = written-more (recordBytes d (s .result) (l .place)) (recordsBytes (83 - (l .n + 1)) d (l .n + 1) (l .place + s .result .places)) (now (c .before .before .before .before .before)) (st .pre) (w .last .0) (w .ensures .1) in (
+      omega arith,
+      rw (sym (w .ensures .0)) at more,
+      omega (arith, l .inv .2, start-next (l .n), ap (λ (s : Slot). s .places) (s .ensures)),
+    )
 
--- src/writing.rt:87:1
 same-length : tie.Need-same-length Inv-loop μ-loop
-same-length c = ?
+same-length c = c .before .loop .inv .1 .same
 
--- src/writing.rt:87:1
 returns : tie.Need-returns Inv-loop μ-loop
-returns c = ?
+unfolding recordsBytes
+returns c =
+    let l = c .before .loop in
+    let a = c .before .before .before .args in
+    let z : 83 - l .n ≡ 0 = omega arith in
+    written-all (l .inv .1) (ap (λ (m : ℕ). recordsBytes m (a .d .now) (l .n) (l .place)) z) .1
 
 pub write-file-spec : {M : Type 1} → statement M
 write-file-spec =

@@ -1,9 +1,9 @@
 -- `write_header` meets its contract. Assumes nothing.
-use Prim.Native.Nat.{ℕ, _+_, _-_, _≤_}
+use Prim.Native.Nat.{_≤_}
 use mathlib.Core.Path.{_≡_, refl, sym, ap, _∙_}
-use mathlib.Core.List.{List, [], _++_, append-nil}
+use mathlib.Core.List.{[], _++_}
 use native.Mathlib.Omega.{arith}
-use lib.ListN.{length, drop, length-drop}
+use lib.ListN.{length, length-drop}
 use borrow.Author.Tests.{not-true, not-false}
 use Rattle.base.proofs.Lists.{whole-tail, written-front, written-more, written-all}
 use Rattle.base.specs.Bytes.{bytesOf}
@@ -25,7 +25,7 @@ is-present-requires : tie.Need-is-present-requires
 is-present-requires c κs = search needs
 
 returns : tie.Need-returns
-returns c = 
+returns c =
     let a = c .before .before .before .args in
     rw (header-none (a .d .now) (a .slot) (sym (c .before .is-present .ensures) ∙ not-true _ (c .if1 .taken))) (refl, refl)
 
@@ -45,7 +45,7 @@ part-put-end : tie.Need-part-put-end
 part-put-end c = search needs
 
 put-requires-2 : tie.Need-put-requires-2
-put-requires-2 c κs = 
+put-requires-2 c κs =
     let o = c .before .before .before .put .last .0 in
     rw (whole-tail o 2) (simp length-drop (omega (arith, room (c .before .before .before .before .before .before), c .before .before .before .put .kept)))
 
@@ -53,7 +53,7 @@ same-length : tie.Need-same-length
 same-length c = search needs
 
 returns-2 : tie.Need-returns-2
-returns-2 c = 
+returns-2 c =
     let else1 = c .before .before .before .before .before .before .before .before .before in
     let a = else1 .before .before .before .args in
     let n = c .before .before .before .before .before .before .before .before .payload in

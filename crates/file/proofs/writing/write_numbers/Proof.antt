@@ -1,10 +1,10 @@
 -- `write_numbers` meets its contract: what is written so far and what is to come is the whole. Assumes nothing.
 use Prim.Native.Nat.{ℕ, _+_, _-_, _≤_}
-use mathlib.Core.Path.{_≡_, refl, sym, ap, _∙_}
-use mathlib.Core.List.{List, [], _++_}
+use mathlib.Core.Path.{_≡_, ap}
+use mathlib.Core.List.{_++_}
 use native.Mathlib.Nat.{sub-zero, add-zero}
 use native.Mathlib.Omega.{arith}
-use lib.ListN.{length, drop, take, getD, length-drop}
+use lib.ListN.{length, getD, length-drop}
 use Rattle.base.proofs.Bytes.{length-bytes}
 use Rattle.base.proofs.Lists.{Written, written-none, written-all, written-more, tail-room, whole-tail}
 use Rattle.base.specs.Bytes.{bytesOf}
@@ -60,7 +60,7 @@ element-copy-out-put : tie.Need-element-copy-out-put Inv-loop μ-loop
 element-copy-out-put c = search needs
 
 put-requires : tie.Need-put-requires Inv-loop μ-loop
-put-requires c κs = 
+put-requires c κs =
     let l = c .before .before .before .before .loop in
     rw (whole-tail (l .out) (l .at)) (simp length-drop (omega (arith, room (c .before .before))))
 
@@ -74,7 +74,7 @@ loop-less : tie.Need-loop-less Inv-loop μ-loop
 loop-less c = search needs
 
 loop-again : tie.Need-loop-again Inv-loop μ-loop
-loop-again c = 
+loop-again c =
     let l = c .before .before .before .before .before .before .before .loop in
     let f = c .before .before .before .before .before .field-at in
     let a = c .before .before .before .before .before .before .before .before .before .args in
@@ -91,7 +91,7 @@ same-length c = c .before .loop .inv .1 .same
 
 returns : tie.Need-returns Inv-loop μ-loop
 unfolding numberBytes
-returns c = 
+returns c =
     let l = c .before .loop in
     let a = c .before .before .before .args in
     let z : a .slot .places - l .i ≡ 0 = omega arith in

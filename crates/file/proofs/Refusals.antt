@@ -1,0 +1,78 @@
+-- A file that does not load has a refusal from 1 to 5; what a load and an export give. Assumes nothing.
+use Prim.Native.Nat.{ℕ, zero, suc, _+_, _-_, _≤_, _<_}
+use mathlib.Core.Path.{_≡_, subst}
+use mathlib.Core.List.{List, [], _∷_, _++_}
+use native.Mathlib.Omega.{arith}
+use lib.Dec.{ltb, eqb}
+use borrow.Author.Tests.{le-leb, lt-leb}
+use lib.ListN.{length, take, drop, replicate}
+use Rattle.base.proofs.Choice.{pick-all}
+use Rattle.base.specs.Bytes.{numberOf}
+use Rattle.rules.specs.Answers.{answerOf, accepting}
+use Rattle.rules.specs.Calls.{loadRefusalOf, loadRefusal, loadedOf, districtIn, exportRefusal, exported}
+use Rattle.rules.specs.District.{District}
+use Rattle.rules.specs.File.{Read, refused, found, value, size, readNumbers, readRecord, andThen, readRecords, decode, encode}
+use Rattle.rules.specs.Format.{present, fieldAt, inside, slotOf}
+use Rattle.rules.specs.declared.Answer.the-variants.{Accepted, Refused}
+use Rattle.rules.specs.declared.Slot.{Slot}
+use Rattle.file.specs.Readings.{loadedFrom}
+
+-- a refusal is one of document 01's table for files
+abbrev Right : Read → Type 0
+Right (refused n) = (1 ≤ n) × (n ≤ 5)
+Right (found vs bs) = Unit {0}
+
+numbers-right : (m : ℕ) (d : District) (s : Slot) (n : ℕ) (vs bs : List ℕ) → Right (readNumbers m d s n vs bs)
+unfolding readNumbers
+numbers-right zero d s n vs bs = tt
+numbers-right (suc m) d s n vs bs =
+    let f = fieldAt d s n in
+    pick-all Right (inside f (value f bs)) _ (refused 4) (numbers-right m d s (n + 1) (vs ++ value f bs ∷ []) (drop (f .width) bs)) (omega arith, omega arith)
+
+record-right : (d : District) (s : Slot) (bs : List ℕ) → Right (readRecord d s bs)
+unfolding readRecord
+record-right d s bs =
+    pick-all Right (present d s) _ _
+    (pick-all Right (ltb (length bs) 4) (refused 1) _ (omega arith, omega arith)
+    (pick-all Right (eqb (numberOf (take 2 (drop 2 bs))) (s .kind)) _ (refused 2)
+    (pick-all Right (eqb (numberOf (take 2 bs)) (size d s)) _ (refused 3)
+    (pick-all Right (ltb (length bs - 4) (size d s)) (refused 1) _ (omega arith, omega arith) (numbers-right (s .places) d s 0 [] (drop 4 bs)))
+    (omega arith, omega arith))
+    (omega arith, omega arith)))
+    (numbers-right (s .places) d s 0 [] bs)
+
+records-right : (m n : ℕ) (d : District) (bs : List ℕ) → Right (readRecords m n d bs)
+unfolding readRecords
+records-right zero n d [] = tt
+records-right zero n d (b ∷ bs) = (omega arith, omega arith)
+records-right (suc m) n d bs = then (readRecord d (slotOf n) bs) (λ vs rest. readRecords m (n + 1) (d ++ vs) rest) (record-right d (slotOf n) bs) (λ vs rest. records-right m (n + 1) (d ++ vs) rest)
+  where
+    then : (r : Read) (next : List ℕ → List ℕ → Read) → Right r → ((vs rest : List ℕ) → Right (next vs rest)) → Right (andThen r next)
+    then (refused k) next h all = h
+    then (found vs rest) next h all = all vs rest
+
+pub refusals : (file : List ℕ) (n : ℕ) → decode file ≡ refused n → (1 ≤ n) × (n ≤ 5)
+unfolding decode
+refusals file n e = subst Right e (records-right 83 0 [] file)
+
+-- ---- what a load gives
+
+pub loaded-found : (file : List ℕ) (d : District) (rest : List ℕ) → decode file ≡ found d rest → record { refusal = 0; district = d } ≡ loadedFrom file
+unfolding loadRefusal loadRefusalOf districtIn loadedOf accepting
+loaded-found file d rest e = rw e
+
+pub loaded-refused : (file : List ℕ) (n : ℕ) → decode file ≡ refused n → record { refusal = n; district = replicate 2620 0 } ≡ loadedFrom file
+unfolding loadRefusal loadRefusalOf districtIn loadedOf accepting
+loaded-refused file zero e = absurd (omega (arith, refusals file zero e .0))
+loaded-refused file (suc n) e = rw e
+
+-- ---- what an export gives
+
+module _ (d : District) (buffer : List ℕ) where
+  pub export-short : length buffer < length (encode d) → record { answer = Refused 9; buffer = buffer } ≡ exported (exportRefusal d buffer) (encode d) buffer
+  unfolding exported exportRefusal answerOf accepting
+  export-short h = rw (lt-leb (length (encode d)) (length buffer) h)
+
+  pub export-fits : length (encode d) ≤ length buffer → record { answer = Accepted (length (encode d)); buffer = encode d ++ drop (length (encode d)) buffer } ≡ exported (exportRefusal d buffer) (encode d) buffer
+  unfolding exported exportRefusal answerOf accepting
+  export-fits h = rw (le-leb (length (encode d)) (length buffer) h)
