@@ -1,17 +1,18 @@
 -- The rules' definitions one step at a time, as the loops take them. Assumes nothing.
 use Prim.Native.Nat.{ℕ, zero, suc, _+_, _-_, _*_, _≤_, _<_}
 use mathlib.Core.Path.{_≡_, refl, sym, ap, _∙_}
-use mathlib.Core.Bool.{true, false}
+use mathlib.Core.Bool.{_&&_, true, false}
 use mathlib.Core.List.{List, [], _∷_, _++_}
+use native.Mathlib.Nat.{add-zero}
 use native.Mathlib.Numerals.{add-one}
 use native.Mathlib.Omega.{arith}
 use lib.ListN.{length, getD, take, drop, set, length-append, length-drop}
-use lib.Seq.{take-suc-set, drop-set-add}
+use lib.Seq.{getD-drop, drop-drop, take-suc-set, drop-set-add}
 use Rattle.base.proofs.Bytes.{length-bytes}
 use Rattle.base.proofs.Choice.{picks, pick-yes, pick-no, pick-all}
 use Rattle.base.specs.Bytes.{bytesOf, numberOf}
 use Rattle.rules.specs.District.{District}
-use Rattle.rules.specs.File.{refused, found, value, widths, size, readNumbers, readRecord, readRecords, numberBytes, headerBytes, recordBytes, recordsBytes}
+use Rattle.rules.specs.File.{refused, found, value, widths, size, readNumbers, readRecord, readRecords, numberBytes, headerBytes, recordBytes, recordsBytes, numbersInRange, recordsInRange}
 use Rattle.rules.specs.Format.{present, fieldAt, inside, slotOf}
 use Rattle.rules.specs.declared.Field.{Field}
 use Rattle.rules.specs.declared.Slot.{Slot}
@@ -134,3 +135,15 @@ pub records-over : (n : ℕ) (d bs : List ℕ) → 0 < length bs → readRecords
 unfolding readRecords
 records-over n d [] h = absurd (omega arith)
 records-over n d (b ∷ bs) h = refl
+
+-- ---- ranges
+
+pub range-step : (m : ℕ) (d : District) (s : Slot) (n place : ℕ) (f : Field) → n < m → f ≡ fieldAt d s n → numbersInRange (m - n) d s n (drop (place + n) d) ≡ (inside f (getD d (place + n) 0) && numbersInRange (m - (n + 1)) d s (n + 1) (drop (place + (n + 1)) d))
+unfolding numbersInRange
+range-step m d s n place f h e =
+    let q : place + (n + 1) ≡ place + n + 1 = omega arith in
+    rw (less m n h, e, q, getD-drop (place + n) d 0 0, add-zero (place + n), drop-drop 1 (place + n) d)
+
+pub ranges-step : (d : District) (n place : ℕ) (s : Slot) → n < 83 → s ≡ slotOf n → recordsInRange (83 - n) d n (drop place d) ≡ (numbersInRange (s .places) d s 0 (drop place d) && recordsInRange (83 - (n + 1)) d (n + 1) (drop (place + s .places) d))
+unfolding recordsInRange
+ranges-step d n place s h e = rw (less 83 n h, e, drop-drop (slotOf n .places) place d)

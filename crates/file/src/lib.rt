@@ -1,12 +1,13 @@
 // The district's file: loading, for any bytes, and export, into any buffer.
 mod bytes;
+mod ranges;
 mod reading;
 mod writing;
 
 ghost use mathlib.Core.Path.{_≡_};
 ghost use lib.ListN.{replicate};
 ghost use Rattle.rules.specs.Calls.{exported, exportRefusal};
-ghost use Rattle.rules.specs.File.{encode};
+ghost use Rattle.rules.specs.File.{encode, inRange};
 ghost use Rattle.file.specs.Readings.{loadedFrom};
 use reading::Reading;
 use rules::Answer;
@@ -67,4 +68,11 @@ pub fn export(d: District, buffer: &mut [u8]) -> Answer
     }
     writing::write_file(buffer, &d);
     Answer::Accepted(length)
+}
+
+// Whether each number of the district is one that the file may hold.
+pub fn in_range(d: District) -> bool
+    ensures { λ r. ⌜ r ≡ inRange d ⌝ }
+{
+    ranges::records_in_range(&d)
 }

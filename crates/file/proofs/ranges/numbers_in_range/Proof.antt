@@ -1,0 +1,85 @@
+-- `numbers_in_range` meets its contract: the test in all is the test from here on. Assumes nothing.
+use Prim.Native.Nat.{ℕ, _+_, _-_, _≤_}
+use mathlib.Core.Path.{_≡_, refl, sym, ap, _∙_}
+use mathlib.Core.Bool.{Bool, true, false, _&&_}
+use native.Mathlib.Nat.{sub-zero, add-zero}
+use native.Mathlib.Omega.{arith}
+use lib.ListN.{drop, getD}
+use borrow.Author.Tests.{not-true, not-false}
+use Rattle.rules.specs.File.{numbersInRange}
+use Rattle.rules.specs.Format.{inside}
+use Rattle.file.proofs.Steps.{range-step}
+use borrow.Author.Needs.{needs}
+use Rattle.file.proofs.ranges.numbers_in_range.Statement.{statement}
+use Rattle.file.proofs.ranges.numbers_in_range.Tie as tie
+
+abbrev Inv-loop : tie.InvT-loop
+Inv-loop d slot place places i₀ i = (i ≤ places) × (numbersInRange places d slot 0 (drop place d) ≡ numbersInRange (places - i) d slot i (drop (place + i) d))
+
+abbrev μ-loop : tie.MeasureT-loop
+μ-loop d slot place places i₀ i = places - i
+
+tested : (c : tie.After-is-inside Inv-loop μ-loop) (t : Bool) → c .is-inside .result ≡ t → let l = c .before .before .before .before .loop in let a = c .before .before .before .before .before .args in numbersInRange (a .slot .places) (a .d .now) (a .slot) 0 (drop (a .place) (a .d .now)) ≡ (t && numbersInRange (a .slot .places - (l .i + 1)) (a .d .now) (a .slot) (l .i + 1) (drop (a .place + (l .i + 1)) (a .d .now)))
+tested c t e =
+    let l = c .before .before .before .before .loop in
+    let a = c .before .before .before .before .before .args in
+    let f = c .before .before .field-at in
+    l .inv .1
+    ∙ range-step (a .slot .places) (a .d .now) (a .slot) (l .i) (a .place) (f .result) (omega arith) (f .ensures)
+    ∙ ap (λ (t : Bool). t && numbersInRange (a .slot .places - (l .i + 1)) (a .d .now) (a .slot) (l .i + 1) (drop (a .place + (l .i + 1)) (a .d .now))) (sym (c .is-inside .ensures) ∙ e)
+
+loop-holds : tie.Need-loop-holds Inv-loop μ-loop
+loop-holds c = (omega arith, rw (sub-zero, add-zero))
+
+field-at-requires : tie.Need-field-at-requires Inv-loop μ-loop
+field-at-requires c κs = omega arith
+
+add-is-inside : tie.Need-add-is-inside Inv-loop μ-loop
+add-is-inside c = search needs
+
+mul-is-inside : tie.Need-mul-is-inside Inv-loop μ-loop
+mul-is-inside c = search needs
+
+element-copy-out-is-inside : tie.Need-element-copy-out-is-inside Inv-loop μ-loop
+element-copy-out-is-inside c = search needs
+
+is-inside-requires : tie.Need-is-inside-requires Inv-loop μ-loop
+is-inside-requires c κs = search needs
+
+returns : tie.Need-returns Inv-loop μ-loop
+returns c = sym (tested (c .before) false (not-true _ (c .if1 .taken)))
+
+add-i : tie.Need-add-i Inv-loop μ-loop
+add-i c = search needs
+
+loop-less : tie.Need-loop-less Inv-loop μ-loop
+loop-less c = search needs
+
+loop-again : tie.Need-loop-again Inv-loop μ-loop
+loop-again c = (omega arith, tested (c .before) true (not-false _ (c .if1 .left)))
+
+returns-2 : tie.Need-returns-2 Inv-loop μ-loop
+unfolding numbersInRange
+returns-2 c =
+    let l = c .before .loop in
+    let a = c .before .before .args in
+    let z : a .slot .places - l .i ≡ 0 = omega arith in
+    sym (l .inv .1 ∙ ap (λ (m : ℕ). numbersInRange m (a .d .now) (a .slot) (l .i) (drop (a .place + l .i) (a .d .now))) z)
+
+pub numbers-in-range-spec : {M : Type 1} → statement M
+numbers-in-range-spec =
+    tie.close
+    (tie.spec
+    Inv-loop
+    μ-loop
+    loop-holds
+    field-at-requires
+    add-is-inside
+    mul-is-inside
+    element-copy-out-is-inside
+    is-inside-requires
+    returns
+    add-i
+    loop-less
+    loop-again
+    returns-2)

@@ -1,0 +1,90 @@
+-- `records_in_range` meets its contract: the test in all is the test from here on. Assumes nothing.
+use Prim.Native.Nat.{ℕ, _+_, _-_, _≤_}
+use mathlib.Core.Path.{_≡_, refl, sym, ap, _∙_}
+use mathlib.Core.Bool.{Bool, true, false, _&&_}
+use native.Mathlib.Omega.{arith}
+use lib.ListN.{drop}
+use borrow.Author.Tests.{not-true, not-false}
+use Rattle.rules.specs.File.{recordsInRange}
+use Rattle.rules.specs.Format.{slotOf}
+use Rattle.rules.specs.declared.Slot.{Slot}
+use Rattle.grammar.specs.Places.{startOf}
+use Rattle.grammar.proofs.Slots.{ready, start-next}
+use Rattle.file.proofs.Steps.{ranges-step}
+use borrow.Author.Needs.{needs}
+use Rattle.file.proofs.ranges.records_in_range.Statement.{statement}
+use Rattle.file.proofs.ranges.records_in_range.Tie as tie
+
+abbrev Inv-loop : tie.InvT-loop
+Inv-loop d place₀ n₀ place n = (n ≤ 83) × (recordsInRange 83 d 0 d ≡ recordsInRange (83 - n) d n (drop place d)) × (place ≡ startOf n)
+
+abbrev μ-loop : tie.MeasureT-loop
+μ-loop d place₀ n₀ place n = 83 - n
+
+tested : (c : tie.After-numbers-in-range Inv-loop μ-loop) (t : Bool) → c .numbers-in-range .result ≡ t → let l = c .before .before .before .loop in let d = c .before .before .before .before .args .d .now in recordsInRange 83 d 0 d ≡ (t && recordsInRange (83 - (l .n + 1)) d (l .n + 1) (drop (l .place + c .before .slot-at .result .places) d))
+tested c t e =
+    let l = c .before .before .before .loop in
+    let d = c .before .before .before .before .args .d .now in
+    let s = c .before .slot-at in
+    l .inv .1
+    ∙ ranges-step d (l .n) (l .place) (s .result) (omega arith) (s .ensures)
+    ∙ ap (λ (t : Bool). t && recordsInRange (83 - (l .n + 1)) d (l .n + 1) (drop (l .place + s .result .places) d)) (sym (c .numbers-in-range .ensures) ∙ e)
+
+loop-holds : tie.Need-loop-holds Inv-loop μ-loop
+loop-holds c = (omega arith, refl, refl)
+
+slot-at-requires : tie.Need-slot-at-requires Inv-loop μ-loop
+slot-at-requires c κs = search needs
+
+numbers-in-range-requires : tie.Need-numbers-in-range-requires Inv-loop μ-loop
+numbers-in-range-requires c κs =
+    let l = c .before .before .loop in
+    let p = ap (λ (s : Slot). s .places) (c .slot-at .ensures) in
+    let r = ready (l .n) (omega arith) in
+    (omega (arith, r .few), omega (arith, r .room, l .inv .2))
+
+returns : tie.Need-returns Inv-loop μ-loop
+returns c = sym (tested (c .before) false (not-true _ (c .if1 .taken)))
+
+add-place : tie.Need-add-place Inv-loop μ-loop
+add-place c =
+    let l = c .before .before .before .before .before .loop in
+    omega (arith, ap (λ (s : Slot). s .places) (c .before .before .before .slot-at .ensures), ready (l .n) (omega arith) .room, l .inv .2)
+
+add-n : tie.Need-add-n Inv-loop μ-loop
+add-n c = search needs
+
+loop-less : tie.Need-loop-less Inv-loop μ-loop
+loop-less c = search needs
+
+loop-again : tie.Need-loop-again Inv-loop μ-loop
+loop-again c =
+    let l = c .before .before .before .before .before .loop in (
+      omega arith,
+      tested (c .before .before) true (not-false _ (c .before .if1 .left)),
+      omega (arith, l .inv .2, start-next (l .n), ap (λ (s : Slot). s .places) (c .before .before .before .slot-at .ensures)),
+    )
+
+returns-2 : tie.Need-returns-2 Inv-loop μ-loop
+unfolding recordsInRange
+returns-2 c =
+    let l = c .before .loop in
+    let d = c .before .before .args .d .now in
+    let z : 83 - l .n ≡ 0 = omega arith in
+    sym (l .inv .1 ∙ ap (λ (m : ℕ). recordsInRange m d (l .n) (drop (l .place) d)) z)
+
+pub records-in-range-spec : {M : Type 1} → statement M
+records-in-range-spec =
+    tie.close
+    (tie.spec
+    Inv-loop
+    μ-loop
+    loop-holds
+    slot-at-requires
+    numbers-in-range-requires
+    returns
+    add-place
+    add-n
+    loop-less
+    loop-again
+    returns-2)
