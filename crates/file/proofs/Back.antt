@@ -1,17 +1,17 @@
 -- A district in the file's ranges is what its file loads as. Assumes nothing.
-use Prim.Native.Nat.{ℕ, zero, suc, _+_, _-_, _*_, _^_, _≤_, _<_}
+use Prim.Native.Nat.{ℕ, zero, suc, _+_, _^_, _≤_, _<_}
 use mathlib.Core.Path.{_≡_, refl, sym, ap, _∙_}
 use mathlib.Core.Bool.{Bool, true, false}
 use mathlib.Core.List.{List, [], _∷_, _++_, append-assoc}
 use native.Mathlib.Nat.{add-zero, zero-add}
 use native.Mathlib.Numerals.{add-one}
 use native.Mathlib.Omega.{arith}
-use lib.ListN.{length, getD, take, drop, length-append, length-drop}
+use lib.ListN.{length, take, drop, length-append, length-drop}
 use lib.Seq.{getD-drop, take-at, drop-at, take-suc, take-all, take-add}
 use Rattle.base.proofs.Bytes.{length-bytes, number-bytes}
 use Rattle.base.specs.Bytes.{bytesOf, numberOf}
 use Rattle.rules.specs.District.{District, valueAt}
-use Rattle.rules.specs.File.{Read, found, size, readNumbers, readRecord, readRecords, decode, numberBytes, headerBytes, recordBytes, recordsBytes, encode, inRange}
+use Rattle.rules.specs.File.{found, size, readNumbers, readRecord, readRecords, decode, numberBytes, recordBytes, recordsBytes, encode, inRange}
 use Rattle.rules.specs.Format.{slotOf, present, fieldAt, inside}
 use Rattle.rules.specs.declared.Slot.{Slot}
 use Rattle.grammar.specs.Places.{startOf, Ready, InRange, SignedBytes}

@@ -23,9 +23,11 @@ use Rattle.rules.specs.Format.{slotOf, present, fieldAt, inside}
 use Rattle.rules.specs.declared.Answer.the-variants.{Accepted}
 use Rattle.rules.specs.declared.Slot.{Slot}
 use Rattle.rules.specs.declared.Unit.{Unit}
-use Rattle.grammar.specs.Places.{startOf, Ready, InRange}
+use Rattle.grammar.specs.Places.{startOf, Ready}
 use Rattle.grammar.proofs.InRange.{range-in}
 use Rattle.grammar.proofs.Slots.{start-next, ready}
+use Rattle.file.specs.Readings.{loadedFrom}
+use Rattle.file.specs.declared.Loaded.{Loaded}
 use Rattle.file.proofs.Refusals.{refusals, export-fits}
 use Rattle.file.proofs.Steps.{widths-none, widths-take, header-there, header-none, record-none, records-found, records-refused}
 
@@ -248,6 +250,17 @@ loads-as file h e = go (decode file) refl
     go : (o : Read) → decode file ≡ o → (encode (loadedOf (decode file)) ≡ file) × (inRange (loadedOf (decode file)) ≡ true)
     go (refused n) q = absurd (omega (arith, refusals file n q, ap loadRefusalOf q))
     go (found d rest) q = let k = encode-decode file d rest h q in rw q (k .0, k .1)
+
+-- what is loaded is in the file's ranges too
+pub loaded-ranged : (file : List ℕ) → Bytes file → {r : Loaded} → r ≡ loadedFrom file → (r ≡ loadedFrom file) × (r .refusal ≡ 0 → inRange (r .district) ≡ true)
+unfolding accepting
+loaded-ranged file h {r} q = (q, ranged)
+  where
+    ranged : r .refusal ≡ 0 → inRange (r .district) ≡ true
+    ranged e =
+        let z : loadRefusal file ≡ 0 = sym (ap (λ (r : Loaded). r .refusal) q) ∙ e in
+        let d : r .district ≡ districtIn file = ap (λ (r : Loaded). r .district) q ∙ rw z in
+        rw d (loads-as file h z .1)
 
 module _ (u : Unit) (file buffer : List ℕ) (e : loadRefusal file ≡ 0) where
   held : loadOf u file .unit .district ≡ districtIn file

@@ -1,11 +1,11 @@
 -- The longest file has 3,788 bytes: that of a district with every count at its greatest. No number is wider in any other. Assumes nothing.
-use Prim.Native.Nat.{ℕ, zero, suc, _+_, _≤_, _<_}
+use Prim.Native.Nat.{ℕ, zero, suc, _+_, _≤_}
 use mathlib.Core.Path.{_≡_, refl, sym, _∙_}
 use mathlib.Core.Bool.{Bool, true, false, true≢false}
 use mathlib.Core.List.{List, [], _∷_, _++_}
 use native.Mathlib.Omega.{arith}
 use lib.Dec.{ltb}
-use lib.ListN.{length, getD, replicate, length-append}
+use lib.ListN.{length, replicate, length-append}
 use borrow.Author.Tests.{ltb-true, lt-ltb}
 use Rattle.base.specs.Bytes.{bytesOf}
 use Rattle.base.specs.Choice.{pick}
