@@ -1,5 +1,5 @@
 // The district's file: loading, for any bytes, and export, into any buffer.
-mod bytes;
+pub mod bytes;
 mod ranges;
 mod reading;
 mod writing;
