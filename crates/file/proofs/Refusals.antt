@@ -1,6 +1,6 @@
 -- A file that does not load has a refusal from 1 to 5; what a load and an export give. Assumes nothing.
 use Prim.Native.Nat.{ℕ, zero, suc, _+_, _-_, _≤_, _<_}
-use mathlib.Core.Path.{_≡_, subst}
+use mathlib.Core.Path.{_≡_, refl, subst}
 use mathlib.Core.List.{List, [], _∷_, _++_}
 use native.Mathlib.Omega.{arith}
 use lib.Dec.{ltb, eqb}
@@ -54,6 +54,14 @@ records-right (suc m) n d bs = then (readRecord d (slotOf n) bs) (λ vs rest. re
 pub refusals : (file : List ℕ) (n : ℕ) → decode file ≡ refused n → (1 ≤ n) × (n ≤ 5)
 unfolding decode
 refusals file n e = subst Right e (records-right 83 0 [] file)
+
+pub refusal-most : (file : List ℕ) → loadRefusal file ≤ 5
+unfolding loadRefusal loadRefusalOf
+refusal-most file = go (decode file) refl
+  where
+    go : (r : Read) → decode file ≡ r → loadRefusalOf (decode file) ≤ 5
+    go (refused n) e = rw e (refusals file n e .1)
+    go (found d rest) e = rw e (omega arith)
 
 -- ---- what a load gives
 

@@ -1,14 +1,16 @@
 // The district's file: loading, for any bytes, and export, into any buffer.
-mod bytes;
+pub mod bytes;
 mod ranges;
 mod reading;
 mod writing;
 
+ghost use mathlib.Core.Bool.{true};
 ghost use mathlib.Core.Path.{_≡_};
 ghost use lib.ListN.{replicate};
 ghost use Rattle.rules.specs.Calls.{exported, exportRefusal};
 ghost use Rattle.rules.specs.File.{encode, inRange};
 ghost use Rattle.file.specs.Readings.{loadedFrom};
+ghost use Rattle.file.specs.Trips.{Trips};
 use reading::Reading;
 use rules::Answer;
 use rules::District;
@@ -29,7 +31,8 @@ fn refused(refusal: usize) -> Loaded
 }
 
 pub fn load(file: &[u8]) -> Loaded
-    ensures { λ r. ⌜ r ≡ loadedFrom (now (file .entry)) ⌝ }
+    ensures same { λ r. ⌜ r ≡ loadedFrom (now (file .entry)) ⌝ }
+    ensures ranged { λ r. ⌜ (r .refusal ≡ 0 → inRange (r .district) ≡ true) ⌝ }
 {
     let mut d = [0usize; 2620];
     let mut at: usize = 0;
@@ -75,4 +78,11 @@ pub fn in_range(d: District) -> bool
     ensures { λ r. ⌜ r ≡ inRange d ⌝ }
 {
     ranges::records_in_range(&d)
+}
+
+// How many bytes the longest file has. The contract says of load and export what holds of every file and every district.
+pub fn longest_file() -> usize
+    ensures { λ r. ⌜ (r ≡ 3788) × Trips r ⌝ }
+{
+    3788
 }

@@ -3,7 +3,7 @@ use Prim.Native.Nat.{ℕ, _≤_, _<_}
 use mathlib.Core.Path.{_≡_, sym, refl, _∙_}
 use mathlib.Core.Bool.{Bool, true, false, _&&_, _||_}
 use native.Mathlib.Omega.{arith}
-use mathlib.Core.Logic.{_⊎_, inl, inr}
+use mathlib.Core.Logic.{_⊎_, inl, inr, ⊎-elim}
 use lib.Dec.{leb, ltb, lit≤}
 use lib.IntN.{natAbs}
 use borrow.Author.Tests.{leb-true, le-leb, ltb-true, ltb-false, lt-ltb}
@@ -43,7 +43,13 @@ unfolding ranged
 inside-number w lo hi x a b =
     sym (pick-yes (leb lo hi) true (leb lo x && leb x hi) (leb x hi || between lo 255 x) (le-leb lo hi (omega arith)) (and-yes (leb lo x) (leb x hi) true (le-leb lo x a) (sym (le-leb x hi b))))
 
--- what a number inside the range of a gain stands for
+-- a number inside the range of a gain is a byte, and stands for at most 50
+pub gain-byte : (x : ℕ) → inside (number 1 206 50) x ≡ true → x < 256
+unfolding ranged
+gain-byte x e =
+    ⊎-elim (λ l. omega (arith, leb-true x 50 l)) (λ l. omega (arith, leb-true x 255 (and-both (leb 206 x) (leb x 255) l .1)))
+    (or-either (leb x 50) (between 206 255 x) e)
+
 pub gain-most : (x : ℕ) → inside (number 1 206 50) x ≡ true → natAbs (signed x) ≤ 50
 unfolding ranged
 gain-most x e = go (or-either (leb x 50) (between 206 255 x) e) (ltb x 128) refl
@@ -52,6 +58,5 @@ gain-most x e = go (or-either (leb x 50) (between 206 255 x) e) (ltb x 128) refl
     go (inr l) true q = absurd (let a = leb-true 206 x (and-both _ (leb x 255) l .0) in let b = ltb-true x 128 q in omega arith)
     go (inl l) true q = rw q (leb-true x 50 l)
     go (inr l) false q =
-        let both = and-both (leb 206 x) (leb x 255) l in
-        rw (q, lt-ltb x 256 (omega (arith, leb-true x 255 (both .1)))) (omega (arith, leb-true 206 x (both .0)))
+        rw (q, lt-ltb x 256 (gain-byte x e)) (omega (arith, leb-true 206 x (and-both (leb 206 x) (leb x 255) l .0)))
     go (inl l) false q = absurd (let a = leb-true x 50 l in let b = ltb-false x 128 q in omega arith)

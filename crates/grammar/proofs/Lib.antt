@@ -4,3 +4,4 @@ pub mod Bounds
 pub mod InRanges
 pub mod Edits
 pub mod Fresh
+pub mod Fits

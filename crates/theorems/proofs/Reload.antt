@@ -1,4 +1,4 @@
--- Demand 2, from two laws of the file: a district's file loads as the district, and a file that loads is its district's. Assumes nothing.
+-- Demand 2, from a law of the file: a district's file loads as the district. Assumes nothing.
 use Prim.Native.Nat.{ℕ, _≤_}
 use mathlib.Core.Path.{_≡_, refl}
 use mathlib.Core.Bool.{true}
@@ -10,7 +10,7 @@ use Rattle.rules.specs.File.{found, decode, encode, inRange}
 use Rattle.rules.specs.Answers.{answerOf, accepting}
 use Rattle.rules.specs.Calls.{loadRefusalOf, loadRefusal, loadedOf, districtIn, exportRefusal, unitOf, answered, loadOf, exported, exportOf}
 use Rattle.rules.specs.Lists.{districtAfter}
-use Rattle.rules.specs.Demands.{Bytes, written, TheRules, EveryFile}
+use Rattle.rules.specs.Demands.{written, TheRules}
 use Rattle.rules.specs.declared.Unit.{Unit}
 use Rattle.rules.specs.declared.Answer.the-variants.{Accepted}
 use Rattle.theorems.specs.Kept.{Kept}
@@ -34,15 +34,4 @@ module _ (again : (d : District) → inRange d ≡ true → decode (encode d) �
         finished = finished-after kept cs;
         exported = λ buffer room. rw (after cs) (exports (districtAfter cs) (encode (districtAfter cs)) buffer refl room);
         reloaded = λ u. rw (after cs) (loads-again u (districtAfter cs) (after-in kept cs));
-      }
-
-module _ (exact : (file : List ℕ) → Bytes file → loadRefusal file ≡ 0 → encode (districtIn file) ≡ file) where
-  loaded-unit : (u : Unit) (file : List ℕ) → loadRefusal file ≡ 0 → loadOf u file .unit ≡ unitOf (districtIn file)
-  unfolding loadOf answered accepting
-  loaded-unit u file e = rw e
-
-  pub byte-for-byte : EveryFile
-  byte-for-byte file =
-      record {
-        same = λ bytes e u buffer room. rw (loaded-unit u file e) (exports (districtIn file) file buffer (exact file bytes e) room);
       }

@@ -13,6 +13,7 @@ use Rattle.grammar.proofs.Slots.{ready, start-next}
 use Rattle.file.specs.Readings.{readOf, ReadInto}
 use Rattle.file.specs.declared.reading.Reading.{Reading}
 use Rattle.file.specs.declared.reading.Reading.the-variants.{At, Refused}
+use Rattle.file.proofs.Forth.{loaded-ranged}
 use Rattle.file.proofs.Refusals.{loaded-found, loaded-refused}
 use Rattle.file.proofs.Steps.{less, records-found, records-refused, records-end, records-over}
 use borrow.Author.Needs.{needs}
@@ -111,7 +112,7 @@ returns c =
     let s = c .before .before .before .before .before .before .slot-at in
     let r = c .before .before .before .before .read-record in
     let g = c .before .before .step2 .given in
-    c .refused .ensures ∙ loaded-refused file (g .0 .0) (l .inv .1 ∙ refuses (l .n) (l .place) (l .at) (s .result) (l .d) (r .last .0) file (r .result) (omega arith) (s .ensures) (r .ensures) (g .0 .0) (g .1))
+    loaded-ranged file (c .refused .ensures ∙ loaded-refused file (g .0 .0) (l .inv .1 ∙ refuses (l .n) (l .place) (l .at) (s .result) (l .d) (r .last .0) file (r .result) (omega arith) (s .ensures) (r .ensures) (g .0 .0) (g .1)))
 
 refused-requires-2 : tie.Need-refused-requires-2 Inv-loop μ-loop
 refused-requires-2 c κs = search needs
@@ -120,14 +121,14 @@ returns-2 : tie.Need-returns-2 Inv-loop μ-loop
 returns-2 c =
     let l = c .before .before .before .loop in
     let file = c .before .before .before .before .before .args .file .now in
-    c .refused2 .ensures ∙ loaded-refused file 5 (ended (c .before .before) ∙ records-over (l .n) (take (l .place) (l .d)) (drop (l .at) file) (simp length-drop (omega arith)))
+    loaded-ranged file (c .refused2 .ensures ∙ loaded-refused file 5 (ended (c .before .before) ∙ records-over (l .n) (take (l .place) (l .d)) (drop (l .at) file) (simp length-drop (omega arith))))
 
 returns-3 : tie.Need-returns-3 Inv-loop μ-loop
 returns-3 c =
     let l = c .before .before .loop in
     let file = c .before .before .before .before .args .file .now in
     let all : take (l .place) (l .d) ≡ l .d = take-all (l .place) (l .d) (omega (arith, ap startOf (last (c .before)))) in
-    loaded-found file (l .d) [] (ended (c .before) ∙ records-end (l .n) (take (l .place) (l .d)) (drop (l .at) file) (simp length-drop (omega arith)) ∙ ap (λ (d : List ℕ). found d []) all)
+    loaded-ranged file (loaded-found file (l .d) [] (ended (c .before) ∙ records-end (l .n) (take (l .place) (l .d)) (drop (l .at) file) (simp length-drop (omega arith)) ∙ ap (λ (d : List ℕ). found d []) all))
 
 pub load-spec : {M : Type 1} → statement M
 load-spec =

@@ -1,13 +1,12 @@
 -- `numbers_in_range` meets its contract: the test in all is the test from here on. Assumes nothing.
 use Prim.Native.Nat.{ℕ, _+_, _-_, _≤_}
-use mathlib.Core.Path.{_≡_, refl, sym, ap, _∙_}
+use mathlib.Core.Path.{_≡_, sym, ap, _∙_}
 use mathlib.Core.Bool.{Bool, true, false, _&&_}
 use native.Mathlib.Nat.{sub-zero, add-zero}
 use native.Mathlib.Omega.{arith}
-use lib.ListN.{drop, getD}
+use lib.ListN.{drop}
 use borrow.Author.Tests.{not-true, not-false}
 use Rattle.rules.specs.File.{numbersInRange}
-use Rattle.rules.specs.Format.{inside}
 use Rattle.file.proofs.Steps.{range-step}
 use borrow.Author.Needs.{needs}
 use Rattle.file.proofs.ranges.numbers_in_range.Statement.{statement}

@@ -6,7 +6,6 @@ use native.Mathlib.Omega.{arith}
 use lib.ListN.{drop}
 use borrow.Author.Tests.{not-true, not-false}
 use Rattle.rules.specs.File.{recordsInRange}
-use Rattle.rules.specs.Format.{slotOf}
 use Rattle.rules.specs.declared.Slot.{Slot}
 use Rattle.grammar.specs.Places.{startOf}
 use Rattle.grammar.proofs.Slots.{ready, start-next}
