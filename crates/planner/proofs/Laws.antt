@@ -1,0 +1,81 @@
+-- What filled arrays give the phases and the ceiling. Assumes nothing.
+use Prim.Native.Nat.{ℕ, _≤_, _<_}
+use mathlib.Core.Path.{_≡_, refl, ap}
+use mathlib.Core.List.{List}
+use native.Mathlib.Omega.{arith}
+use lib.ListN.{getD}
+use Rattle.rules.specs.District.{District, resourcesOf}
+use Rattle.rules.specs.Table.{Table, tableOf}
+use Rattle.rules.specs.Ceiling.{downShare, ceiling}
+use Rattle.rules.specs.Phases.{total, start, phase1, phase2, phase3}
+use Rattle.rules.specs.Plan.{reduced, filled as filled-by, improved, programmeOf}
+use Rattle.laws.specs.Tables.{FitAlone, OfCandidates}
+use Rattle.laws.proofs.Steps.{start-allowed}
+use Rattle.grammar.specs.Ranges.{Ranges}
+use Rattle.tables.specs.Arrays.{entry, tables, benefitAt, Cell}
+use Rattle.tables.specs.declared.Size.{Size}
+use Rattle.tables.proofs.Laws.{benefit-at, gains-of}
+use Rattle.fill.specs.Filled.{Filled}
+use Rattle.fill.proofs.Shares.{down-share-le}
+use Rattle.ceiling.specs.Prices.{shareEntry, In, Priced, Sized}
+use Rattle.phase1.specs.Reduce.{Shares}
+
+module _ (d : District) (ranges : Ranges d) (z : Size) (b u l s e : List ℕ) (filled : Filled d z b u l s e) where
+  cell : (i j : ℕ) → 1 ≤ i → i ≤ z .segments → j ≤ z .strategies → Cell i j
+  cell i j low high few =
+      record { low = low; high = omega (arith, filled .sound .segments); number = omega (arith, filled .sound .strategies) }
+
+  pub shares-of : Shares z b u l s
+  shares-of =
+      record {
+        places = filled .shares-length;
+        shares-are = λ i j r low high few from to. filled .shares i j r (cell i j low high few) from (omega (arith, filled .sound .resources));
+      }
+
+  inside : {i j : ℕ} → In z i j → Cell i j
+  inside {i} {j} within = cell i j (within .segment-from) (within .segment-to) (within .strategy-to)
+
+  -- the entry of a strategy is its benefit
+  entry-is : (i j : ℕ) → In z i j → getD b (entry i j) 0 ≡ benefitAt b i j
+  entry-is i j within = benefit-at b (gains-of z b u l (filled .sound)) i j (inside within)
+
+  down-is : (i j r : ℕ) → In z i j → 1 ≤ r → r ≤ z .resources → getD e (shareEntry i j r) 0 ≡ downShare (tables z b u l) i j r
+  down-is i j r within from to = filled .downs i j r (inside within) from (omega (arith, filled .sound .resources))
+
+  pub priced : Priced (tables z b u l) z b e
+  priced = record { segments = refl; strategies = refl; resources = refl; benefits = entry-is; shares = down-is }
+
+  some-resource : 1 ≤ z .resources
+  unfolding tableOf
+  some-resource =
+      let same : z .resources ≡ resourcesOf d = ap (λ (t : Table). t .resources) (filled .table) in
+      omega (arith, ranges .some-resource)
+
+  pub sized : Sized z b e
+  sized =
+      record {
+        segments = filled .sound .segments;
+        strategies = filled .sound .strategies;
+        resources-from = some-resource;
+        resources-to = filled .sound .resources;
+        benefits-length = filled .sound .benefits-length;
+        shares-length = filled .downs-length;
+        benefit-small = filled .sound .benefit-small;
+        share-small = λ i j r within worth from to.
+            rw (down-is i j r within from to)
+            (down-share-le (tables z b u l) (filled .fit) i j r (within .segment-from) (within .segment-to) (within .strategy-from) (within .strategy-to) from to (omega (arith, entry-is i j within, worth)));
+      }
+
+-- ---- the phases' results, put together
+
+pub together : (t : Table) (c₀ c₁ c₂ c₃ : List ℕ) (m₁ m₂ m₃ v₂ v₃ x : ℕ) → c₀ ≡ start t
+    → c₁ ≡ phase1 t c₀ .last → m₁ ≡ phase1 t c₀ .count
+    → c₂ ≡ phase2 t c₁ .last → m₂ ≡ phase2 t c₁ .count → v₂ ≡ total t c₂
+    → c₃ ≡ phase3 t c₂ .last → m₃ ≡ phase3 t c₂ .count → v₃ ≡ total t c₃ → x ≡ ceiling t
+    → record { strategies = c₃; total = v₃; «after_pickups» = v₂; ceiling = x; steps = m₁; pickups = m₂; changes = m₃ } ≡ programmeOf t
+unfolding programmeOf improved filled-by reduced
+together t c₀ c₁ c₂ c₃ m₁ m₂ m₃ v₂ v₃ x e₀ e₁ f₁ e₂ f₂ g₂ e₃ f₃ g₃ h = rw (h, g₃, e₃, f₃, g₂, e₂, f₂, e₁, f₁, e₀)
+
+-- the start is a programme of candidates
+pub start-held : (t : Table) → FitAlone t → {c : List ℕ} → c ≡ start t → OfCandidates t c
+start-held t fit e = rw e (start-allowed t (fit .segments))

@@ -1,0 +1,93 @@
+// The plan of a district: its tables filled once, the three phases one after another, and the ceiling.
+ghost use mathlib.Core.Bool.{true};
+ghost use mathlib.Core.Path.{_≡_};
+ghost use Rattle.fill.specs.Filled.{Filled};
+ghost use Rattle.phase1.specs.Reduce.{Shares};
+ghost use Rattle.laws.specs.Tables.{FitAlone};
+ghost use Rattle.rules.specs.Ceiling.{ceiling};
+ghost use Rattle.rules.specs.File.{inRange};
+ghost use Rattle.rules.specs.Plan.{programmeOf, noProgramme, planOf};
+ghost use Rattle.rules.specs.Table.{tableOf};
+ghost use Rattle.tables.specs.Arrays.{tables, Sound};
+use rules::District;
+use rules::Programme;
+use tables::Size;
+
+// The three phases over arrays that hold a table, with the table's ceiling beside them.
+fn phases(
+    z: Size,
+    benefits: &[u64],
+    uses: &[u64],
+    limits: &[u64],
+    shares: &[u64],
+    bound: u64,
+) -> Programme
+    requires { ⌜ Sound z (now benefits) (now uses) (now limits) × FitAlone (tables z (now benefits) (now uses) (now limits)) × Shares z (now benefits) (now uses) (now limits) (now shares) ⌝ }
+    requires { ⌜ bound ≡ ceiling (tables z (now benefits) (now uses) (now limits)) ⌝ }
+    ensures { λ r. ⌜ r ≡ programmeOf (tables z (now (benefits .entry)) (now (uses .entry)) (now (limits .entry))) ⌝ }
+{
+    let mut choice = [0usize; 64];
+    let mut sums = [0u64; 16];
+    phase1::start(z, benefits, uses, limits, &mut choice, &mut sums);
+    let steps = phase1::reduce(z, benefits, uses, limits, shares, &mut choice, &mut sums);
+    let pickups = phase2::fill(z, benefits, uses, limits, &mut choice, &mut sums);
+    let after_pickups = tables::total_of(z, benefits, &choice);
+    let changes = phase3::improve(z, benefits, uses, limits, &mut choice, &mut sums);
+    let total = tables::total_of(z, benefits, &choice);
+    Programme {
+        strategies: choice,
+        total,
+        after_pickups,
+        ceiling: bound,
+        steps,
+        pickups,
+        changes,
+    }
+}
+
+// The programme of a district in the file's ranges.
+fn programme_of(d: &[usize; 2620]) -> Programme
+    requires { ⌜ inRange (now d) ≡ true ⌝ }
+    ensures { λ r. ⌜ r ≡ programmeOf (tableOf (now (d .entry))) ⌝ }
+{
+    let mut benefits = [0u64; 768];
+    let mut uses = [0u64; 12288];
+    let mut limits = [0u64; 16];
+    let mut shares = [0u64; 12288];
+    let mut downs = [0u64; 12288];
+    let z = fill::fill_all(
+        d,
+        &mut benefits,
+        &mut uses,
+        &mut limits,
+        &mut shares,
+        &mut downs,
+    );
+    let bound = ceiling::ceiling_of(z, &benefits, &downs);
+    phases(z, &benefits, &uses, &limits, &shares, bound)
+}
+
+// No strategy for any segment.
+fn no_programme() -> Programme
+    ensures { λ r. ⌜ r ≡ noProgramme ⌝ }
+{
+    Programme {
+        strategies: [0usize; 64],
+        total: 0,
+        after_pickups: 0,
+        ceiling: 0,
+        steps: 0,
+        pickups: 0,
+        changes: 0,
+    }
+}
+
+// The plan of any value of the type: a district out of the file's ranges has no programme.
+pub fn plan(d: District) -> Programme
+    ensures { λ r. ⌜ r ≡ planOf d ⌝ }
+{
+    if file::in_range(d) {
+        return programme_of(&d);
+    }
+    no_programme()
+}
