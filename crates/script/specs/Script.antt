@@ -1,0 +1,44 @@
+-- The list of calls that a row of bytes stands for. A call is 13 bytes: its kind, and three numbers of four bytes each, low byte first.
+-- A load is followed by its file, whose length is its first number.
+use Prim.Native.Nat.{ℕ, zero, suc, _+_, min}
+use mathlib.Core.Bool.{Bool, true, false}
+use mathlib.Core.List.{List, [], _∷_}
+use lib.Dec.{leb, eqb}
+use lib.ListN.{length, getD, take, drop, replicate}
+use Rattle.base.specs.Bytes.{numberOf}
+use Rattle.base.specs.Choice.{pick}
+use Rattle.rules.specs.Lists.{Call, Load, Bar, Unbar, SetLimit, SetRating, ExportTo, Show}
+
+-- what stands at the front of the bytes
+abbrev pub kindIn : List ℕ → ℕ
+kindIn bs = getD bs 0 0
+
+-- the number whose bytes begin at a place
+abbrev pub numberAt : ℕ → List ℕ → ℕ
+numberAt at bs = numberOf (take 4 (drop at bs))
+
+-- how many bytes follow the 13
+unfoldable pub bodyIn : List ℕ → ℕ
+bodyIn bs = pick (eqb (kindIn bs) 1) (numberAt 1 bs) 0
+
+-- kinds: 1 load, 2 bar, 3 unbar, 4 set limit, 5 set rating, 6 export into a buffer of zeros, at most 4,096, any other show
+unfoldable pub callOf : ℕ → ℕ → ℕ → ℕ → List ℕ → Call
+callOf kind a b c file =
+    pick (eqb kind 1) (Load file)
+    (pick (eqb kind 2) (Bar a b)
+    (pick (eqb kind 3) (Unbar a b)
+    (pick (eqb kind 4) (SetLimit a b)
+    (pick (eqb kind 5) (SetRating a b c)
+    (pick (eqb kind 6) (ExportTo (replicate (min a 4096) 0))
+    Show)))))
+
+abbrev pub callIn : List ℕ → Call
+callIn bs = callOf (kindIn bs) (numberAt 1 bs) (numberAt 5 bs) (numberAt 9 bs) (take (bodyIn bs) (drop 13 bs))
+
+-- the calls that stand whole at the front of the bytes, at most n
+unfoldable pub callsIn : ℕ → List ℕ → List Call
+callsIn zero bs = []
+callsIn (suc n) bs = pick (leb (13 + bodyIn bs) (length bs)) (callIn bs ∷ callsIn n (drop (13 + bodyIn bs) bs)) []
+
+unfoldable pub callsOf : List ℕ → List Call
+callsOf bs = callsIn (length bs) bs

@@ -1,0 +1,105 @@
+// The planning unit's calls. A unit goes in by value and comes back by value. Each call settles every input by itself:
+// its contract is an equality with the rules, refusals included, and has no `requires`.
+ghost use mathlib.Core.Path.{_≡_};
+ghost use Rattle.rules.specs.Calls.{freshUnit, unitOf, answered, loadOf, barOf, unbarOf, setLimitOf, setRatingOf, exportOf, showOf};
+ghost use Rattle.rules.specs.Demands.{EveryAnswer, TheRules, EveryFile, OneClaim};
+use rules::Answer;
+use rules::District;
+use rules::Programme;
+use rules::Reply;
+use rules::Unit;
+
+// A unit that holds the district, with programme and ceiling worked out afresh.
+fn hold(d: District) -> Unit
+    ensures { λ r. ⌜ r ≡ unitOf d ⌝ }
+{
+    let programme = planner::plan(d);
+    Unit {
+        district: d,
+        programme,
+    }
+}
+
+// What a call that changes the district comes to: the refusal, or the new district with its programme.
+fn conclude(u: Unit, refusal: usize, d: District) -> Reply
+    ensures { λ r. ⌜ r ≡ answered u refusal d ⌝ }
+{
+    if refusal != 0 {
+        return Reply {
+            answer: Answer::Refused(refusal),
+            unit: u,
+        };
+    }
+    let unit = hold(d);
+    Reply {
+        answer: Answer::Accepted(0),
+        unit,
+    }
+}
+
+// The unit before the first call. The demands are stated of every call, every file and every list of calls on it.
+pub fn fresh() -> Unit
+    ensures start { λ r. ⌜ r ≡ freshUnit ⌝ }
+    ensures settled { λ _. ⌜ EveryAnswer ⌝ }
+    ensures exact { λ _. ⌜ TheRules ⌝ }
+    ensures files { λ _. ⌜ EveryFile ⌝ }
+    ensures claim { λ _. ⌜ OneClaim ⌝ }
+{
+    hold(edits::fresh_district())
+}
+
+pub fn load(u: Unit, bytes: &[u8]) -> Reply
+    ensures { λ r. ⌜ r ≡ loadOf u (now (bytes .entry)) ⌝ }
+{
+    let loaded = file::load(bytes);
+    let refusal = loaded.refusal;
+    let d = loaded.district;
+    conclude(u, refusal, d)
+}
+
+pub fn bar(u: Unit, segment: usize, strategy: usize) -> Reply
+    ensures { λ r. ⌜ r ≡ barOf u segment strategy ⌝ }
+{
+    let d = u.district;
+    let refusal = edits::bar_refusal(d, segment, strategy);
+    conclude(u, refusal, edits::with_bar(d, segment, strategy))
+}
+
+pub fn unbar(u: Unit, segment: usize, strategy: usize) -> Reply
+    ensures { λ r. ⌜ r ≡ unbarOf u segment strategy ⌝ }
+{
+    let d = u.district;
+    let refusal = edits::bar_refusal(d, segment, strategy);
+    conclude(u, refusal, edits::without_bar(d, segment, strategy))
+}
+
+pub fn set_limit(u: Unit, resource: usize, limit: usize) -> Reply
+    ensures { λ r. ⌜ r ≡ setLimitOf u resource limit ⌝ }
+{
+    let d = u.district;
+    let refusal = edits::limit_refusal(d, resource, limit);
+    conclude(u, refusal, edits::with_limit(d, resource, limit))
+}
+
+pub fn set_rating(u: Unit, segment: usize, distress: usize, rating: usize) -> Reply
+    ensures { λ r. ⌜ r ≡ setRatingOf u segment distress rating ⌝ }
+{
+    let d = u.district;
+    let refusal = edits::rating_refusal(d, segment, distress, rating);
+    conclude(u, refusal, edits::with_rating(d, segment, distress, rating))
+}
+
+// The file of the district held, written to the front of the buffer.
+pub fn export(u: Unit, buffer: &mut [u8]) -> Answer
+    ensures { λ r. ⌜ record { answer = r; buffer = now (buffer .exit) } ≡ exportOf u (now (buffer .entry)) ⌝ }
+{
+    let d = u.district;
+    file::export(d, buffer)
+}
+
+// The programme held, with totals, ceiling and counts.
+pub fn show(u: Unit) -> Programme
+    ensures { λ r. ⌜ r ≡ showOf u ⌝ }
+{
+    u.programme
+}
