@@ -1,6 +1,6 @@
 -- The list of calls that a row of bytes stands for. A call is 13 bytes: its kind, and three numbers of four bytes each, low byte first.
 -- A load is followed by its file, whose length is its first number.
-use Prim.Native.Nat.{ℕ, zero, suc, _+_, min}
+use Prim.Native.Nat.{ℕ, zero, suc, _+_}
 use mathlib.Core.Bool.{Bool, true, false}
 use mathlib.Core.List.{List, [], _∷_}
 use lib.Dec.{leb, eqb}
@@ -21,7 +21,7 @@ numberAt at bs = numberOf (take 4 (drop at bs))
 unfoldable pub bodyIn : List ℕ → ℕ
 bodyIn bs = pick (eqb (kindIn bs) 1) (numberAt 1 bs) 0
 
--- kinds: 1 load, 2 bar, 3 unbar, 4 set limit, 5 set rating, 6 export into a buffer of zeros, at most 4,096, any other show
+-- kinds: 1 load, 2 bar, 3 unbar, 4 set limit, 5 set rating, 6 and 7 export into 4,096 zeros and into one, any other show
 unfoldable pub callOf : ℕ → ℕ → ℕ → ℕ → List ℕ → Call
 callOf kind a b c file =
     pick (eqb kind 1) (Load file)
@@ -29,8 +29,9 @@ callOf kind a b c file =
     (pick (eqb kind 3) (Unbar a b)
     (pick (eqb kind 4) (SetLimit a b)
     (pick (eqb kind 5) (SetRating a b c)
-    (pick (eqb kind 6) (ExportTo (replicate (min a 4096) 0))
-    Show)))))
+    (pick (eqb kind 6) (ExportTo (replicate 4096 0))
+    (pick (eqb kind 7) (ExportTo (replicate 1 0))
+    Show))))))
 
 abbrev pub callIn : List ℕ → Call
 callIn bs = callOf (kindIn bs) (numberAt 1 bs) (numberAt 5 bs) (numberAt 9 bs) (take (bodyIn bs) (drop 13 bs))

@@ -19,13 +19,21 @@ fn body_of(call: &[u8]) -> usize
     file::bytes::number(call, 1, 4)
 }
 
-// The unit after an export into a buffer of zeros.
-fn exported(u: Unit, length: usize) -> Unit
+// The unit after an export into a buffer of zeros with room for every file.
+fn exported(u: Unit) -> Unit
     ensures { λ r. ⌜ r ≡ u ⌝ }
 {
     let mut buffer = [0u8; 4096];
-    let end = if length < 4096 { length } else { 4096 };
-    let _ = unit::export(u, &mut buffer[..end]);
+    unit::export(u, &mut buffer);
+    u
+}
+
+// The unit after an export into one byte, which no file fits.
+fn refused(u: Unit) -> Unit
+    ensures { λ r. ⌜ r ≡ u ⌝ }
+{
+    let mut buffer = [0u8; 1];
+    unit::export(u, &mut buffer);
     u
 }
 
@@ -54,7 +62,8 @@ fn make(u: Unit, kind: u8, a: usize, b: usize, c: usize, bytes: &[u8]) -> Unit
             let r = unit::set_rating(u, a, b, c);
             r.unit
         }
-        6 => exported(u, a),
+        6 => exported(u),
+        7 => refused(u),
         _ => u,
     }
 }
