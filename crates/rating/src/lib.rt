@@ -323,19 +323,22 @@ pub fn fits_alone(d: &[usize; 2620], i: usize, j: usize) -> bool
     true
 }
 
-// The benefit of a candidate; 0 for any other strategy.
+// The benefit of a candidate; 0 for any other strategy. What is cheap to test is tested first.
 fn worth(d: &[usize; 2620], i: usize, j: usize) -> u64
     requires { ⌜ Ranges (now d) × SegmentOf (now d) i × Strategy j ⌝ }
     ensures { λ b. ⌜ b ≡ pick (candidate (now (d .entry)) i j) (natAbs (benefit (now (d .entry)) i j)) 0 ⌝ }
 {
-    if !permitted(d, i, j) {
+    if barred(d, i, j) {
+        return 0;
+    }
+    if !fits_alone(d, i, j) {
         return 0;
     }
     let b = benefit(d, i, j);
     if b <= 0 {
         return 0;
     }
-    if !fits_alone(d, i, j) {
+    if !permitted(d, i, j) {
         return 0;
     }
     b as u64
