@@ -70,7 +70,17 @@ fn pavement_at(d: &[usize; 2620], i: usize) -> usize
     d[1660 + 15 * (i - 1)]
 }
 
-// of a segment: 1 traffic index, 2 environment index, 3 length, 4 width, 5 bars
+// where a segment has its indexes, length, width and bars, counted from its pavement type
+const TRAFFIC: usize = 1;
+
+const ENVIRONMENT: usize = 2;
+
+const LENGTH: usize = 3;
+
+const WIDTH: usize = 4;
+
+const BARS: usize = 5;
+
 fn segment_at(d: &[usize; 2620], i: usize, n: usize) -> usize
     requires { ⌜ Segment i × (n ≤ 5) ⌝ }
     ensures { λ v. ⌜ v ≡ valueAt (now (d .entry)) (segmentPlace i + n) ⌝ }
@@ -114,7 +124,9 @@ pub fn survival(d: &[usize; 2620], i: usize, j: usize, k: usize, t: usize) -> us
     requires { ⌜ Ranges (now d) × Segment i × Strategy j × Distress k × Year t ⌝ }
     ensures { λ s. ⌜ s ≡ survival (now (d .entry)) i j k t ⌝ }
 {
-    let loss = segment_at(d, i, 1) * segment_at(d, i, 2) * (100 - percent_at(d, j, k, t));
+    let loss = segment_at(d, i, TRAFFIC)
+        * segment_at(d, i, ENVIRONMENT)
+        * (100 - percent_at(d, j, k, t));
     if loss < 1000000 { 1000000 - loss } else { 0 }
 }
 
@@ -162,7 +174,7 @@ pub fn area(d: &[usize; 2620], i: usize) -> u64
     requires { ⌜ Ranges (now d) × Segment i ⌝ }
     ensures { λ a. ⌜ a ≡ area (now (d .entry)) i ⌝ }
 {
-    (segment_at(d, i, 3) * segment_at(d, i, 4)) as u64
+    (segment_at(d, i, LENGTH) * segment_at(d, i, WIDTH)) as u64
 }
 
 pub fn benefit(d: &[usize; 2620], i: usize, j: usize) -> i64
@@ -195,7 +207,7 @@ pub fn barred(d: &[usize; 2620], i: usize, j: usize) -> bool
     requires { ⌜ Segment i × Strategy j ⌝ }
     ensures { λ b. ⌜ b ≡ barredIn (now (d .entry)) i j ⌝ }
 {
-    (segment_at(d, i, 5) >> (j - 1)) & 1 == 1
+    (segment_at(d, i, BARS) >> (j - 1)) & 1 == 1
 }
 
 // Whether a rating in millionths reaches what is required in whole points.
@@ -311,19 +323,22 @@ pub fn fits_alone(d: &[usize; 2620], i: usize, j: usize) -> bool
     true
 }
 
-// The benefit of a candidate; 0 for any other strategy.
+// The benefit of a candidate; 0 for any other strategy. What is cheap to test is tested first.
 fn worth(d: &[usize; 2620], i: usize, j: usize) -> u64
     requires { ⌜ Ranges (now d) × SegmentOf (now d) i × Strategy j ⌝ }
     ensures { λ b. ⌜ b ≡ pick (candidate (now (d .entry)) i j) (natAbs (benefit (now (d .entry)) i j)) 0 ⌝ }
 {
-    if !permitted(d, i, j) {
+    if barred(d, i, j) {
+        return 0;
+    }
+    if !fits_alone(d, i, j) {
         return 0;
     }
     let b = benefit(d, i, j);
     if b <= 0 {
         return 0;
     }
-    if !fits_alone(d, i, j) {
+    if !permitted(d, i, j) {
         return 0;
     }
     b as u64

@@ -60,7 +60,7 @@ sub-result : tie.Need-sub-result
 sub-result c = search needs
 
 returns : tie.Need-returns
-returns c = let l = c .if1 .taken in by-loss (c .before)
+returns c = by-loss (c .before)
 
 returns-2 : tie.Need-returns-2
 returns-2 c = let e = by-loss (c .before) in omega arith
