@@ -11,6 +11,7 @@ use lib.Dec.{leb, ltb}
 use lib.ListN.{getD, length, List·getD-eq-default}
 use lib.Seq.{ext-getD}
 use Rattle.base.specs.Over.{sum, best, between, betterOf}
+use Rattle.base.proofs.Choice.{and-both}
 use Rattle.base.proofs.Sums.{sum-next, sum-bound, sum-cong}
 use Rattle.base.proofs.All.{all-true, all-fails}
 use Rattle.base.proofs.Best.{best-next, best-le, better-passed, better-first, better-taken, better-worse, listed-length, Leads, leads-none, leads-taken, leads-kept, leads-end}
@@ -33,14 +34,6 @@ gainful b i k = ltb 0 (benefitAt b i k)
 abbrev pub later : List ℕ → ℕ → ℕ → ℕ → Bool
 later b i a k = gainful b i k && follows (benefitAt b i k) (benefitAt b i a) a k
 
-and-left : (x y : Bool) → (x && y) ≡ true → x ≡ true
-and-left true y e = refl
-and-left false y e = e
-
-and-right : (x : Bool) {y : Bool} → (x && y) ≡ true → y ≡ true
-and-right true e = e
-and-right false e = absurd (true≢false (sym e))
-
 pub benefit-none : (b : List ℕ) (i : ℕ) → benefitAt b i 0 ≡ 0
 unfolding benefitAt
 benefit-none b i = rw (and-false (between 1 64 i))
@@ -49,7 +42,7 @@ pub top-none : (b : List ℕ) (i : ℕ) → Leads (gainful b i) (benefitAt b i) 
 top-none b i = leads-none (gainful b i) (benefitAt b i) (benefit-none b i) (λ k e. ltb-true 0 (benefitAt b i k) e)
 
 pub next-none : (b : List ℕ) (i a : ℕ) → Leads (later b i a) (benefitAt b i) 0 0 0
-next-none b i a = leads-none (later b i a) (benefitAt b i) (benefit-none b i) (λ k e. ltb-true 0 (benefitAt b i k) (and-left _ _ e))
+next-none b i a = leads-none (later b i a) (benefitAt b i) (benefit-none b i) (λ k e. ltb-true 0 (benefitAt b i k) (and-both (gainful b i k) _ e .0))
 
 -- a turn: strategy n + 1 has the benefit `value`
 module _ (b : List ℕ) (i n : ℕ) {value : ℕ} (is : value ≡ benefitAt b i (n + 1)) where
@@ -73,7 +66,7 @@ module _ (b : List ℕ) (i n : ℕ) {value : ℕ} (is : value ≡ benefitAt b i 
     pub next-passed : follows value old a (n + 1) ≡ false → Leads (later b i a) (benefitAt b i) (n + 1) next gain
     next-passed f =
         leads-kept (later b i a) (benefitAt b i) n next gain leads
-        (λ e. absurd (true≢false (sym (and-right (gainful b i (n + 1)) e) ∙ rw (← is, ← was) f)))
+        (λ e. absurd (true≢false (sym (and-both (gainful b i (n + 1)) _ e .1) ∙ rw (← is, ← was) f)))
 
 module _ (z : Size) (b u l : List ℕ) (i : ℕ) where
   pub top-end : {n top gain : ℕ} → Leads (gainful b i) (benefitAt b i) n top gain → n ≡ z .strategies → top ≡ topCandidate (tables z b u l) i
