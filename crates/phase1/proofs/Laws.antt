@@ -10,7 +10,8 @@ use borrow.Author.Tests.{ltb-true, lt-ltb, le-ltb, leb-true, leb-false, le-leb, 
 use lib.Dec.{leb, ltb}
 use lib.ListN.{getD, length, List·getD-eq-default}
 use lib.Seq.{ext-getD}
-use Rattle.base.specs.Over.{sum, best, between, betterOf}
+use Rattle.base.specs.Over.{sum, best, between}
+use Rattle.base.proofs.Choice.{and-both}
 use Rattle.base.proofs.Sums.{sum-next, sum-bound, sum-cong}
 use Rattle.base.proofs.All.{all-true, all-fails}
 use Rattle.base.proofs.Best.{best-next, best-le, better-passed, better-first, better-taken, better-worse, listed-length, Leads, leads-none, leads-taken, leads-kept, leads-end}
@@ -23,7 +24,7 @@ use Rattle.tables.specs.declared.Size.{Size}
 use Rattle.tables.specs.Arrays.{benefitAt, usageAt, limitAt, tables, Uses, Sound, Chosen, Cell, Ready}
 use Rattle.tables.proofs.Laws.{limit-at, usage-lt, cell-of}
 use Rattle.phase1.specs.declared.Weak.{Weak}
-use Rattle.phase1.specs.Reduce.{follows, shareAt, Held, Surpluses, weakAt}
+use Rattle.phase1.specs.Reduce.{follows, shareAt, Held, Surpluses, weakAt, weakerOf}
 
 -- ---- candidates, in the order of the search
 
@@ -33,14 +34,6 @@ gainful b i k = ltb 0 (benefitAt b i k)
 abbrev pub later : List ℕ → ℕ → ℕ → ℕ → Bool
 later b i a k = gainful b i k && follows (benefitAt b i k) (benefitAt b i a) a k
 
-and-left : (x y : Bool) → (x && y) ≡ true → x ≡ true
-and-left true y e = refl
-and-left false y e = e
-
-and-right : (x : Bool) {y : Bool} → (x && y) ≡ true → y ≡ true
-and-right true e = e
-and-right false e = absurd (true≢false (sym e))
-
 pub benefit-none : (b : List ℕ) (i : ℕ) → benefitAt b i 0 ≡ 0
 unfolding benefitAt
 benefit-none b i = rw (and-false (between 1 64 i))
@@ -49,7 +42,7 @@ pub top-none : (b : List ℕ) (i : ℕ) → Leads (gainful b i) (benefitAt b i) 
 top-none b i = leads-none (gainful b i) (benefitAt b i) (benefit-none b i) (λ k e. ltb-true 0 (benefitAt b i k) e)
 
 pub next-none : (b : List ℕ) (i a : ℕ) → Leads (later b i a) (benefitAt b i) 0 0 0
-next-none b i a = leads-none (later b i a) (benefitAt b i) (benefit-none b i) (λ k e. ltb-true 0 (benefitAt b i k) (and-left _ _ e))
+next-none b i a = leads-none (later b i a) (benefitAt b i) (benefit-none b i) (λ k e. ltb-true 0 (benefitAt b i k) (and-both (gainful b i k) _ e .0))
 
 -- a turn: strategy n + 1 has the benefit `value`
 module _ (b : List ℕ) (i n : ℕ) {value : ℕ} (is : value ≡ benefitAt b i (n + 1)) where
@@ -73,7 +66,7 @@ module _ (b : List ℕ) (i n : ℕ) {value : ℕ} (is : value ≡ benefitAt b i 
     pub next-passed : follows value old a (n + 1) ≡ false → Leads (later b i a) (benefitAt b i) (n + 1) next gain
     next-passed f =
         leads-kept (later b i a) (benefitAt b i) n next gain leads
-        (λ e. absurd (true≢false (sym (and-right (gainful b i (n + 1)) e) ∙ rw (← is, ← was) f)))
+        (λ e. absurd (true≢false (sym (and-both (gainful b i (n + 1)) _ e .1) ∙ rw (← is, ← was) f)))
 
 module _ (z : Size) (b u l : List ℕ) (i : ℕ) where
   pub top-end : {n top gain : ℕ} → Leads (gainful b i) (benefitAt b i) n top gain → n ≡ z .strategies → top ≡ topCandidate (tables z b u l) i
@@ -206,16 +199,13 @@ module _ (z : Size) (b u l s c sums : List ℕ) (held : Held z b u l s c sums) w
 -- ---- the weaker of two: w stands for segment k, and segment i is compared with it
 
 module _ (t : Table) (c : List ℕ) (k i : ℕ) {w : Weak} (is : w ≡ weakAt t c k) where
-  abbrev weaker-one : ℕ
-  weaker-one = betterOf (pulls t c) (lesserRatio t c) k i
-
   segment-is : w .segment ≡ k
   segment-is = ap (λ (x : Weak). x .segment) is
 
   ratio-is : w .ratio ≡ ratio t c k
   ratio-is = ap (λ (x : Weak). x .ratio) is
 
-  pub weak-idle : {p : ℕ} → p ≡ pull t c i → p ≡ 0 → w ≡ weakAt t c weaker-one
+  pub weak-idle : {p : ℕ} → p ≡ pull t c i → p ≡ 0 → w ≡ weakAt t c (weakerOf t c k i)
   unfolding pulls
   weak-idle e z = is ∙ ap (weakAt t c) (sym (better-passed (pulls t c) (lesserRatio t c) k i (le-ltb 0 (pull t c i) (omega arith))))
 
@@ -229,18 +219,18 @@ module _ (t : Table) (c : List ℕ) (k i : ℕ) {w : Weak} (is : w ≡ weakAt t 
     unfolding pulls
     passes = lt-ltb 0 (pull t c i) (omega arith)
 
-    step-in : weaker-one ≡ i → _≡_ {A = Weak} (record { segment = i; ratio = x }) (weakAt t c weaker-one)
+    step-in : weakerOf t c k i ≡ i → _≡_ {A = Weak} (record { segment = i; ratio = x }) (weakAt t c (weakerOf t c k i))
     step-in e = rw (e, made)
 
-    pub weak-first : w .segment ≡ 0 → _≡_ {A = Weak} (record { segment = i; ratio = x }) (weakAt t c weaker-one)
+    pub weak-first : w .segment ≡ 0 → _≡_ {A = Weak} (record { segment = i; ratio = x }) (weakAt t c (weakerOf t c k i))
     weak-first z = step-in (better-first (pulls t c) (lesserRatio t c) k i passes (sym segment-is ∙ z))
 
-    pub weak-taken : (w .segment ≡ 0 → ⊥) → x < w .ratio → _≡_ {A = Weak} (record { segment = i; ratio = x }) (weakAt t c weaker-one)
+    pub weak-taken : (w .segment ≡ 0 → ⊥) → x < w .ratio → _≡_ {A = Weak} (record { segment = i; ratio = x }) (weakAt t c (weakerOf t c k i))
     unfolding lesserRatio
     weak-taken ne h =
         step-in (better-taken (pulls t c) (lesserRatio t c) k i passes (omega (arith, segment-is)) (lt-ltb (ratio t c i) (ratio t c k) (omega (arith, made, ratio-is))))
 
-    pub weak-worse : (w .segment ≡ 0 → ⊥) → w .ratio ≤ x → w ≡ weakAt t c weaker-one
+    pub weak-worse : (w .segment ≡ 0 → ⊥) → w .ratio ≤ x → w ≡ weakAt t c (weakerOf t c k i)
     unfolding lesserRatio
     weak-worse ne h =
         is ∙ ap (weakAt t c) (sym (better-worse (pulls t c) (lesserRatio t c) k i passes (omega (arith, segment-is)) (le-ltb (ratio t c i) (ratio t c k) (omega (arith, made, ratio-is)))))
@@ -254,7 +244,7 @@ unfolding best ratio chosenBenefit benefitAt
 weakest-none z b u l c = rw (zero-div (pull (tables z b u l) c 0))
 
 module _ (t : Table) (c : List ℕ) (n : ℕ) {w : Weak} where
-  pub weakest-next : w ≡ weakAt t c (betterOf (pulls t c) (lesserRatio t c) (weakestOf t c n) (n + 1)) → w ≡ weakAt t c (weakestOf t c (n + 1))
+  pub weakest-next : w ≡ weakAt t c (weakerOf t c (weakestOf t c n) (n + 1)) → w ≡ weakAt t c (weakestOf t c (n + 1))
   weakest-next e = e ∙ ap (weakAt t c) (best-next n (pulls t c) (lesserRatio t c) refl)
 
   pub weakest-end : w ≡ weakAt t c (weakestOf t c n) → n ≡ t .segments → w .segment ≡ weakest t c

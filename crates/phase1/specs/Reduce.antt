@@ -5,8 +5,9 @@ use mathlib.Core.List.{List}
 use mathlib.Core.Bool.{Bool, _&&_, _||_}
 use lib.Dec.{eqb, ltb}
 use lib.ListN.{getD, length}
+use Rattle.base.specs.Over.{betterOf}
 use Rattle.rules.specs.Table.{Table}
-use Rattle.rules.specs.Phases.{share, surplus, ratio}
+use Rattle.rules.specs.Phases.{share, surplus, pulls, ratio, lesserRatio}
 use Rattle.laws.specs.Tables.{FitAlone, OfCandidates}
 use Rattle.tables.specs.declared.Size.{Size}
 use Rattle.tables.specs.Arrays.{entry, tables, Ready}
@@ -37,6 +38,10 @@ pub record Surpluses (z : Size) (b u l c over : List ℕ) : Type 0 where
 -- segment i with its ratio; 0 is none
 abbrev pub weakAt : Table → List ℕ → ℕ → Weak
 weakAt t c i = record { segment = i; ratio = ratio t c i }
+
+-- of segments k and i the one to step: i where it pulls and has the lesser ratio, or there is no k
+abbrev pub weakerOf : Table → List ℕ → ℕ → ℕ → ℕ
+weakerOf t c k i = betterOf (pulls t c) (lesserRatio t c) k i
 
 -- by falling benefit, of value and old, and among equals by number, j comes after a
 unfoldable pub follows : ℕ → ℕ → ℕ → ℕ → Bool

@@ -3,7 +3,7 @@ ghost use mathlib.Core.Path.{_≡_};
 ghost use mathlib.Core.List.{List};
 ghost use Prim.Native.Nat.{ℕ, _*_, _/_, _^_, _<_, _≤_};
 ghost use lib.ListN.{length};
-ghost use Rattle.base.specs.Over.{sum, betterOf};
+ghost use Rattle.base.specs.Over.{sum};
 ghost use Rattle.rules.specs.Phases.{
   strategyAt,
   used,
@@ -13,14 +13,12 @@ ghost use Rattle.rules.specs.Phases.{
   chosenShare,
   surplus,
   pull,
-  pulls,
-  lesserRatio,
   weakest,
   nextCandidate,
   phase1,
 };
 ghost use Rattle.tables.specs.Arrays.{usageAt, tables, Gains, Uses, Cell, Chosen, Sound, Ready};
-ghost use Rattle.phase1.specs.Reduce.{shareAt, Held, Surpluses, weakAt, follows};
+ghost use Rattle.phase1.specs.Reduce.{shareAt, Held, Surpluses, weakAt, weakerOf, follows};
 use tables::Size;
 
 // A segment with its ratio; segment 0 is none.
@@ -210,7 +208,7 @@ fn weaker(
     requires { ⌜ Held z (now benefits) (now uses) (now limits) (now shares) (now choice) (now sums) ⌝ }
     requires { ⌜ Surpluses z (now benefits) (now uses) (now limits) (now choice) (now over) ⌝ }
     requires { ⌜ (1 ≤ i) × (i ≤ z .segments) ⌝ }
-    ensures { λ v. ⌜ ((k : ℕ) → w ≡ weakAt (tables z (now (benefits .entry)) (now (uses .entry)) (now (limits .entry))) (now (choice .entry)) k → v ≡ weakAt (tables z (now (benefits .entry)) (now (uses .entry)) (now (limits .entry))) (now (choice .entry)) (betterOf (pulls (tables z (now (benefits .entry)) (now (uses .entry)) (now (limits .entry))) (now (choice .entry))) (lesserRatio (tables z (now (benefits .entry)) (now (uses .entry)) (now (limits .entry))) (now (choice .entry))) k i)) ⌝ }
+    ensures { λ v. ⌜ ((k : ℕ) → w ≡ weakAt (tables z (now (benefits .entry)) (now (uses .entry)) (now (limits .entry))) (now (choice .entry)) k → v ≡ weakAt (tables z (now (benefits .entry)) (now (uses .entry)) (now (limits .entry))) (now (choice .entry)) (weakerOf (tables z (now (benefits .entry)) (now (uses .entry)) (now (limits .entry))) (now (choice .entry)) k i)) ⌝ }
 {
     let pulled = pull_of(z, benefits, uses, limits, shares, choice, sums, over, i);
     if pulled == 0 {
