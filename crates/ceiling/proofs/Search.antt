@@ -1,8 +1,8 @@
 -- Laws of the price search: which price a step takes, and that prices stay below 2 ^ 41. Assumes nothing.
 use Prim.Native.Nat.{ℕ, zero, suc, _+_, _-_, _*_, _^_, _≤_, _<_, min}
 use mathlib.Core.Path.{_≡_, refl, sym, _∙_}
-use mathlib.Core.Bool.{Bool, true, false, _&&_}
-use mathlib.Core.List.{List, [], _∷_}
+use mathlib.Core.Bool.{_&&_}
+use mathlib.Core.List.{List}
 use native.Mathlib.Nat.{min-eq-left, le-of-lt, zero-mul}
 use native.Mathlib.Numerals.{add-one}
 use native.Mathlib.Omega.{arith}
@@ -11,7 +11,6 @@ use lib.Dec.{leb}
 use lib.ListN.{getD, length, set, replicate, length-set, length-replicate}
 use lib.Pow.{pow-pos}
 use lib.Seq.{getD-set-other}
-use Rattle.base.specs.Choice.{pick}
 use Rattle.base.proofs.Choice.{pick-all}
 use Rattle.base.proofs.Sums.{sum-cong, sum-zero}
 use Rattle.rules.specs.Table.{Table}

@@ -64,7 +64,7 @@ pub record Costs (z : Size) (b d new old : List ℕ) (e : ℕ) (c : List ℕ) : 
   pub places : length c ≡ 768
   pub costs : (i j : ℕ) → In z i j → 0 < getD b (entry i j) 0 → getD c (entry i j) 0 ≡ cost (shown z b d) (pick (ltb (entry i j) e) new old) i j
 
--- what a trial reads: prices, the costs at them, and a new price for resource r
+-- what a trial reads beside the costs: arrays, prices, and a new price for resource r
 pub record Trial (z : Size) (b d p : List ℕ) (r price : ℕ) : Type 0 where
   pub sized : Sized z b d
   pub prices : Prices p

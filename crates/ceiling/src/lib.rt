@@ -1,8 +1,8 @@
 // The ceiling: the search for prices, with each candidate's cost kept from trial to trial.
 use tables::Size;
 ghost use mathlib.Core.Path.{_≡_};
-ghost use Prim.Native.Nat.{ℕ, _+_, _*_, _-_, _≤_, _<_, _^_, max, min};
-ghost use lib.ListN.{length, getD, set};
+ghost use Prim.Native.Nat.{_+_, _*_, _-_, _≤_, _<_, _^_, max, min};
+ghost use lib.ListN.{set};
 ghost use Rattle.base.specs.Over.{sum};
 ghost use Rattle.rules.specs.Table.{Table};
 ghost use Rattle.rules.specs.Ceiling.{priceAt, margin, ceilingAt, priced, pricedAll, ceiling};
@@ -32,7 +32,7 @@ fn moved(cost: u64, share: u64, old: u64, new: u64) -> u64
 // The whole limits at their prices.
 fn whole(z: Size, prices: &[u64]) -> u64
     requires { ⌜ (z .resources ≤ 16) × Prices (now prices) ⌝ }
-    ensures { λ x. ⌜ x ≡ 10000 * sum (z .resources) (priceAt (now (prices .entry))) ⌝ }
+    ensures { λ x. ⌜ x ≡ 10_000 * sum (z .resources) (priceAt (now (prices .entry))) ⌝ }
 {
     let mut total: u64 = 0;
     let mut r: usize = 0;

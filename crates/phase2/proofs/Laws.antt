@@ -103,7 +103,7 @@ module _ (z : Size) (b u l c : List ℕ) where
   unfolding pickUp pickedUp
   pick-none e q = let z : bestOffer t c ≡ 0 = sym e ∙ q in rw z
 
-  pub pick-some : (i j : ℕ) → i ≡ bestOffer t c → (i ≡ 0 → ⊥) → j ≡ offer t c i → pickUp t c ≡ some (give c i j)
+  pick-some : (i j : ℕ) → i ≡ bestOffer t c → (i ≡ 0 → ⊥) → j ≡ offer t c i → pickUp t c ≡ some (give c i j)
   unfolding pickUp pickedUp
   pick-some zero j e ne q = absurd (ne refl)
   pick-some (suc i) j e ne q = rw (← e, q)
@@ -126,17 +126,18 @@ module _ (z : Size) (b u l start : List ℕ) where
         let done = reached-end (pickUp (tables z b u l)) (z .segments) start c m (here .reached) e in
         (sym (done .0), sym (done .1))
 
-    module _ (e : List ℕ) (next : pickUp (tables z b u l) c ≡ some e) where
-      fewer : vacancies (tables z b u l) e < vacancies (tables z b u l) c
-      fewer = pick-up-falls (tables z b u l) c e next (omega (arith, here .ready .sound .segments, here .ready .chosen .places))
-
-      pub picking-less : m < z .segments
-      picking-less = omega (arith, fewer, here .left)
-
-      pub picking-next : (sums₂ : List ℕ) → Ready z b u l e sums₂ → Picking z b u l start e sums₂ (m + 1)
-      picking-next sums₂ ready =
+    -- segment i gets strategy j
+    pub picking-next :
+        (i j : ℕ) (e sums₂ : List ℕ) → i ≡ bestOffer (tables z b u l) c → (i ≡ 0 → ⊥) → j ≡ offer (tables z b u l) c i → e ≡ give c i j
+        → Ready z b u l e sums₂ → (m < z .segments) × Picking z b u l start e sums₂ (m + 1)
+    picking-next i j e sums₂ best some-i offered given ready =
+        let next : pickUp (tables z b u l) c ≡ some e = pick-some z b u l c i j best some-i offered ∙ ap some (sym given) in
+        let fewer = pick-up-falls (tables z b u l) c e next (omega (arith, here .ready .sound .segments, here .ready .chosen .places)) in
+        let less : m < z .segments = omega (arith, here .left) in (
+          less,
           record {
             ready = ready;
-            reached = reached-next (pickUp (tables z b u l)) (z .segments) start c e m (here .reached) picking-less next;
-            left = omega (arith, fewer, here .left);
-          }
+            reached = reached-next (pickUp (tables z b u l)) (z .segments) start c e m (here .reached) less next;
+            left = omega (arith, here .left);
+          },
+        )

@@ -1,9 +1,8 @@
 -- `phase2::fill` meets its contract. Assumes nothing.
 use Prim.Native.Nat.{_-_}
-use mathlib.Core.Option.{some}
-use mathlib.Core.Path.{ap, sym, _∙_}
+use mathlib.Core.Path.{sym, _∙_}
 use native.Mathlib.Omega.{arith}
-use Rattle.phase2.proofs.Laws.{offer-le, best-le-segments, pick-none, pick-some, Picking, picking-start, picking-end, picking-less, picking-next}
+use Rattle.phase2.proofs.Laws.{offer-le, best-le-segments, pick-none, Picking, picking-start, picking-end, picking-next}
 use Rattle.phase2.proofs.fill.Statement.{statement}
 use Rattle.phase2.proofs.fill.Tie as tie
 
@@ -39,21 +38,14 @@ make-one-requires c κs = (c .before .before .before .before .before .before .be
 
 add-picks : tie.Need-add-picks Inv-loop μ-loop
 add-picks c =
-    let here = c .before .before .before .before .before .before .before .before .before .before .before .before .before .before .loop .inv in
-    let next = pick-some _ _ _ _ _ _ _ (c .before .before .before .before .before .before .before .before .before .before .before .best-offer .ensures) (c .before .before .before .before .before .before .before .before .before .before .if1 .left) (c .before .before .before .before .before .before .before .offer-of .ensures) ∙ ap some (sym (c .before .before .before .before .make-one .ensures .1)) in
-    omega (arith, picking-less _ _ _ _ _ _ _ _ here _ next, here .ready .sound .segments)
+    let l = c .before .before .before .before .before .before .before .before .before .before .before .before .before .before .loop in
+    omega (arith, picking-next _ _ _ _ _ _ _ _ (l .inv) _ _ _ _ (c .before .before .before .before .before .before .before .before .before .before .before .best-offer .ensures) (c .before .before .before .before .before .before .before .before .before .before .if1 .left) (c .before .before .before .before .before .before .before .offer-of .ensures) (c .before .before .before .before .make-one .ensures .1) (c .before .before .before .before .make-one .ensures .0) .0, l .inv .ready .sound .segments)
 
 loop-less : tie.Need-loop-less Inv-loop μ-loop
-loop-less c =
-    let here = c .before .before .before .before .before .before .before .before .before .before .before .before .before .before .loop .inv in
-    let next = pick-some _ _ _ _ _ _ _ (c .before .before .before .before .before .before .before .before .before .before .before .best-offer .ensures) (c .before .before .before .before .before .before .before .before .before .before .if1 .left) (c .before .before .before .before .before .before .before .offer-of .ensures) ∙ ap some (sym (c .before .before .before .before .make-one .ensures .1)) in
-    omega (arith, picking-less _ _ _ _ _ _ _ _ here _ next)
+loop-less c = omega (arith, picking-next _ _ _ _ _ _ _ _ (c .before .before .before .before .before .before .before .before .before .before .before .before .before .before .loop .inv) _ _ _ _ (c .before .before .before .before .before .before .before .before .before .before .before .best-offer .ensures) (c .before .before .before .before .before .before .before .before .before .before .if1 .left) (c .before .before .before .before .before .before .before .offer-of .ensures) (c .before .before .before .before .make-one .ensures .1) (c .before .before .before .before .make-one .ensures .0) .0)
 
 loop-again : tie.Need-loop-again Inv-loop μ-loop
-loop-again c =
-    let here = c .before .before .before .before .before .before .before .before .before .before .before .before .before .before .loop .inv in
-    let next = pick-some _ _ _ _ _ _ _ (c .before .before .before .before .before .before .before .before .before .before .before .best-offer .ensures) (c .before .before .before .before .before .before .before .before .before .before .if1 .left) (c .before .before .before .before .before .before .before .offer-of .ensures) ∙ ap some (sym (c .before .before .before .before .make-one .ensures .1)) in
-    picking-next _ _ _ _ _ _ _ _ here _ next _ (c .before .before .before .before .make-one .ensures .0)
+loop-again c = picking-next _ _ _ _ _ _ _ _ (c .before .before .before .before .before .before .before .before .before .before .before .before .before .before .loop .inv) _ _ _ _ (c .before .before .before .before .before .before .before .before .before .before .before .best-offer .ensures) (c .before .before .before .before .before .before .before .before .before .before .if1 .left) (c .before .before .before .before .before .before .before .offer-of .ensures) (c .before .before .before .before .make-one .ensures .1) (c .before .before .before .before .make-one .ensures .0) .1
 
 pub fill-spec : {M : Type 1} → statement M
 fill-spec =
