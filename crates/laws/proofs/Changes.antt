@@ -1,5 +1,5 @@
 -- What a change of phase 3 is: one segment or two that change, a rise of the total, and limits that hold. Assumes nothing.
-use Prim.Native.Nat.{ℕ, zero, suc, _+_, _-_, _≤_, _<_}
+use Prim.Native.Nat.{ℕ, zero, suc, _-_, _≤_, _<_}
 use mathlib.Core.Path.{_≡_, refl, sym, ap, subst, _∙_}
 use mathlib.Core.Bool.{Bool, true, false, _&&_, true≢false}
 use mathlib.Core.List.{List}
@@ -8,9 +8,8 @@ use native.Mathlib.Omega.{arith}
 use borrow.Author.Tests.{ltb-true, ltb-false}
 use lib.Dec.{ltb}
 use lib.ListN.{length, length-set}
-use Rattle.base.specs.Choice.{pick, only}
-use Rattle.base.specs.Over.{sum, best, listed}
-use Rattle.base.specs.Search.{first, orElse}
+use Rattle.base.specs.Choice.{pick}
+use Rattle.base.specs.Search.{first}
 use Rattle.base.proofs.Sums.{sum-le}
 use Rattle.base.proofs.Search.{only-some, first-some, orElse-some}
 use Rattle.base.proofs.Best.{best-most, listed-at}

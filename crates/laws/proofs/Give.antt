@@ -1,6 +1,6 @@
 -- What a segment's new strategy does to a programme, its total and its uses. Assumes nothing.
 use Prim.Native.Nat.{ℕ, zero, suc, _+_, _-_, _≤_}
-use mathlib.Core.Path.{_≡_, ap, sym}
+use mathlib.Core.Path.{_≡_, ap}
 use mathlib.Core.List.{List, [], _∷_}
 use mathlib.Core.Bool.{true}
 use native.Mathlib.Omega.{arith}
@@ -20,7 +20,7 @@ pub kept : (c : List ℕ) (i j k : ℕ) → 1 ≤ i → 1 ≤ k → (k ≡ i →
 kept c i j k l m ne = getD-set-other c (i - 1) (k - 1) j 0 (λ e. ne (omega arith))
 
 -- a bound on the strategy numbers stays
-set-le : (l : List ℕ) (n a s : ℕ) → a ≤ s → ((k : ℕ) → getD l k 0 ≤ s) → (k : ℕ) → getD (set l n a) k 0 ≤ s
+pub set-le : (l : List ℕ) (n a s : ℕ) → a ≤ s → ((k : ℕ) → getD l k 0 ≤ s) → (k : ℕ) → getD (set l n a) k 0 ≤ s
 set-le [] n a s h before k = before k
 set-le (x ∷ l) zero a s h before zero = h
 set-le (x ∷ l) zero a s h before (suc k) = before (suc k)
