@@ -1,16 +1,16 @@
 -- Laws of the search for changes: what raises nothing is no change, and how the nested loops find the first. Assumes nothing.
 use Prim.Native.Nat.{ℕ, zero, suc, _+_, _-_, _^_, _≤_, _<_}
 use mathlib.Core.Path.{_≡_, refl, sym, ap, _∙_}
-use mathlib.Core.Bool.{Bool, true, false, not, _&&_, _||_, and-false, or-true, true≢false}
+use mathlib.Core.Bool.{Bool, true, false, and-false, or-true, true≢false}
 use mathlib.Core.List.{List}
 use mathlib.Core.Option.{Option, none, some}
 use native.Mathlib.Omega.{arith}
 use borrow.Author.Tests.{lt-ltb, le-ltb, ltb-false, ne-eqb}
 use lib.Dec.{ltb, eqb}
-use lib.ListN.{getD, length, length-set}
-use Rattle.base.specs.Choice.{pick, only}
+use lib.ListN.{length, length-set}
+use Rattle.base.specs.Choice.{pick}
 use Rattle.base.specs.Over.{most}
-use Rattle.base.specs.Search.{first, orElse, Run, run}
+use Rattle.base.specs.Search.{orElse}
 use Rattle.base.proofs.Sums.{most-part, most-bound}
 use Rattle.base.proofs.Runs.{Reached, reached-start, reached-next, reached-end}
 use Rattle.base.proofs.Search.{first-none, first-found}
@@ -44,7 +44,7 @@ use Rattle.laws.proofs.Give.{kept, total-give, used-give, within-less}
 use Rattle.tables.specs.declared.Size.{Size}
 use Rattle.tables.specs.Arrays.{benefitAt, tables, Gains, Ready}
 use Rattle.tables.proofs.Laws.{benefit-nothing, benefit-lt, gains-of, total-le}
-use Rattle.phase3.specs.Improve.{after, isNothing, made, Found, countsOne, countsTwo, top, Programme, present, pairMayRise, withMayCount}
+use Rattle.phase3.specs.Improve.{after, isNothing, made, Found, countsOne, countsTwo, top, Compared, present, pairMayRise, withMayCount}
 use Rattle.phase3.specs.declared.Change.{Change}
 use Rattle.phase3.specs.declared.Change.the-variants.{Nothing, One, Two}
 
@@ -245,8 +245,8 @@ top-le s b g i = most-bound s (2 ^ 40) (benefitAt b i) (λ j l h. let lt = benef
 
 -- ---- what the loop of changes keeps
 
-pub programme-of : (z : Size) (b u l c sums : List ℕ) → Ready z b u l c sums → Programme z b c
-programme-of z b u l c sums ready =
+pub compared-of : (z : Size) (b u l c sums : List ℕ) → Ready z b u l c sums → Compared z b c
+compared-of z b u l c sums ready =
     record {
       segments = ready .sound .segments;
       strategies = ready .sound .strategies;
@@ -316,9 +316,10 @@ found-nothing z c x search e q = rw (e, q) (record { is = refl; inside = tt })
 
 -- single changes come before pairs
 module _ (t : Table) (z : Size) (c : List ℕ) (x : Change) (single : Found z c x (firstSingle t c)) where
-  pub change-pair : x ≡ Nothing → (y : Change) → Found z c y (firstPair t c) → Found z c y (change t c)
+  pub change-pair : isNothing x ≡ true → (y : Change) → Found z c y (firstPair t c) → Found z c y (change t c)
   unfolding change
-  change-pair e y pair = record { is = pair .is ∙ sym (ap (λ (o : Option (List ℕ)). orElse o (firstPair t c)) (sym (single .is) ∙ ap (made c) e)); inside = pair .inside }
+  change-pair e y pair =
+      record { is = pair .is ∙ sym (ap (λ (o : Option (List ℕ)). orElse o (firstPair t c)) (sym (single .is) ∙ nothing-made c x e)); inside = pair .inside }
 
   pub change-single : isNothing x ≡ false → Found z c x (change t c)
   unfolding change

@@ -57,8 +57,8 @@ pub record Tops (z : Size) (b tops : List ℕ) : Type 0 where
   pub places : length tops ≡ 64
   pub each : (i : ℕ) → 1 ≤ i → i ≤ z .segments → getD tops (i - 1) 0 ≡ most (z .strategies) (benefitAt b i)
 
--- a programme and the benefits that a comparison reads
-pub record Programme (z : Size) (b c : List ℕ) : Type 0 where
+-- what a comparison of benefits reads: the benefits, and a programme
+pub record Compared (z : Size) (b c : List ℕ) : Type 0 where
   pub segments : z .segments ≤ 64
   pub strategies : z .strategies ≤ 11
   pub gains : Gains b

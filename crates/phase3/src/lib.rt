@@ -8,7 +8,7 @@ ghost use Rattle.base.specs.Over.{most};
 ghost use Rattle.rules.specs.Phases.{another, firstSingle, firstPair, change, phase3};
 use tables::Size;
 ghost use Rattle.tables.specs.Arrays.{benefitAt, tables, Gains, Ready};
-ghost use Rattle.phase3.specs.Improve.{after, isNothing, Inside, Found, countsOne, countsTwo, Tops, Programme, present, pairMayRise, withMayCount};
+ghost use Rattle.phase3.specs.Improve.{after, isNothing, Inside, Found, countsOne, countsTwo, Tops, Compared, present, pairMayRise, withMayCount};
 
 // A change: none, segment i gets strategy a, or segments i and k get strategies a and b.
 pub enum Change {
@@ -17,6 +17,7 @@ pub enum Change {
     Two(usize, usize, usize, usize),
 }
 
+// The larger of two.
 fn larger(a: u64, b: u64) -> u64
     ensures { λ v. ⌜ v ≡ max a b ⌝ }
 {
@@ -50,7 +51,7 @@ fn fill_tops(z: Size, benefits: &[u64], tops: &mut [u64])
 
 // Strategy a is not the one that segment i has, and is a candidate or nothing.
 fn is_another(z: Size, benefits: &[u64], choice: &[usize], i: usize, a: usize) -> bool
-    requires { ⌜ Programme z (now benefits) (now choice) ⌝ }
+    requires { ⌜ Compared z (now benefits) (now choice) ⌝ }
     requires { ⌜ (1 ≤ i) × (i ≤ z .segments) × (a ≤ z .strategies) ⌝ }
     ensures { λ ok. ⌜ ((u l : List ℕ) → ok ≡ another (tables z (now (benefits .entry)) u l) (now (choice .entry)) i a) ⌝ }
 {
@@ -65,7 +66,7 @@ fn is_another(z: Size, benefits: &[u64], choice: &[usize], i: usize, a: usize) -
 
 // What segments i and k gain now.
 fn present_benefit(z: Size, benefits: &[u64], choice: &[usize], i: usize, k: usize) -> u64
-    requires { ⌜ Programme z (now benefits) (now choice) ⌝ }
+    requires { ⌜ Compared z (now benefits) (now choice) ⌝ }
     requires { ⌜ (1 ≤ i) × (i < k) × (k ≤ z .segments) ⌝ }
     ensures { λ v. ⌜ ((u l : List ℕ) → v ≡ present (tables z (now (benefits .entry)) u l) (now (choice .entry)) i k) ⌝ }
 {
@@ -81,7 +82,7 @@ fn pair_may_rise(
     i: usize,
     k: usize,
 ) -> bool
-    requires { ⌜ Programme z (now benefits) (now choice) × Tops z (now benefits) (now tops) ⌝ }
+    requires { ⌜ Compared z (now benefits) (now choice) × Tops z (now benefits) (now tops) ⌝ }
     requires { ⌜ (1 ≤ i) × (i < k) × (k ≤ z .segments) ⌝ }
     ensures { λ ok. ⌜ ((u l : List ℕ) → ok ≡ pairMayRise (tables z (now (benefits .entry)) u l) (now (choice .entry)) i k) ⌝ }
 {
@@ -227,6 +228,17 @@ fn first_two(
     found
 }
 
+// Whether there is no change.
+fn is_nothing(x: Change) -> bool
+    ensures { λ v. ⌜ v ≡ isNothing x ⌝ }
+{
+    match x {
+        Change::Nothing => true,
+        Change::One(_, _) => false,
+        Change::Two(_, _, _, _) => false,
+    }
+}
+
 // The first change that counts: single changes come before pairs.
 fn first_change(
     z: Size,
@@ -242,21 +254,10 @@ fn first_change(
     ensures { λ x. ⌜ Found z (now (choice .entry)) x (change (tables z (now (benefits .entry)) (now (uses .entry)) (now (limits .entry))) (now (choice .entry))) ⌝ }
 {
     let one = first_one(z, benefits, uses, limits, choice, sums);
-    match one {
-        Change::Nothing => first_two(z, benefits, uses, limits, choice, sums, tops),
-        Change::One(_, _) => one,
-        Change::Two(_, _, _, _) => one,
+    if is_nothing(one) {
+        return first_two(z, benefits, uses, limits, choice, sums, tops);
     }
-}
-
-fn is_nothing(x: Change) -> bool
-    ensures { λ v. ⌜ v ≡ isNothing x ⌝ }
-{
-    match x {
-        Change::Nothing => true,
-        Change::One(_, _) => false,
-        Change::Two(_, _, _, _) => false,
-    }
+    one
 }
 
 // The change x is made.

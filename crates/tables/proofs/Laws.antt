@@ -15,7 +15,7 @@ use Rattle.rules.specs.Phases.{strategyAt, give, chosenBenefit, total, chosenUs
 use Rattle.laws.proofs.Give.{kept, used-give, give-numbers}
 use Rattle.tables.specs.declared.Size.{Size}
 use Rattle.tables.specs.Arrays.{entry, benefitAt, usageAt, limitAt, tables, Sound, Gains, Uses, Cell, Chosen, Ready}
-use Rattle.tables.specs.Moves.{Room, Moves, roomFor, Movable, moved}
+use Rattle.tables.specs.Moves.{Room, roomFor, Movable, moved}
 
 pub inside : (a b x : ℕ) → a ≤ x → x ≤ b → between a b x ≡ true
 inside a b x l h = rw (le-leb a x l, le-leb x b h)

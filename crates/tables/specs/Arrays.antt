@@ -1,7 +1,7 @@
 -- A table that arrays hold: 12 benefits for each of 64 segments (nothing, then strategies 1 to 11), 16 uses for each of those, 16 limits.
 use Prim.Native.Nat.{ℕ, _+_, _-_, _*_, _^_, _≤_, _<_}
 use mathlib.Core.Path.{_≡_}
-use mathlib.Core.Bool.{Bool, true, false, _&&_}
+use mathlib.Core.Bool.{_&&_}
 use mathlib.Core.List.{List}
 use lib.ListN.{getD, length}
 use Rattle.base.specs.Choice.{pick}

@@ -1,7 +1,7 @@
 -- `phase3::counts_one` meets its contract. Assumes nothing.
 use mathlib.Core.Path.{sym, _∙_}
 use native.Mathlib.Omega.{arith}
-use Rattle.tables.proofs.Laws.{gains-of, cell-of, from-cell, places}
+use Rattle.tables.proofs.Laws.{gains-of, from-cell, places}
 use Rattle.phase3.proofs.Laws.{low-one, high-one}
 use borrow.Author.Needs.{needs}
 use Rattle.phase3.proofs.counts_one.Statement.{statement}

@@ -1,6 +1,5 @@
 -- `phase3::first_change` meets its contract. Assumes nothing.
-use mathlib.Core.Path.{ap}
-use Rattle.phase3.specs.Improve.{isNothing}
+use mathlib.Core.Path.{sym, _∙_}
 use Rattle.phase3.proofs.Laws.{change-pair, change-single}
 use borrow.Author.Needs.{needs}
 use Rattle.phase3.proofs.first_change.Statement.{statement}
@@ -9,36 +8,19 @@ use Rattle.phase3.proofs.first_change.Tie as tie
 first-one-requires : tie.Need-first-one-requires
 first-one-requires c κs = search needs
 
-enum-told : tie.Need-enum-told
-enum-told c = search needs
+is-nothing-requires : tie.Need-is-nothing-requires
+is-nothing-requires c κs = search needs
 
 first-two-requires : tie.Need-first-two-requires
 first-two-requires c κs = search needs
 
-enum-told-2 : tie.Need-enum-told-2
-enum-told-2 c = search needs
-
-enum-told-3 : tie.Need-enum-told-3
-enum-told-3 c = search needs
-
 returns : tie.Need-returns
-returns c = change-pair _ _ _ _ (c .before .before .before .first-one .ensures) (c .before .enum-told .given .1) _ (c .first-two .ensures)
+returns c = change-pair _ _ _ _ (c .before .before .before .first-one .ensures) (sym (c .before .before .is-nothing .ensures) ∙ c .before .if1 .taken) _ (c .first-two .ensures)
 
 returns-2 : tie.Need-returns-2
-returns-2 c = change-single _ _ _ _ (c .before .before .first-one .ensures) (ap isNothing (c .enum-told2 .given .1))
-
-returns-3 : tie.Need-returns-3
-returns-3 c = change-single _ _ _ _ (c .before .before .first-one .ensures) (ap isNothing (c .enum-told3 .given .1))
+returns-2 c = change-single _ _ _ _ (c .before .before .first-one .ensures) (sym (c .before .is-nothing .ensures) ∙ c .if1 .left)
 
 pub first-change-spec : {M : Type 1} → statement M
 first-change-spec =
     tie.close
-    (tie.spec
-    first-one-requires
-    enum-told
-    first-two-requires
-    enum-told-2
-    enum-told-3
-    returns
-    returns-2
-    returns-3)
+    (tie.spec first-one-requires is-nothing-requires first-two-requires returns returns-2)

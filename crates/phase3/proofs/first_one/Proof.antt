@@ -1,6 +1,6 @@
 -- `phase3::first_one` meets its contract: whatever the loops passed is no change. Assumes nothing.
-use Prim.Native.Nat.{ℕ, _+_, _-_, _≤_, _<_}
-use mathlib.Core.Path.{_≡_, refl, sym, ap, _∙_}
+use Prim.Native.Nat.{ℕ, _-_, _≤_, _<_}
+use mathlib.Core.Path.{_≡_, refl, sym, _∙_}
 use mathlib.Core.Option.{none}
 use borrow.Author.Count.{below-none, below-more}
 use native.Mathlib.Omega.{arith}

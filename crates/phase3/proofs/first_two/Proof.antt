@@ -1,5 +1,5 @@
 -- `phase3::first_two` meets its contract: whatever the loops passed, or passed over, is no change. Assumes nothing.
-use Prim.Native.Nat.{ℕ, _+_, _-_, _≤_, _<_}
+use Prim.Native.Nat.{ℕ, _-_, _≤_, _<_}
 use mathlib.Core.Path.{_≡_, refl, sym, _∙_}
 use mathlib.Core.Logic.{⊎-elim}
 use mathlib.Core.Option.{none}
@@ -21,7 +21,7 @@ use Rattle.phase3.proofs.Laws.{
   no-with,
   no-of,
   another-of,
-  programme-of,
+  compared-of,
   found-nothing,
 }
 use borrow.Author.Needs.{needs}
@@ -103,7 +103,7 @@ pair-may-rise-requires :
     μ-search
 pair-may-rise-requires c κs =
     let s = c .before .before .before .before .before .before .before .before .before .before .before .before .pre in
-    ((programme-of _ _ _ _ _ _ (s .0), s .1), (omega arith, omega arith, omega arith))
+    ((compared-of _ _ _ _ _ _ (s .0), s .1), (omega arith, omega arith, omega arith))
 
 loop2-holds :
     tie.Need-loop2-holds Inv-loop3 μ-loop3 Inv-loop2 μ-loop2 Inv-loop μ-loop Inv-search μ-search

@@ -1,5 +1,4 @@
 -- `phase3::is_another` meets its contract. Assumes nothing.
-use mathlib.Core.Path.{refl, sym}
 use borrow.Author.Tests.{eq-eqb, ne-eqb}
 use Rattle.rules.specs.Phases.{another, isCandidate}
 use borrow.Author.Needs.{needs}

@@ -1,12 +1,11 @@
 -- `phase3::make_change` meets its contract. Assumes nothing.
 use Prim.Native.Nat.{ℕ}
-use mathlib.Core.Path.{_≡_, sym, ap, subst, _∙_}
+use mathlib.Core.Path.{sym, ap, subst, _∙_}
 use mathlib.Core.List.{List}
 use native.Mathlib.Omega.{arith}
 use denote.Ref.{now}
 use Rattle.rules.specs.Phases.{give}
 use Rattle.phase3.specs.Improve.{after, Inside}
-use Rattle.phase3.specs.declared.Change.{Change}
 use borrow.Author.Needs.{needs}
 use Rattle.phase3.proofs.make_change.Statement.{statement}
 use Rattle.phase3.proofs.make_change.Tie as tie

@@ -1,5 +1,4 @@
 -- `phase3::present_benefit` meets its contract. Assumes nothing.
-use Prim.Native.Nat.{_+_}
 use native.Mathlib.Omega.{arith}
 use denote.Ref.{now}
 use Rattle.rules.specs.Phases.{strategyAt}

@@ -1,5 +1,5 @@
 -- `phase3::top_of` meets its contract: the greatest so far is that of the strategies passed. Assumes nothing.
-use Prim.Native.Nat.{_+_, _-_, _≤_}
+use Prim.Native.Nat.{_-_, _≤_}
 use mathlib.Core.Path.{_≡_}
 use native.Mathlib.Omega.{arith}
 use Rattle.base.specs.Over.{most}

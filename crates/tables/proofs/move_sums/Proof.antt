@@ -1,12 +1,11 @@
 -- `tables::move_sums` meets its contract: the sums passed have moved, and the others are as they were. Assumes nothing.
-use Prim.Native.Nat.{ℕ, _+_, _-_, _≤_, _<_, _^_}
+use Prim.Native.Nat.{ℕ, _+_, _-_, _≤_}
 use mathlib.Core.Path.{_≡_, refl, _∙_}
 use native.Mathlib.Omega.{arith}
 use denote.Ref.{now}
 use lib.ListN.{length, getD, length-set}
 use lib.Seq.{getD-set-same, getD-set-other}
 use Rattle.base.proofs.All.{each-none, each-next}
-use Rattle.tables.specs.Arrays.{usageAt}
 use Rattle.tables.specs.Moves.{moved}
 use Rattle.tables.proofs.Laws.{usage-lt}
 use borrow.Author.Needs.{needs}
