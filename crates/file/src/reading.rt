@@ -81,12 +81,14 @@ pub fn read_record(
     if left < 4 {
         return Reading::Refused(1);
     }
-    let kind = slot.kind;
-    if bytes::number(file, at + 2, 2) != kind {
+    let due = slot.kind;
+    let size = payload(d, slot);
+    let length = bytes::number(file, at, 2);
+    let kind = bytes::number(file, at + 2, 2);
+    if kind != due {
         return Reading::Refused(2);
     }
-    let size = payload(d, slot);
-    if bytes::number(file, at, 2) != size {
+    if length != size {
         return Reading::Refused(3);
     }
     if left - 4 < size {

@@ -1,8 +1,7 @@
 -- `read_record` meets its contract: the tests that led to each answer say which case of the definition holds. Assumes nothing.
-use Prim.Native.Nat.{ℕ, _-_, _≤_, _<_}
-use mathlib.Core.Path.{_≡_, refl, sym, ap, _∙_}
+use Prim.Native.Nat.{_-_, _≤_, _<_}
+use mathlib.Core.Path.{_≡_, refl, sym, _∙_}
 use mathlib.Core.Bool.{true, false}
-use mathlib.Core.List.{List}
 use native.Mathlib.Omega.{arith}
 use lib.ListN.{length, take, drop, length-drop}
 use lib.Seq.{drop-drop}
@@ -16,7 +15,7 @@ use borrow.Author.Needs.{needs}
 use Rattle.file.proofs.reading.read_record.Statement.{statement}
 use Rattle.file.proofs.reading.read_record.Tie as tie
 
--- what each test shows
+-- what each test and each number shows
 none : (c : tie.Then1) → let a = c .before .before .before .before .args in present (take (a .place) (a .d .now)) (a .slot) ≡ false
 none c =
     let st = c .before .before .before .before in
@@ -30,19 +29,19 @@ there c =
 long : (c : tie.Else2) → let a = c .before .before .before .before .before .args in 4 ≤ length (drop (a .at) (a .file .now))
 long c = simp length-drop (omega arith)
 
-kind : (c : tie.Else3) → let a = c .before .before .before .before .before .before .before .args in numberOf (take 2 (drop 2 (drop (a .at) (a .file .now)))) ≡ a .slot .kind
-kind c =
-    let a = c .before .before .before .before .before .before .before .args in
-    rw (drop-drop 2 (a .at) (a .file .now)) (sym (c .before .number .ensures) ∙ c .if3 .left)
-
-sized : (c : tie.After-payload) → let a = c .before .before .before .before .before .before .before .before .before .args in c .payload .result ≡ size (take (a .place) (a .d .now)) (a .slot)
+sized : (c : tie.After-payload) → let a = c .before .before .before .before .before .before .before .args in c .payload .result ≡ size (take (a .place) (a .d .now)) (a .slot)
 sized c =
-    let st = c .before .before .before .before .before .before .before .before .before in
+    let st = c .before .before .before .before .before .before .before in
     let a = st .args in
     c .payload .ensures ∙ sym (widths-take (st .pre .0) (a .d .now) (a .slot .places) 0 (omega arith))
 
+kind : (c : tie.After-number2) → let a = c .before .before .before .before .before .before .before .before .before .args in c .number2 .result ≡ numberOf (take 2 (drop 2 (drop (a .at) (a .file .now))))
+kind c =
+    let a = c .before .before .before .before .before .before .before .before .before .args in
+    rw (drop-drop 2 (a .at) (a .file .now)) (c .number2 .ensures)
+
 len : (c : tie.Else4) → let a = c .before .before .before .before .before .before .before .before .before .before .before .args in numberOf (take 2 (drop (a .at) (a .file .now))) ≡ size (take (a .place) (a .d .now)) (a .slot)
-len c = sym (c .before .number2 .ensures) ∙ c .if4 .left ∙ sized (c .before .before)
+len c = sym (c .before .before .before .number .ensures) ∙ c .if4 .left ∙ sized (c .before .before .before .before)
 
 is-present-requires : tie.Need-is-present-requires
 is-present-requires c κs = search needs
@@ -71,28 +70,27 @@ returns-2 c =
     let h : length (drop (a .at) (a .file .now)) < 4 = simp length-drop (omega arith) in
     record { same = sym (search picks depth 10); inside = tt; before = refl; all = st .pre .1 .1 }
 
-add-number : tie.Need-add-number
-add-number c = search needs
+payload-requires : tie.Need-payload-requires
+payload-requires c κs = search needs
 
 number-requires : tie.Need-number-requires
 number-requires c κs = search needs
 
-returns-3 : tie.Need-returns-3
-unfolding readRecord
-returns-3 c =
-    let st = c .before .before .before .before .before .before .before in
-    let a = st .args in
-    let t = there (c .before .before .before) in
-    let l = long (c .before .before) in
-    let e = ap (λ (l : List ℕ). numberOf (take 2 l)) (drop-drop 2 (a .at) (a .file .now)) in
-    let k : numberOf (take 2 (drop 2 (drop (a .at) (a .file .now)))) ≡ a .slot .kind → ⊥ = λ q. c .if3 .taken (c .before .number .ensures ∙ sym e ∙ q) in
-    record { same = sym (search picks depth 10); inside = tt; before = refl; all = st .pre .1 .1 }
-
-payload-requires : tie.Need-payload-requires
-payload-requires c κs = search needs
+add-number : tie.Need-add-number
+add-number c = search needs
 
 number-requires-2 : tie.Need-number-requires-2
 number-requires-2 c κs = search needs
+
+returns-3 : tie.Need-returns-3
+unfolding readRecord
+returns-3 c =
+    let st = c .before .before .before .before .before .before .before .before .before .before in
+    let a = st .args in
+    let t = there (c .before .before .before .before .before .before) in
+    let l = long (c .before .before .before .before .before) in
+    let k : numberOf (take 2 (drop 2 (drop (a .at) (a .file .now)))) ≡ a .slot .kind → ⊥ = λ q. c .if3 .taken (kind (c .before) ∙ q) in
+    record { same = sym (search picks depth 10); inside = tt; before = refl; all = st .pre .1 .1 }
 
 returns-4 : tie.Need-returns-4
 unfolding readRecord
@@ -101,8 +99,8 @@ returns-4 c =
     let a = st .args in
     let t = there (c .before .before .before .before .before .before .before) in
     let l = long (c .before .before .before .before .before .before) in
-    let k = kind (c .before .before .before .before) in
-    let n : numberOf (take 2 (drop (a .at) (a .file .now))) ≡ size (take (a .place) (a .d .now)) (a .slot) → ⊥ = λ q. c .if4 .taken (c .before .number2 .ensures ∙ q ∙ sym (sized (c .before .before))) in
+    let k = sym (kind (c .before .before)) ∙ c .before .if3 .left in
+    let n : numberOf (take 2 (drop (a .at) (a .file .now))) ≡ size (take (a .place) (a .d .now)) (a .slot) → ⊥ = λ q. c .if4 .taken (c .before .before .before .number .ensures ∙ q ∙ sym (sized (c .before .before .before .before))) in
     record { same = sym (search picks depth 10); inside = tt; before = refl; all = st .pre .1 .1 }
 
 returns-5 : tie.Need-returns-5
@@ -112,9 +110,9 @@ returns-5 c =
     let a = st .args in
     let t = there (c .before .before .before .before .before .before .before .before) in
     let l = long (c .before .before .before .before .before .before .before) in
-    let k = kind (c .before .before .before .before .before) in
+    let k = sym (kind (c .before .before .before)) ∙ c .before .before .if3 .left in
     let n = len (c .before) in
-    let z = sized (c .before .before .before) in
+    let z = sized (c .before .before .before .before .before) in
     let h : length (drop (a .at) (a .file .now)) - 4 < size (take (a .place) (a .d .now)) (a .slot) = simp length-drop (omega arith) in
     record { same = sym (search picks depth 10); inside = tt; before = refl; all = st .pre .1 .1 }
 
@@ -124,18 +122,19 @@ add-read-numbers c = search needs
 read-numbers-requires-2 : tie.Need-read-numbers-requires-2
 read-numbers-requires-2 c κs =
     let st = c .before .before .before .before .before .before .before .before .before .before .before .before .before in
-    let z = sized (c .before .before .before .before) in
+    let z = sized (c .before .before .before .before .before .before) in
     (st .pre .0, (omega (arith, st .pre .1 .0), st .pre .1 .1))
 
 returns-6 : tie.Need-returns-6
 returns-6 c =
     let st = c .before .before .before .before .before .before .before .before .before .before .before .before .before .before in
     let a = st .args in
-    let z = sized (c .before .before .before .before .before) in
+    let z = sized (c .before .before .before .before .before .before .before) in
+    let k = sym (kind (c .before .before .before .before .before)) ∙ c .before .before .before .before .if3 .left in
     let n = c .read-numbers2 .ensures in
     record {
       same =
-          record-there (take (a .place) (a .d .now)) (a .slot) (drop (a .at) (a .file .now)) (there (c .before .before .before .before .before .before .before .before .before .before)) (long (c .before .before .before .before .before .before .before .before .before)) (kind (c .before .before .before .before .before .before .before)) (len (c .before .before .before)) (simp length-drop (omega arith))
+          record-there (take (a .place) (a .d .now)) (a .slot) (drop (a .at) (a .file .now)) (there (c .before .before .before .before .before .before .before .before .before .before)) (long (c .before .before .before .before .before .before .before .before .before)) k (len (c .before .before .before)) (simp length-drop (omega arith))
           ∙ rw (drop-drop 4 (a .at) (a .file .now)) (n .same);
       inside = n .inside;
       before = n .before;
@@ -151,11 +150,11 @@ read-record-spec =
     returns
     sub-left
     returns-2
-    add-number
-    number-requires
-    returns-3
     payload-requires
+    number-requires
+    add-number
     number-requires-2
+    returns-3
     returns-4
     returns-5
     add-read-numbers
