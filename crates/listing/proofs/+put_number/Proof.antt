@@ -62,13 +62,16 @@ cast-out-2 t c = omega arith
 add-out-2 : (t : ℕ) → lts.Need-add-out-2 (Below t, put-number.Post) (At t) put-number.Post
 add-out-2 t c = omega arith
 
-slice-write-out-2 : (t : ℕ) → lts.Need-slice-write-out-2 (Below t, put-number.Post) (At t) put-number.Post
-slice-write-out-2 t c =
+room : (t : ℕ) (c : lts.After-slice-known2 (Below t, put-number.Post) (At t) put-number.Post) → c .before .before .put-number .result < length (c .before .before .put-number .last .0)
+room t c =
     let p = c .before .before .put-number in
     omega (arith, longer t (c .before .before .before .before), p .ensures .count, p .kept .0)
 
+slice-write-out-2 : (t : ℕ) → lts.Need-slice-write-out-2 (Below t, put-number.Post) (At t) put-number.Post
+slice-write-out-2 t c = omega (arith, room t c)
+
 add-result : (t : ℕ) → lts.Need-add-result (Below t, put-number.Post) (At t) put-number.Post
-add-result t c = omega (arith, slice-write-out-2 t c, c .before .before .put-number .kept .0, c .before .before .before .before .before .before .good)
+add-result t c = omega (arith, room t c, c .before .before .put-number .kept .0, c .before .before .before .before .before .before .good)
 
 same-length-2 : (t : ℕ) → lts.Need-same-length-2 (Below t, put-number.Post) (At t) put-number.Post
 same-length-2 t c = simp length-set (c .before .before .put-number .kept .0)
@@ -78,7 +81,7 @@ returns-2 t c =
     let e = c .before .before .before .before in
     let a = e .before .before .args in
     let p = c .before .before .put-number in
-    rw (large t e) (put-all (written-one (48 + a .value % 10) [] (put-front (decimal (a .value / 10)) ((48 + a .value % 10) ∷ []) (p .ensures) (omega (arith, longer t e))) (slice-write-out-2 t c)))
+    rw (large t e) (put-all (written-one (48 + a .value % 10) [] (put-front (decimal (a .value / 10)) ((48 + a .value % 10) ∷ []) (p .ensures) (omega (arith, longer t e))) (room t c)))
 
 pub +put-number-spec : {M : Type 1} → statement M
 +put-number-spec =
