@@ -1,0 +1,28 @@
+-- Text as bytes, and numbers in base ten.
+use Prim.Native.Nat.{ℕ, zero, suc, _+_, _/_, _%_}
+use Prim.Native.Char.{code}
+use Prim.Native.String.{String, [] as []ˢ, _∷_ as _∷ˢ_}
+use mathlib.Core.List.{List, [], _∷_, _++_}
+use mathlib.Core.Path.{_≡_}
+use lib.Dec.{ltb}
+use lib.ListN.{length, drop}
+use Rattle.base.specs.Choice.{pick}
+
+-- the bytes of a text of plain letters
+unfoldable pub text : String → List ℕ
+text []ˢ = []
+text (c ∷ˢ s) = code c ∷ text s
+
+-- the digits of n, from the first to the last, with no 0 in front; at most k of them
+unfoldable pub digitsOf : ℕ → ℕ → List ℕ
+digitsOf zero n = []
+digitsOf (suc k) n = pick (ltb n 10) ((48 + n) ∷ []) (digitsOf k (n / 10) ++ ((48 + n % 10) ∷ []))
+
+-- a number of 64 bits has at most 20
+unfoldable pub decimal : ℕ → List ℕ
+decimal n = digitsOf 20 n
+
+-- bs is written over the front of a buffer that held `old` and then holds `new`; n counts the bytes
+pub record Put (bs old new : List ℕ) (n : ℕ) : Type 0 where
+  pub count : n ≡ length bs
+  pub bytes : new ≡ bs ++ drop (length bs) old

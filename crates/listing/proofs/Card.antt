@@ -1,0 +1,34 @@
+-- The test card's programme, listed. Assumes nothing.
+use mathlib.Core.List.{[], _∷_, _++_}
+use mathlib.Core.Path.{_≡_, refl}
+use lib.ListN.{replicate}
+use Rattle.base.specs.Text.{text, digitsOf, decimal}
+use Rattle.rules.specs.declared.Programme.{Programme}
+use Rattle.rules.specs.declared.Answer.the-variants.{Accepted, Refused}
+use Rattle.listing.specs.Listing.{named, line, segmentLine, segmentLines, stepsLine, results, listing, refusal, done, valued, failed}
+
+pub card : Programme
+card =
+    record {
+      strategies = 2 ∷ 1 ∷ replicate 62 0;
+      total = 7_200_000;
+      «after_pickups» = 7_200_000;
+      ceiling = 7_500_170;
+      steps = 1;
+      pickups = 0;
+      changes = 0;
+    }
+
+pub card-listed : listing card 2 ≡ text "1 2\n2 1\nbenefit 7200000\nceiling 7500170\nsteps 1 0 0\n"
+unfolding card text digitsOf decimal named line segmentLine segmentLines stepsLine results listing
+card-listed = refl
+
+-- the answers of calls, and the greatest number
+pub answers-said : (done (Accepted 0) ≡ text "ok\n")
+    × (done (Refused 6) ≡ text "refused 6\n")
+    × (valued (text "ok ") (Accepted 87) ≡ text "ok 87\n")
+    × (valued (text "points ") (Refused 10) ≡ text "refused 10\n")
+    × (failed (text "cannot open ") (text "a b") ≡ text "cannot open a b\n")
+    × (decimal 18446744073709551615 ≡ text "18446744073709551615")
+unfolding text digitsOf decimal named line refusal done valued failed
+answers-said = (refl, refl, refl, refl, refl, refl)

@@ -1,0 +1,48 @@
+-- `listing::put_valued` meets its contract. Assumes nothing.
+use native.Mathlib.Omega.{arith}
+use Rattle.listing.specs.Listing.{valued}
+use Rattle.listing.proofs.Laws.{line-few}
+use borrow.Author.Needs.{needs}
+use Rattle.listing.proofs.put_valued.Statement.{statement}
+use Rattle.listing.proofs.put_valued.Tie as tie
+
+enum-known-answer : tie.Need-enum-known-answer
+enum-known-answer c = search needs
+
+put-line-requires : tie.Need-put-line-requires
+put-line-requires c κs =
+    let a = c .before .before .before .before .before .before .args in
+    omega (arith, line-few (a .word .now) (c .before .before .answer .given .0 .0))
+
+enum-known-answer-2 : tie.Need-enum-known-answer-2
+enum-known-answer-2 c = search needs
+
+put-refusal-requires : tie.Need-put-refusal-requires
+put-refusal-requires c κs = search needs
+
+same-length : tie.Need-same-length
+same-length c = search needs
+
+returns : tie.Need-returns
+unfolding valued
+returns c = rw (c .before .before .before .before .before .answer .given .1) (c .before .before .put-line .ensures)
+
+same-length-2 : tie.Need-same-length-2
+same-length-2 c = search needs
+
+returns-2 : tie.Need-returns-2
+unfolding valued
+returns-2 c = rw (c .before .before .before .before .before .answer2 .given .1) (c .before .before .put-refusal .ensures)
+
+pub put-valued-spec : {M : Type 1} → statement M
+put-valued-spec =
+    tie.close
+    (tie.spec
+    enum-known-answer
+    put-line-requires
+    enum-known-answer-2
+    put-refusal-requires
+    same-length
+    returns
+    same-length-2
+    returns-2)

@@ -1,0 +1,65 @@
+-- What the programs print.
+use Prim.Native.Nat.{ℕ, zero, suc, _+_, _-_, min}
+use mathlib.Core.List.{List, [], _++_}
+use lib.ListN.{getD}
+use Rattle.base.specs.Text.{text, decimal}
+use Rattle.rules.specs.District.{segmentsOf}
+use Rattle.rules.specs.declared.Unit.{Unit}
+use Rattle.rules.specs.declared.Programme.{Programme}
+use Rattle.rules.specs.declared.Answer.{Answer}
+use Rattle.rules.specs.declared.Answer.the-variants.{Accepted, Refused}
+
+-- a word and a number, and the same as a line
+unfoldable pub named : List ℕ → ℕ → List ℕ
+named word n = word ++ decimal n
+
+unfoldable pub line : List ℕ → ℕ → List ℕ
+line word n = named word n ++ text "\n"
+
+-- ---- a programme
+
+unfoldable pub segmentLine : ℕ → ℕ → List ℕ
+segmentLine i j = decimal i ++ line (text " ") j
+
+-- of n segments, from number i on
+unfoldable pub segmentLines : ℕ → ℕ → List ℕ → List ℕ
+segmentLines zero i strategies = []
+segmentLines (suc n) i strategies = segmentLine i (getD strategies (i - 1) 0) ++ segmentLines n (i + 1) strategies
+
+unfoldable pub stepsLine : Programme → List ℕ
+stepsLine p = named (text "steps ") (p .steps) ++ (named (text " ") (p .pickups) ++ line (text " ") (p .changes))
+
+unfoldable pub results : Programme → List ℕ
+results p = line (text "benefit ") (p .total) ++ (line (text "ceiling ") (p .ceiling) ++ stepsLine p)
+
+-- of a district of n segments; a programme has 64 places
+unfoldable pub listing : Programme → ℕ → List ℕ
+listing p n = segmentLines (min n 64) 1 (p .strategies) ++ results p
+
+-- the unit's own
+unfoldable pub shown : Unit → List ℕ
+shown u = listing (u .programme) (segmentsOf (u .district))
+
+-- ---- the answer to a call
+
+unfoldable pub refusal : ℕ → List ℕ
+refusal n = line (text "refused ") n
+
+-- of one that has nothing to tell
+unfoldable pub done : Answer → List ℕ
+done (Accepted value) = text "ok\n"
+done (Refused n) = refusal n
+
+-- of a load, with the programme
+unfoldable pub planned : Answer → Unit → List ℕ
+planned (Accepted value) u = shown u
+planned (Refused n) u = refusal n
+
+-- of a call that has a value, with the word before it
+unfoldable pub valued : List ℕ → Answer → List ℕ
+valued word (Accepted value) = line word value
+valued word (Refused n) = refusal n
+
+-- what could not be done, and with which file
+unfoldable pub failed : List ℕ → List ℕ → List ℕ
+failed what path = what ++ (path ++ text "\n")

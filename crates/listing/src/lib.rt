@@ -1,0 +1,169 @@
+// What the programs print, written to the front of a lent buffer. Each writer takes what remains of the buffer, and
+// says how many bytes it wrote.
+ghost use mathlib.Core.Path.{_≡_};
+ghost use Prim.Native.Nat.{_+_, _≤_, min};
+ghost use lib.ListN.{length};
+ghost use Rattle.base.specs.Text.{text, decimal, Put};
+ghost use Rattle.listing.specs.Listing.{named, line, segmentLine, segmentLines, stepsLine, results, listing, shown, refusal, done, planned, valued, failed};
+use rules::Answer;
+use rules::Programme;
+use rules::Unit;
+
+pub fn put(out: &mut [u8], bytes: &[u8]) -> usize
+    requires { ⌜ length (now bytes) ≤ length (now out) ⌝ }
+    ensures { λ r. ⌜ Put (now (bytes .entry)) (now (out .entry)) (now (out .exit)) r ⌝ }
+{
+    let mut i = 0;
+    while i < bytes.len() {
+        out[i] = bytes[i];
+        i += 1;
+    }
+    i
+}
+
+// The digits of its tenth, then the last one.
+fn put_number(out: &mut [u8], value: usize) -> usize
+    requires { ⌜ length (decimal value) ≤ length (now out) ⌝ }
+    ensures { λ r. ⌜ Put (decimal value) (now (out .entry)) (now (out .exit)) r ⌝ }
+{
+    if value < 10 {
+        out[0] = 48 + value as u8;
+        return 1;
+    }
+    let at = put_number(out, value / 10);
+    out[at] = 48 + (value % 10) as u8;
+    at + 1
+}
+
+fn put_named(out: &mut [u8], word: &[u8], value: usize) -> usize
+    requires { ⌜ length (named (now word) value) ≤ length (now out) ⌝ }
+    ensures { λ r. ⌜ Put (named (now (word .entry)) value) (now (out .entry)) (now (out .exit)) r ⌝ }
+{
+    let at = put(out, word);
+    at + put_number(&mut out[at..], value)
+}
+
+pub fn put_line(out: &mut [u8], word: &[u8], value: usize) -> usize
+    requires { ⌜ length (line (now word) value) ≤ length (now out) ⌝ }
+    ensures { λ r. ⌜ Put (line (now (word .entry)) value) (now (out .entry)) (now (out .exit)) r ⌝ }
+{
+    let at = put_named(out, word, value);
+    at + put(&mut out[at..], b"\n")
+}
+
+// ---- a programme
+
+fn put_segment_line(out: &mut [u8], segment: usize, strategy: usize) -> usize
+    requires { ⌜ length (segmentLine segment strategy) ≤ length (now out) ⌝ }
+    ensures { λ r. ⌜ Put (segmentLine segment strategy) (now (out .entry)) (now (out .exit)) r ⌝ }
+{
+    let at = put_number(out, segment);
+    at + put_line(&mut out[at..], b" ", strategy)
+}
+
+fn put_segment_lines(out: &mut [u8], strategies: [usize; 64], n: usize) -> usize
+    requires { ⌜ n ≤ 64 ⌝ }
+    requires { ⌜ length (segmentLines n 1 strategies) ≤ length (now out) ⌝ }
+    ensures { λ r. ⌜ Put (segmentLines n 1 strategies) (now (out .entry)) (now (out .exit)) r ⌝ }
+{
+    let mut at: usize = 0;
+    let mut i: usize = 0;
+    while i < n {
+        at += put_segment_line(&mut out[at..], i + 1, strategies[i]);
+        i += 1;
+    }
+    at
+}
+
+fn put_steps_line(out: &mut [u8], p: Programme) -> usize
+    requires { ⌜ length (stepsLine p) ≤ length (now out) ⌝ }
+    ensures { λ r. ⌜ Put (stepsLine p) (now (out .entry)) (now (out .exit)) r ⌝ }
+{
+    let mut at = put_named(out, b"steps ", p.steps as usize);
+    at += put_named(&mut out[at..], b" ", p.pickups as usize);
+    at + put_line(&mut out[at..], b" ", p.changes as usize)
+}
+
+fn put_results(out: &mut [u8], p: Programme) -> usize
+    requires { ⌜ length (results p) ≤ length (now out) ⌝ }
+    ensures { λ r. ⌜ Put (results p) (now (out .entry)) (now (out .exit)) r ⌝ }
+{
+    let mut at = put_line(out, b"benefit ", p.total as usize);
+    at += put_line(&mut out[at..], b"ceiling ", p.ceiling as usize);
+    at + put_steps_line(&mut out[at..], p)
+}
+
+// The programme of a district of `n` segments.
+pub fn put_listing(out: &mut [u8], p: Programme, n: usize) -> usize
+    requires { ⌜ 2815 ≤ length (now out) ⌝ }
+    ensures { λ r. ⌜ Put (listing p n) (now (out .entry)) (now (out .exit)) r ⌝ }
+{
+    let strategies = p.strategies;
+    let at = put_segment_lines(out, strategies, at_most_64(n));
+    at + put_results(&mut out[at..], p)
+}
+
+fn at_most_64(n: usize) -> usize
+    ensures { λ r. ⌜ r ≡ min n 64 ⌝ }
+{
+    if n < 64 { n } else { 64 }
+}
+
+// The unit's own.
+pub fn put_shown(out: &mut [u8], u: Unit) -> usize
+    requires { ⌜ 2815 ≤ length (now out) ⌝ }
+    ensures { λ r. ⌜ Put (shown u) (now (out .entry)) (now (out .exit)) r ⌝ }
+{
+    let p = u.programme;
+    let d = u.district;
+    put_listing(out, p, d[0])
+}
+
+// ---- the answer to a call
+
+pub fn put_refusal(out: &mut [u8], n: usize) -> usize
+    requires { ⌜ 29 ≤ length (now out) ⌝ }
+    ensures { λ r. ⌜ Put (refusal n) (now (out .entry)) (now (out .exit)) r ⌝ }
+{
+    put_line(out, b"refused ", n)
+}
+
+pub fn put_done(out: &mut [u8], answer: Answer) -> usize
+    requires { ⌜ 29 ≤ length (now out) ⌝ }
+    ensures { λ r. ⌜ Put (done answer) (now (out .entry)) (now (out .exit)) r ⌝ }
+{
+    match answer {
+        Answer::Accepted(_) => put(out, b"ok\n"),
+        Answer::Refused(n) => put_refusal(out, n),
+    }
+}
+
+// Of a load, with the programme.
+pub fn put_planned(out: &mut [u8], answer: Answer, u: Unit) -> usize
+    requires { ⌜ 2815 ≤ length (now out) ⌝ }
+    ensures { λ r. ⌜ Put (planned answer u) (now (out .entry)) (now (out .exit)) r ⌝ }
+{
+    match answer {
+        Answer::Accepted(_) => put_shown(out, u),
+        Answer::Refused(n) => put_refusal(out, n),
+    }
+}
+
+pub fn put_valued(out: &mut [u8], word: &[u8], answer: Answer) -> usize
+    requires { ⌜ length (now word) + 29 ≤ length (now out) ⌝ }
+    ensures { λ r. ⌜ Put (valued (now (word .entry)) answer) (now (out .entry)) (now (out .exit)) r ⌝ }
+{
+    match answer {
+        Answer::Accepted(value) => put_line(out, word, value),
+        Answer::Refused(n) => put_refusal(out, n),
+    }
+}
+
+pub fn put_failed(out: &mut [u8], what: &[u8], path: &[u8]) -> usize
+    requires { ⌜ length (failed (now what) (now path)) ≤ length (now out) ⌝ }
+    ensures { λ r. ⌜ Put (failed (now (what .entry)) (now (path .entry))) (now (out .entry)) (now (out .exit)) r ⌝ }
+{
+    let mut at = put(out, what);
+    at += put(&mut out[at..], path);
+    at + put(&mut out[at..], b"\n")
+}
