@@ -13,4 +13,5 @@ pub mod Lists
 pub mod Demands
 pub mod Results
 pub mod Marked
+pub mod Further
 pub mod Refusals

@@ -2,11 +2,13 @@
 use Prim.Native.Nat.{ℕ}
 use mathlib.Core.Path.{_≡_, refl}
 use mathlib.Core.List.{List, [], _∷_, _++_, map}
-use lib.ListN.{take, set}
+use lib.ListN.{length, take, set, replicate}
+use lib.IntN.{ℤ, pos}
 use Rattle.rules.specs.File.{encode}
-use Rattle.rules.specs.Calls.{barRefusal, limitRefusal, ratingRefusal, exportRefusal, loadRefusal, districtIn}
+use Rattle.rules.specs.Calls.{barRefusal, limitRefusal, ratingRefusal, exportRefusal, loadRefusal, districtIn, Export, exportOf}
 use Rattle.rules.specs.Survey.{deductPoints, blockOf, pointsOf, surveyRefusal, surveyOf}
-use Rattle.rules.specs.Results.{resultOf}
+use Rattle.rules.specs.Lists.{Load, Bar, Unbar, SetLimit, SetRating, ExportTo, Show, unitAfter}
+use Rattle.rules.specs.Results.{Case, shown, resultOf}
 use Rattle.rules.specs.Marked.{card}
 use Rattle.rules.specs.declared.Answer.{Answer}
 use Rattle.rules.specs.declared.Answer.the-variants.{Accepted, Refused}
@@ -77,10 +79,86 @@ calls = refl
 
 unfoldable pub surveys : List Answer
 surveys =
-    surveyOf 6 3 1 0 ∷ surveyOf 8 2 3 2 ∷ surveyOf 7 1 3 3 ∷ surveyOf 1 0 3 0 ∷ surveyOf 7 1 1 0 ∷ surveyOf 6 1 1 1 ∷ surveyOf 9 1 1 1 ∷ surveyOf 1 4 1 0 ∷ surveyOf 1 0 0 0 ∷ []
+    surveyOf 6 3 1 0 ∷ surveyOf 8 2 3 2 ∷ surveyOf 7 1 3 3 ∷ surveyOf 1 0 3 0 ∷ surveyOf 7 1 1 0 ∷ surveyOf 6 1 1 1 ∷ surveyOf 9 1 1 1 ∷ surveyOf 1 4 1 0 ∷ surveyOf 1 0 0 0 ∷ surveyOf 7 3 3 4 ∷ surveyOf 1 1 4 0 ∷ surveyOf 0 1 1 0 ∷ []
 
 pub points :
     surveys
-    ≡ Accepted 7 ∷ Accepted 15 ∷ Accepted 15 ∷ Accepted 0 ∷ Refused 10 ∷ Refused 10 ∷ Refused 10 ∷ Refused 10 ∷ Refused 10 ∷ []
+    ≡ Accepted 7 ∷ Accepted 15 ∷ Accepted 15 ∷ Accepted 0 ∷ Refused 10 ∷ Refused 10 ∷ Refused 10 ∷ Refused 10 ∷ Refused 10 ∷ Refused 10 ∷ Refused 10 ∷ Refused 10 ∷ []
 unfolding surveys deductPoints blockOf pointsOf surveyRefusal surveyOf resultOf
 points = refl
+
+-- ---- the two ends of each range
+
+unfoldable pub ends : List (List ℕ)
+ends =
+    -- counts one too great, and one too small
+    set card 5 12 ∷ set card 6 11 ∷ set card 7 10 ∷ set card 8 5 ∷ set card 9 17
+    ∷ set card 6 0 ∷ set card 7 0 ∷ set card 8 0 ∷ set card 9 0
+    -- the greatest counts: a later record is then not due, or its length is not the one required
+    ∷ set card 4 64 ∷ set card 5 11 ∷ set card 6 10 ∷ set card 7 9 ∷ set card 8 4 ∷ set card 9 16
+    -- limit, greatest rating, requirement, percent
+    ∷ set (set (set (set card 14 255) 15 201) 16 154) 17 59 ∷ set (set (set (set card 14 0) 15 202) 16 154) 17 59
+    ∷ set card 22 50 ∷ set card 22 0
+    ∷ set (set (set card 27 63) 28 66) 29 15 ∷ set (set (set card 27 64) 28 66) 29 15
+    ∷ set card 32 100 ∷ set card 32 101
+    -- overall requirement, minimum rating
+    ∷ set (set card 49 194) 50 1 ∷ set (set card 49 195) 50 1 ∷ set card 51 50 ∷ set card 51 51
+    -- pavement type, indexes, length, width, bars
+    ∷ set card 57 0 ∷ set card 57 2
+    ∷ set card 58 99 ∷ set (set card 58 232) 59 3 ∷ set (set card 58 233) 59 3
+    ∷ set card 60 99 ∷ set (set card 60 232) 61 3 ∷ set (set card 60 233) 61 3
+    ∷ set card 62 0 ∷ set (set card 62 15) 63 39 ∷ set (set card 62 16) 63 39
+    ∷ set card 64 0 ∷ set card 64 200 ∷ set card 64 201 ∷ set card 66 1 ∷ set card 67 20
+    -- high bytes of length and kind; the last record; two mistakes in two records
+    ∷ set card 1 1 ∷ set card 3 1 ∷ set card 83 1 ∷ take 83 card ∷ take 86 card ∷ set (set card 17 255) 20 9 ∷ set (set card 12 9) 4 65
+    ∷ []
+
+pub ranges :
+    map loadRefusal ends
+    ≡ 4 ∷ 4 ∷ 4 ∷ 4 ∷ 4 ∷ 4 ∷ 4 ∷ 4 ∷ 4 ∷ 2 ∷ 2 ∷ 3 ∷ 3 ∷ 2 ∷ 3
+    ∷ 0 ∷ 4 ∷ 0 ∷ 4 ∷ 0 ∷ 4 ∷ 0 ∷ 4 ∷ 0 ∷ 4 ∷ 0 ∷ 4
+    ∷ 4 ∷ 4 ∷ 4 ∷ 0 ∷ 4 ∷ 4 ∷ 0 ∷ 4 ∷ 4 ∷ 0 ∷ 4 ∷ 4 ∷ 0 ∷ 4 ∷ 4 ∷ 0
+    ∷ 3 ∷ 2 ∷ 3 ∷ 1 ∷ 1 ∷ 4 ∷ 4 ∷ []
+unfolding ends card resultOf
+ranges = refl
+
+-- ---- lists of calls, refused ones among them
+
+unfoldable pub lists : List Case
+lists =
+    -- barred twice; barred and unbarred; unbarred what is not barred; refused calls in between; export and show; loaded again
+    shown (Load card ∷ Bar 2 2 ∷ Bar 2 2 ∷ [])
+    ∷ shown (Load card ∷ Bar 2 2 ∷ Unbar 2 2 ∷ [])
+    ∷ shown (Load card ∷ Unbar 2 2 ∷ Unbar 1 1 ∷ [])
+    ∷ shown (Load card ∷ Load [] ∷ Bar 3 1 ∷ SetLimit 2 0 ∷ SetLimit 1 1_000_000_000 ∷ SetRating 1 1 21 ∷ Unbar 1 3 ∷ ExportTo [] ∷ Show ∷ [])
+    ∷ shown (Load card ∷ SetLimit 1 0 ∷ Load card ∷ [])
+    ∷ shown (Load [] ∷ Bar 1 1 ∷ [])
+    ∷ []
+
+unfoldable pub listResults : List (List ℤ)
+listResults =
+    (pos 2 ∷ pos 1 ∷ pos 7_200_000 ∷ pos 7_200_000 ∷ pos 7_200_000 ∷ pos 0 ∷ pos 0 ∷ pos 0 ∷ [])
+    ∷ (pos 2 ∷ pos 1 ∷ pos 7_200_000 ∷ pos 7_200_000 ∷ pos 7_500_170 ∷ pos 1 ∷ pos 0 ∷ pos 0 ∷ [])
+    ∷ (pos 2 ∷ pos 1 ∷ pos 7_200_000 ∷ pos 7_200_000 ∷ pos 7_500_170 ∷ pos 1 ∷ pos 0 ∷ pos 0 ∷ [])
+    ∷ (pos 2 ∷ pos 1 ∷ pos 7_200_000 ∷ pos 7_200_000 ∷ pos 7_500_170 ∷ pos 1 ∷ pos 0 ∷ pos 0 ∷ [])
+    ∷ (pos 2 ∷ pos 1 ∷ pos 7_200_000 ∷ pos 7_200_000 ∷ pos 7_500_170 ∷ pos 1 ∷ pos 0 ∷ pos 0 ∷ [])
+    ∷ (pos 0 ∷ pos 0 ∷ pos 0 ∷ pos 0 ∷ pos 0 ∷ pos 0 ∷ [])
+    ∷ []
+
+pub in-a-row : map resultOf lists ≡ listResults
+unfolding lists listResults card resultOf
+in-a-row = refl
+
+-- three bytes are left over, and keep what they held
+pub buffer : exportOf (unitAfter (Load card ∷ [])) (replicate 90 255) ≡ record { answer = Accepted 87; buffer = card ++ 255 ∷ 255 ∷ 255 ∷ [] }
+unfolding card resultOf
+buffer = refl
+
+pub short : exportOf (unitAfter (Load card ∷ [])) (replicate 86 255) ≡ record { answer = Refused 9; buffer = replicate 86 255 }
+unfolding card resultOf
+short = refl
+
+-- the longest file
+pub longest : length (encode (64 ∷ 11 ∷ 10 ∷ 9 ∷ 4 ∷ 16 ∷ [])) ≡ 3_788
+unfolding resultOf
+longest = refl
