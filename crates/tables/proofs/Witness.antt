@@ -1,16 +1,16 @@
 -- What the functions over tables require can be met: a segment that has its one strategy, which uses some of a resource. Assumes nothing.
-use Prim.Native.Nat.{ℕ, zero, suc, _+_, _-_, _*_, _^_, _≤_, _<_}
+use Prim.Native.Nat.{ℕ, zero, suc, _+_, _-_, _*_, _≤_}
 use mathlib.Core.Path.{_≡_, refl, _∙_}
 use mathlib.Core.List.{List}
 use native.Mathlib.Omega.{arith}
-use lib.Dec.{lit<, lit≤}
-use lib.ListN.{getD, length, set, replicate, length-set}
+use lib.Dec.{lit≤}
+use lib.ListN.{getD, set, replicate}
 use lib.Seq.{getD-set-other}
 use Rattle.base.specs.Over.{sum}
 use Rattle.rules.specs.Phases.{chosenUsage, used}
 use Rattle.laws.proofs.Give.{set-le}
 use Rattle.tables.specs.declared.Size.{Size}
-use Rattle.tables.specs.Arrays.{entry, usageAt, tables, Sound, Chosen, Ready}
+use Rattle.tables.specs.Arrays.{entry, usageAt, Sound, Ready}
 
 -- n numbers: v at place k, else 0
 abbrev only-at : ℕ → ℕ → ℕ → List ℕ
