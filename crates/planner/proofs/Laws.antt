@@ -1,6 +1,7 @@
 -- What filled arrays give the phases and the ceiling. Assumes nothing.
 use Prim.Native.Nat.{ℕ, _≤_, _<_}
 use mathlib.Core.Path.{_≡_, refl, ap}
+use mathlib.Core.Bool.{true, false}
 use mathlib.Core.List.{List}
 use native.Mathlib.Omega.{arith}
 use lib.ListN.{getD}
@@ -8,7 +9,11 @@ use Rattle.rules.specs.District.{District, resourcesOf}
 use Rattle.rules.specs.Table.{Table, tableOf}
 use Rattle.rules.specs.Ceiling.{downShare, ceiling}
 use Rattle.rules.specs.Phases.{total, start, phase1, phase2, phase3}
-use Rattle.rules.specs.Plan.{reduced, filled as filled-by, improved, programmeOf}
+use Rattle.rules.specs.File.{inRange}
+use Rattle.rules.specs.Plan.{reduced, filled as filled-by, improved, programmeOf, noProgramme, planOf}
+use Rattle.rules.specs.declared.Programme.{Programme}
+use Rattle.grammar.proofs.InRanges.{in-ranges}
+use Rattle.theorems.proofs.Promises.{few-steps}
 use Rattle.laws.specs.Tables.{FitAlone, OfCandidates}
 use Rattle.laws.proofs.Steps.{start-allowed}
 use Rattle.grammar.specs.Ranges.{Ranges}
@@ -79,3 +84,21 @@ together t c₀ c₁ c₂ c₃ m₁ m₂ m₃ v₂ v₃ x e₀ e₁ f₁ e₂ f�
 -- the start is a programme of candidates
 pub start-held : (t : Table) → FitAlone t → {c : List ℕ} → c ≡ start t → OfCandidates t c
 start-held t fit e = rw e (start-allowed t (fit .segments))
+
+-- ---- the plan of a district in range, and of any other value
+
+abbrev Planned : District → Programme → Type 0
+Planned d p = (p ≡ planOf d) × (p .steps ≤ 704)
+
+pub planned : (d : District) {p : Programme} → inRange d ≡ true → p ≡ programmeOf (tableOf d) → Planned d p
+unfolding planOf
+planned d {p} q e =
+    let ranges = in-ranges d q in
+    let few : p .steps ≤ 704 = rw e (few-steps d (ranges .segments) (ranges .strategies)) in
+    (rw q e, few)
+
+pub unplanned : (d : District) {p : Programme} → inRange d ≡ false → p ≡ noProgramme → Planned d p
+unfolding planOf noProgramme
+unplanned d {p} q e =
+    let few : p .steps ≤ 704 = rw e (omega arith) in
+    (rw q e, few)

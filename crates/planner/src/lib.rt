@@ -1,6 +1,7 @@
 // The plan of a district: its tables filled once, the three phases one after another, and the ceiling.
 ghost use mathlib.Core.Bool.{true};
 ghost use mathlib.Core.Path.{_≡_};
+ghost use Prim.Native.Nat.{_≤_};
 ghost use Rattle.fill.specs.Filled.{Filled};
 ghost use Rattle.phase1.specs.Reduce.{Shares};
 ghost use Rattle.laws.specs.Tables.{FitAlone};
@@ -84,7 +85,8 @@ fn no_programme() -> Programme
 
 // The plan of any value of the type: a district out of the file's ranges has no programme.
 pub fn plan(d: District) -> Programme
-    ensures { λ r. ⌜ r ≡ planOf d ⌝ }
+    ensures same { λ r. ⌜ r ≡ planOf d ⌝ }
+    ensures few { λ r. ⌜ r .steps ≤ 704 ⌝ }
 {
     if file::in_range(d) {
         return programme_of(&d);

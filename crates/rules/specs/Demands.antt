@@ -57,6 +57,9 @@ pub record PointsSettled (code degree extent seal : ℕ) : Type 0 where
 abbrev pub EveryAnswer : Type 0
 EveryAnswer = (u : Unit) (c : Call) → Settled u c
 
+abbrev pub EveryPoints : Type 0
+EveryPoints = (code degree extent seal : ℕ) → PointsSettled code degree extent seal
+
 -- ---- Demand 2, the rules exactly
 
 -- phase 1 ends when every limit holds, and phases 2 and 3 when there is nothing more to do: none because its bound is used up

@@ -12,7 +12,7 @@ use Rattle.rules.specs.District.{District}
 use Rattle.rules.specs.Answers.{unless, answerOf, accepting}
 use Rattle.rules.specs.Calls.{unitOf, answered, loadOf, barOf, unbarOf, setLimitOf, setRatingOf, exported, exportOf}
 use Rattle.rules.specs.Lists.{Call, Load, Bar, Unbar, SetLimit, SetRating, ExportTo, Show, refusalOf, altered, Outcome, outcomeOf, lentTo, replied, written}
-use Rattle.rules.specs.Demands.{returned, PointsSettled, EveryAnswer}
+use Rattle.rules.specs.Demands.{returned, EveryAnswer, EveryPoints}
 use Rattle.rules.specs.Survey.{blockOf, pointsOf, surveyRefusal, surveyOf}
 use Rattle.rules.specs.declared.Unit.{Unit}
 use Rattle.rules.specs.declared.Answer.the-variants.{Accepted, Refused}
@@ -70,7 +70,7 @@ settled u Show = record { accepted = λ e. refl; held = λ e. refl; refused = λ
 
 -- survey points
 
-pub points-settled : (code degree extent seal : ℕ) → PointsSettled code degree extent seal
+pub points-settled : EveryPoints
 unfolding surveyOf surveyRefusal answerOf
 points-settled code degree extent seal =
     record {

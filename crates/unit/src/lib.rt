@@ -2,7 +2,7 @@
 // its contract is an equality with the rules, refusals included, and has no `requires`.
 ghost use mathlib.Core.Path.{_≡_};
 ghost use Rattle.rules.specs.Calls.{freshUnit, unitOf, answered, loadOf, barOf, unbarOf, setLimitOf, setRatingOf, exportOf, showOf};
-ghost use Rattle.rules.specs.Demands.{EveryAnswer, TheRules, EveryFile, OneClaim};
+ghost use Rattle.rules.specs.Demands.{EveryAnswer, EveryPoints, TheRules, EveryFile, OneClaim};
 use rules::Answer;
 use rules::District;
 use rules::Programme;
@@ -41,6 +41,7 @@ fn conclude(u: Unit, refusal: usize, d: District) -> Reply
 pub fn fresh() -> Unit
     ensures start { λ r. ⌜ r ≡ freshUnit ⌝ }
     ensures settled { λ _. ⌜ EveryAnswer ⌝ }
+    ensures points { λ _. ⌜ EveryPoints ⌝ }
     ensures exact { λ _. ⌜ TheRules ⌝ }
     ensures files { λ _. ⌜ EveryFile ⌝ }
     ensures claim { λ _. ⌜ OneClaim ⌝ }

@@ -1,7 +1,7 @@
 -- `planner::plan` meets its contract. Assumes nothing.
 use borrow.Author.Needs.{needs}
 use mathlib.Core.Path.{sym, _∙_}
-use Rattle.rules.specs.Plan.{planOf}
+use Rattle.planner.proofs.Laws.{planned, unplanned}
 use Rattle.planner.proofs.plan.Statement.{statement}
 use Rattle.planner.proofs.plan.Tie as tie
 
@@ -12,15 +12,13 @@ programme-of-requires : tie.Need-programme-of-requires
 programme-of-requires c κs = sym (c .before .before .in-range .ensures) ∙ c .before .if1 .taken
 
 returns : tie.Need-returns
-unfolding planOf
-returns c = rw (sym (c .before .before .before .in-range .ensures) ∙ c .before .before .if1 .taken) (c .programme-of .ensures)
+returns c = planned _ (sym (c .before .before .before .in-range .ensures) ∙ c .before .before .if1 .taken) (c .programme-of .ensures)
 
 no-programme-requires : tie.Need-no-programme-requires
 no-programme-requires c κs = search needs
 
 returns-2 : tie.Need-returns-2
-unfolding planOf
-returns-2 c = rw (sym (c .before .before .in-range .ensures) ∙ c .before .if1 .left) (c .no-programme .ensures)
+returns-2 c = unplanned _ (sym (c .before .before .in-range .ensures) ∙ c .before .if1 .left) (c .no-programme .ensures)
 
 pub plan-spec : {M : Type 1} → statement M
 plan-spec =

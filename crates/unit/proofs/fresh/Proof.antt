@@ -2,7 +2,7 @@
 use borrow.Author.Needs.{needs}
 use Rattle.rules.specs.Calls.{freshUnit}
 use Rattle.file.proofs.Forth.{byte-for-byte}
-use Rattle.theorems.proofs.Settled.{settled}
+use Rattle.theorems.proofs.Settled.{settled, points-settled}
 use Rattle.unit.proofs.Demands.{the-rules, one-claim}
 use Rattle.unit.proofs.fresh.Statement.{statement}
 use Rattle.unit.proofs.fresh.Tie as tie
@@ -15,7 +15,7 @@ hold-requires c κs = search needs
 
 returns : tie.Need-returns
 unfolding freshUnit
-returns c = (cc, (settled, (the-rules, (byte-for-byte, one-claim))))
+returns c = (cc, (settled, (points-settled, (the-rules, (byte-for-byte, one-claim)))))
 
 pub fresh-spec : {M : Type 1} → statement M
 fresh-spec = tie.close (tie.spec fresh-district-requires hold-requires returns)
