@@ -1,0 +1,58 @@
+-- `command::first_length` meets its contract. Assumes nothing.
+use Prim.Native.Nat.{ℕ, _+_, _-_, _≤_}
+use mathlib.Core.Path.{_≡_, refl, sym, ap, _∙_}
+use mathlib.Core.List.{List}
+use native.Mathlib.Omega.{arith}
+use lib.ListN.{length, drop, length-drop}
+use lib.Seq.{drop-drop}
+use Rattle.base.proofs.Lists.{whole-tail}
+use Rattle.command.specs.Reading.{wordOf}
+use Rattle.command.proofs.Laws.{after-none, after-some, word-dropped, word-fits}
+use borrow.Author.Needs.{needs}
+use Rattle.command.proofs.first_length.Statement.{statement}
+use Rattle.command.proofs.first_length.Tie as tie
+
+returns : tie.Need-returns
+returns c = (omega arith, after-none _ (c .if1 .taken))
+
+sub-word-length : tie.Need-sub-word-length
+sub-word-length c = search needs
+
+part-word-length-start : tie.Need-part-word-length-start
+part-word-length-start c = search needs
+
+part-word-length-end : tie.Need-part-word-length-end
+part-word-length-end c = search needs
+
+word-length-requires : tie.Need-word-length-requires
+word-length-requires c κs = search needs
+
+-- the word after the first byte
+size : (c : tie.After-word-length) → c .word-length .result ≡ length (wordOf (drop 1 (c .before .before .before .before .args .bytes .now)))
+size c = c .word-length .ensures ∙ ap (λ (l : List ℕ). length (wordOf l)) (whole-tail (c .before .before .before .before .args .bytes .now) 1)
+
+fits : (c : tie.After-word-length) → 1 + c .word-length .result ≤ length (c .before .before .before .before .args .bytes .now)
+fits c =
+    let bs = c .before .before .before .before .args .bytes .now in
+    omega (arith, size c, word-fits (drop 1 bs), length-drop 1 bs, c .before .before .if1 .left)
+
+add-result : tie.Need-add-result
+add-result c = omega (arith, fits c, c .before .before .before .before .good)
+
+returns-2 : tie.Need-returns-2
+returns-2 c =
+    let bs = c .before .before .before .before .args .bytes .now in
+    let rest = sym (drop-drop (c .word-length .result) 1 bs) ∙ ap (λ (n : ℕ). drop n (drop 1 bs)) (size c) ∙ word-dropped (drop 1 bs) in
+    (fits c, rest ∙ sym (after-some bs (omega arith)))
+
+pub first-length-spec : {M : Type 1} → statement M
+first-length-spec =
+    tie.close
+    (tie.spec
+    returns
+    sub-word-length
+    part-word-length-start
+    part-word-length-end
+    word-length-requires
+    add-result
+    returns-2)

@@ -1,0 +1,69 @@
+-- `command::first_number` meets its contract. Assumes nothing.
+use Prim.Native.Nat.{ℕ, _-_}
+use mathlib.Core.List.{List}
+use mathlib.Core.Path.{_≡_, refl, sym, ap, _∙_}
+use native.Mathlib.Omega.{arith}
+use lib.ListN.{length, take, drop}
+use Rattle.base.proofs.Lists.{whole-tail}
+use Rattle.command.specs.Reading.{wordOf, numberIn, numberOf}
+use Rattle.command.proofs.Laws.{first-none, first-other, first-blank, word-taken}
+use borrow.Author.Needs.{needs}
+use Rattle.command.proofs.first_number.Statement.{statement}
+use Rattle.command.proofs.first_number.Tie as tie
+
+returns : tie.Need-returns
+unfolding numberOf
+returns c = sym (first-none _ (c .if1 .taken))
+
+shared-slice-read-if2 : tie.Need-shared-slice-read-if2
+shared-slice-read-if2 c = search needs
+
+returns-2 : tie.Need-returns-2
+unfolding numberOf
+returns-2 c = sym (first-other _ (omega arith) (c .if2 .taken))
+
+sub-rest : tie.Need-sub-rest
+sub-rest c = search needs
+
+part-rest-start : tie.Need-part-rest-start
+part-rest-start c = search needs
+
+part-rest-end : tie.Need-part-rest-end
+part-rest-end c = search needs
+
+word-length-requires : tie.Need-word-length-requires
+word-length-requires c κs = search needs
+
+-- the word that was found, in what follows the blank
+word : (c : tie.After-word-length) → let bs = c .before .before .before .before .before .before .args .bytes .now in take (c .word-length .result) (take (length bs - 1) (drop 1 bs)) ≡ wordOf (take (length bs - 1) (drop 1 bs))
+word c =
+    let bs = c .before .before .before .before .before .before .args .bytes .now in
+    let rest = take (length bs - 1) (drop 1 bs) in
+    ap (λ (n : ℕ). take n rest) (c .word-length .ensures) ∙ word-taken rest
+
+slice-aggregate-read-number : tie.Need-slice-aggregate-read-number
+slice-aggregate-read-number c = c .before .word-length .ensures ∙ sym (ap length (word (c .before)))
+
+read-number-requires : tie.Need-read-number-requires
+read-number-requires c κs = search needs
+
+returns-3 : tie.Need-returns-3
+returns-3 c =
+    let bs = c .before .before .before .before .before .before .before .before .args .bytes .now in
+    let e = word (c .before .before) ∙ ap wordOf (whole-tail bs 1) in
+    c .read-number .ensures ∙ ap numberIn e ∙ sym (first-blank bs (omega arith) (c .before .before .before .before .if2 .left))
+
+pub first-number-spec : {M : Type 1} → statement M
+first-number-spec =
+    tie.close
+    (tie.spec
+    returns
+    shared-slice-read-if2
+    returns-2
+    sub-rest
+    part-rest-start
+    part-rest-end
+    word-length-requires
+    slice-aggregate-read-number
+    read-number-requires
+    returns-3)

@@ -1,0 +1,145 @@
+-- `command::read_arguments` meets its contract: the numbers read and those to come are all. Assumes nothing.
+use Prim.Native.Nat.{ℕ, suc, _+_, _-_, _≤_, _<_}
+use mathlib.Core.List.{List, [], _∷_, _++_}
+use mathlib.Core.Option.{some}
+use mathlib.Core.Path.{_≡_, refl, sym, ap, _∙_}
+use native.Mathlib.Nat.{sub-zero}
+use native.Mathlib.Numerals.{add-one}
+use native.Mathlib.Omega.{arith}
+use lib.ListN.{length, take, drop, set, length-set, length-drop}
+use lib.Seq.{take-suc-set, drop-drop}
+use borrow.Author.Needs.{needs}
+use Rattle.base.proofs.Lists.{whole-tail}
+use Rattle.command.specs.Reading.{firstNumber, afterNumber, arguments, numberOf, numbersOf}
+use Rattle.command.proofs.Laws.{prefixed, prefixed-none, arguments-more, arguments-stop, arguments-end}
+use Rattle.command.proofs.read_arguments.Statement.{statement}
+use Rattle.command.proofs.read_arguments.Tie as tie
+
+abbrev Inv-loop : tie.InvT-loop
+Inv-loop line from n numbers₀ at₀ i₀ numbers at i = (i ≤ n) × (at ≤ length line) × (length numbers ≡ 4) × (arguments n (drop from line) ≡ prefixed (take i numbers) (arguments (n - i) (drop at line)))
+
+abbrev μ-loop : tie.MeasureT-loop
+μ-loop line from n numbers₀ at₀ i₀ numbers at i = n - i
+
+loop-holds : tie.Need-loop-holds Inv-loop μ-loop
+loop-holds c = (omega arith, omega (arith, c .before .pre), refl, rw sub-zero (sym (prefixed-none _)))
+
+sub-first-number : tie.Need-sub-first-number Inv-loop μ-loop
+sub-first-number c = c .before .loop .inv .1
+
+part-first-number-start : tie.Need-part-first-number-start Inv-loop μ-loop
+part-first-number-start c = omega (arith, c .before .loop .inv .1)
+
+part-first-number-end : tie.Need-part-first-number-end Inv-loop μ-loop
+part-first-number-end c = search needs
+
+first-number-requires : tie.Need-first-number-requires Inv-loop μ-loop
+first-number-requires c κs = tt
+
+enum-known-first : tie.Need-enum-known-first Inv-loop μ-loop
+enum-known-first c = search needs
+
+mul-numbers : tie.Need-mul-numbers Inv-loop μ-loop
+mul-numbers c = search needs
+
+array-write-numbers : tie.Need-array-write-numbers Inv-loop μ-loop
+array-write-numbers c = search needs
+
+sub-first-length : tie.Need-sub-first-length Inv-loop μ-loop
+sub-first-length c = c .before .before .before .before .before .before .loop .inv .1
+
+part-first-length-start : tie.Need-part-first-length-start Inv-loop μ-loop
+part-first-length-start c = omega (arith, c .before .before .before .before .before .before .loop .inv .1)
+
+part-first-length-end : tie.Need-part-first-length-end Inv-loop μ-loop
+part-first-length-end c = search needs
+
+first-length-requires : tie.Need-first-length-requires Inv-loop μ-loop
+first-length-requires c κs = tt
+
+first-at : (c : tie.After-first-number Inv-loop μ-loop) → let l = c .before .before .before .loop in numberOf (c .first-number .result) ≡ firstNumber (drop (l .at) (c .before .before .before .before .before .args .line .now))
+first-at c = c .first-number .ensures ∙ ap firstNumber (whole-tail (c .before .before .before .before .before .args .line .now) (c .before .before .before .loop .at))
+
+-- a number is still to come
+left : (c : tie.In-loop Inv-loop μ-loop) → let l = c .before .loop in let a = c .before .before .before .args in arguments (a .n) (drop (a .from) (a .line .now)) ≡ prefixed (take (l .i) (l .numbers)) (arguments (suc (a .n - (l .i + 1))) (drop (l .at) (a .line .now)))
+left c =
+    let l = c .before .loop in
+    let a = c .before .before .before .args in
+    let one : a .n - l .i ≡ suc (a .n - (l .i + 1)) = omega arith in
+    rw one at (l .inv .3)
+
+fits : (c : tie.After-first-length Inv-loop μ-loop) → c .before .before .before .before .before .before .before .before .loop .at + c .first-length .result ≤ length (c .before .before .before .before .before .before .before .before .before .before .args .line .now)
+fits c =
+    let s = c .before .before .before .before .before .before .before .before .before .before .args .line .now in
+    let at = c .before .before .before .before .before .before .before .before .loop .at in
+    omega (arith, c .before .before .before .before .before .before .before .before .loop .inv .1, c .first-length .ensures .0, ap length (whole-tail s at), length-drop at s)
+
+add-at : tie.Need-add-at Inv-loop μ-loop
+add-at c = omega (arith, fits c, c .before .before .before .before .before .before .before .before .before .before .good)
+
+add-i : tie.Need-add-i Inv-loop μ-loop
+add-i c = search needs
+
+loop-less : tie.Need-loop-less Inv-loop μ-loop
+loop-less c = search needs
+
+loop-again : tie.Need-loop-again Inv-loop μ-loop
+unfolding numberOf
+loop-again c =
+    let s = c .before .before .before .before .before .before .before .before .before .before .args .line .now in
+    let n = c .before .before .before .before .before .before .before .before .before .before .args .n in
+    let l = c .before .before .before .before .before .before .before .before .loop in
+    let v = c .before .before .before .first .given .0 .0 in
+    let r = c .first-length .result in
+    let read : firstNumber (drop (l .at) s) ≡ some v = sym (first-at (c .before .before .before .before .before)) ∙ ap numberOf (c .before .before .before .first .given .1) in
+    let rest : afterNumber (drop (l .at) s) ≡ drop (l .at + r) s = sym (rw (whole-tail s (l .at)) at (c .first-length .ensures .1)) ∙ drop-drop r (l .at) s in
+    let kept : take (l .i + 1) (set (l .numbers) (l .i) v) ≡ take (l .i) (l .numbers) ++ (v ∷ []) = rw (add-one (l .i)) (take-suc-set (l .numbers) (l .i) v (omega (arith, l .inv .2))) in
+    let more = left (c .before .before .before .before .before .before .before) ∙ arguments-more (n - (l .i + 1)) (drop (l .at) s) v (take (l .i) (l .numbers)) read in
+    (omega arith, fits c, length-set (l .numbers) (l .i) v ∙ l .inv .2, rw (kept, sym rest) more)
+
+enum-told : tie.Need-enum-told Inv-loop μ-loop
+enum-told c = search needs
+
+returns : tie.Need-returns Inv-loop μ-loop
+unfolding numberOf numbersOf
+returns c =
+    let l = c .before .before .before .before .before .loop in
+    let a = c .before .before .before .before .before .before .before .args in
+    let none-read = sym (first-at (c .before .before)) ∙ ap numberOf (c .enum-told .given .1) in
+    sym (left (c .before .before .before .before) ∙ arguments-stop (a .n - (l .i + 1)) (drop (l .at) (a .line .now)) (take (l .i) (l .numbers)) none-read)
+
+returns-2 : tie.Need-returns-2 Inv-loop μ-loop
+unfolding numbersOf
+returns-2 c =
+    let l = c .before .loop in
+    let a = c .before .before .before .args in
+    let none : a .n - l .i ≡ 0 = omega arith in
+    let all : l .i ≡ a .n = omega arith in
+    let end = rw none at (l .inv .3) ∙ arguments-end (a .line .now) (l .at) (take (l .i) (l .numbers)) in
+    sym (rw all at end)
+
+pub read-arguments-spec : {M : Type 1} → statement M
+read-arguments-spec =
+    tie.close
+    (tie.spec
+    Inv-loop
+    μ-loop
+    loop-holds
+    sub-first-number
+    part-first-number-start
+    part-first-number-end
+    first-number-requires
+    enum-known-first
+    mul-numbers
+    array-write-numbers
+    sub-first-length
+    part-first-length-start
+    part-first-length-end
+    first-length-requires
+    add-at
+    add-i
+    loop-less
+    loop-again
+    enum-told
+    returns
+    returns-2)
