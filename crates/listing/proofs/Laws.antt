@@ -1,16 +1,14 @@
--- How many bytes a listing has at most. Assumes nothing.
+-- How many bytes a listing has at most, and that what was put is within its buffer. Assumes nothing.
 use Prim.Native.Nat.{ℕ, zero, suc, _+_, _-_, _*_, _≤_, min}
 use mathlib.Core.List.{List, _++_}
+use mathlib.Core.Path.{_≡_, sym, ap}
 use native.Mathlib.Omega.{arith}
-use lib.ListN.{length, getD, length-append}
-use Rattle.base.specs.Text.{text, decimal}
+use lib.ListN.{length, getD, take, drop, length-append}
+use lib.Seq.{length-take-le}
+use Rattle.base.specs.Text.{text, decimal, Put}
 use Rattle.base.proofs.Text.{decimal-few}
-use Rattle.rules.specs.District.{segmentsOf}
-use Rattle.rules.specs.declared.Answer.{Answer}
-use Rattle.rules.specs.declared.Answer.the-variants.{Accepted, Refused}
 use Rattle.rules.specs.declared.Programme.{Programme}
-use Rattle.rules.specs.declared.Unit.{Unit}
-use Rattle.listing.specs.Listing.{named, line, segmentLine, segmentLines, stepsLine, results, listing, shown, refusal, done, planned, valued}
+use Rattle.listing.specs.Listing.{named, line, segmentLine, segmentLines, stepsLine, results, listing, refusal}
 
 pub named-few : (word : List ℕ) (n : ℕ) → length (named word n) ≤ length word + 20
 unfolding named
@@ -54,21 +52,10 @@ pub listing-few : (p : Programme) (n : ℕ) → length (listing p n) ≤ 2815
 unfolding listing
 listing-few p n = omega (arith, length-append (segmentLines (min n 64) 1 (p .strategies)) (results p), segments-few (min n 64) 1 (p .strategies), results-few p)
 
-pub shown-few : (u : Unit) → length (shown u) ≤ 2815
-unfolding shown
-shown-few u = listing-few (u .programme) (segmentsOf (u .district))
+-- ---- what was put is within the buffer, so that it can be lent as a part
 
-pub planned-few : (answer : Answer) (u : Unit) → length (planned answer u) ≤ 2815
-unfolding planned
-planned-few (Accepted value) u = shown-few u
-planned-few (Refused n) u = omega (arith, refusal-few n)
+pub put-within : {bs old new : List ℕ} {n : ℕ} → Put bs old new n → n ≤ length new
+put-within {bs} {old} {new} p = omega (arith, p .count, ap length (p .bytes), length-append bs (drop (length bs) old))
 
-pub done-few : (answer : Answer) → length (done answer) ≤ 29
-unfolding done text
-done-few (Accepted value) = omega arith
-done-few (Refused n) = refusal-few n
-
-pub valued-few : (word : List ℕ) (answer : Answer) → length (valued word answer) ≤ length word + 29
-unfolding valued
-valued-few word (Accepted value) = omega (arith, line-few word value)
-valued-few word (Refused n) = omega (arith, refusal-few n)
+pub put-part : {bs old new : List ℕ} {n : ℕ} → Put bs old new n → n ≡ length (take n new)
+put-part {bs} {old} {new} {n} p = sym (length-take-le n new (put-within p))

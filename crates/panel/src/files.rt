@@ -8,20 +8,30 @@ pub struct Got {
     pub count: usize,
 }
 
+fn read_some(fd: i32, file: &mut [u8]) -> Got
+    ensures { λ r. ⌜ Counts (r .count) (now (file .exit)) ⌝ }
+{
+    let got = libc::read(fd, file);
+    Got {
+        failed: got < 0,
+        count: io::count(got, file),
+    }
+}
+
 // The file's first bytes, until the buffer is full or the file ends.
 pub fn read_all(fd: i32, file: &mut [u8]) -> Got
     ensures { λ r. ⌜ Counts (r .count) (now (file .exit)) ⌝ }
 {
     let mut count: usize = 0;
     while count < file.len() {
-        let got = libc::read(fd, &mut file[count..]);
-        if got < 0 {
+        let got = read_some(fd, &mut file[count..]);
+        let more = got.count;
+        if got.failed {
             return Got {
                 failed: true,
                 count,
             };
         }
-        let more = io::count(got, &file[count..]);
         if more == 0 {
             return Got {
                 failed: false,

@@ -5,8 +5,9 @@ mod files;
 ghost use Prim.Native.Nat.{_≤_};
 ghost use mathlib.Core.Path.{_≡_};
 ghost use lib.ListN.{length};
-ghost use Rattle.base.specs.Text.{Put, text};
-ghost use Rattle.listing.specs.Listing.{done};
+ghost use Rattle.base.specs.Text.{Put};
+ghost use Rattle.io.specs.Counts.{Counts};
+ghost use Rattle.listing.specs.Listing.{done, failed as Listing·failed};
 ghost use Rattle.panel.specs.Console.{said, after};
 use command::Command;
 use libc::STDIN_FILENO;
@@ -33,6 +34,12 @@ fn conclude(reply: Reply, out: &mut [u8]) -> Said
     Said { unit, length }
 }
 
+fn silent(u: Unit) -> Said
+    ensures { λ r. ⌜ (r .unit ≡ u) × (r .length ≡ 0) ⌝ }
+{
+    Said { unit: u, length: 0 }
+}
+
 fn obey(u: Unit, command: Command, out: &mut [u8]) -> Said
     requires { ⌜ 2815 ≤ length (now out) ⌝ }
     ensures { λ r. ⌜ (r .unit ≡ after u command) × Put (said u command) (now (out .entry)) (now (out .exit)) (r .length) ⌝ }
@@ -54,20 +61,28 @@ fn obey(u: Unit, command: Command, out: &mut [u8]) -> Said
             unit: u,
             length: listing::put(out, b"unknown command\n"),
         },
-        Command::Nothing | Command::Load | Command::Export => Said { unit: u, length: 0 },
+        Command::Nothing => silent(u),
+        Command::Load => silent(u),
+        Command::Export => silent(u),
     }
 }
 
 // ---- commands with a file
 
-fn failed(u: Unit, what: &[u8], path: &[u8], out: &mut [u8]) -> Said {
+fn failed(u: Unit, what: &[u8], path: &[u8], out: &mut [u8]) -> Said
+    requires { ⌜ (length (now what) ≤ 13) × (length (now path) ≤ 513) × (2815 ≤ length (now out)) ⌝ }
+    ensures { λ r. ⌜ (r .unit ≡ u) × Put (Listing·failed (now (what .entry)) (now (path .entry))) (now (out .entry)) (now (out .exit)) (r .length) ⌝ }
+{
     Said {
         unit: u,
         length: listing::put_failed(out, what, path),
     }
 }
 
-fn load(u: Unit, path: &[u8], out: &mut [u8]) -> Said {
+fn load(u: Unit, path: &[u8], out: &mut [u8]) -> Said
+    requires { ⌜ (length (now path) ≤ 513) × (2815 ≤ length (now out)) ⌝ }
+    ensures { λ r. ⌜ Counts (r .length) (now (out .exit)) ⌝ }
+{
     let fd = os::open_read(path);
     if fd < 0 {
         return failed(u, b"cannot open ", path, out);
@@ -82,7 +97,10 @@ fn load(u: Unit, path: &[u8], out: &mut [u8]) -> Said {
     conclude(unit::load(u, &file[..n]), out)
 }
 
-fn export(u: Unit, path: &[u8], out: &mut [u8]) -> Said {
+fn export(u: Unit, path: &[u8], out: &mut [u8]) -> Said
+    requires { ⌜ (length (now path) ≤ 513) × (2815 ≤ length (now out)) ⌝ }
+    ensures { λ r. ⌜ (r .unit ≡ u) × Counts (r .length) (now (out .exit)) ⌝ }
+{
     let mut file = [0u8; 4096];
     let answer = unit::export(u, &mut file);
     if let Answer::Accepted(n) = answer {
@@ -98,30 +116,45 @@ fn export(u: Unit, path: &[u8], out: &mut [u8]) -> Said {
 
 // ---- lines
 
-fn answer(u: Unit, line: &[u8]) -> Unit {
-    let mut out = [0u8; 2815];
+fn respond(u: Unit, line: &[u8], out: &mut [u8]) -> Said
+    requires { ⌜ (length (now line) ≤ 513) × (2815 ≤ length (now out)) ⌝ }
+    ensures { λ r. ⌜ Counts (r .length) (now (out .exit)) ⌝ }
+{
     let command = command::parse(line);
-    let said = match command {
-        Command::Load => load(u, &line[5..], &mut out),
-        Command::Export => export(u, &line[7..], &mut out),
-        _ => obey(u, command, &mut out),
-    };
+    match command {
+        Command::Load => load(u, &line[5..], out),
+        Command::Export => export(u, &line[7..], out),
+        _ => obey(u, command, out),
+    }
+}
+
+fn answer(u: Unit, line: &[u8]) -> Unit
+    requires { ⌜ length (now line) ≤ 513 ⌝ }
+{
+    let mut out = [0u8; 2815];
+    let said = respond(u, line, &mut out);
     let n = said.length;
     io::write_all(STDOUT_FILENO, &out[..n]);
     said.unit
 }
 
 // Of a line only the first 513 bytes are kept: enough to know that it is too long.
-fn keep(line: &mut [u8], length: usize, byte: u8) -> usize {
-    if length < line.len() {
-        line[length] = byte;
-        return length + 1;
+fn keep(line: &mut [u8], kept: usize, byte: u8) -> usize
+    requires { ⌜ kept ≤ length (now line) ⌝ }
+    ensures { λ r. ⌜ r ≤ length (now (line .exit)) ⌝ }
+{
+    if kept < line.len() {
+        line[kept] = byte;
+        return kept + 1;
     }
-    length
+    kept
 }
 
 // What was read goes to the line, and each line that ends is answered.
-fn feed(u: Unit, line: &mut [u8], kept: usize, bytes: &[u8]) -> Said {
+fn feed(u: Unit, line: &mut [u8], kept: usize, bytes: &[u8]) -> Said
+    requires { ⌜ (kept ≤ length (now line)) × (length (now line) ≤ 513) ⌝ }
+    ensures { λ r. ⌜ r .length ≤ length (now (line .exit)) ⌝ }
+{
     let mut unit = u;
     let mut length = kept;
     let mut i = 0;

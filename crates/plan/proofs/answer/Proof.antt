@@ -1,0 +1,32 @@
+-- `plan::answer` meets its contract. Assumes nothing.
+use borrow.Author.Needs.{needs}
+use mathlib.Core.Path.{_≡_, ap, _∙_}
+use Rattle.rules.specs.Calls.{freshUnit, loadOf}
+use Rattle.rules.specs.declared.Unit.{Unit}
+use Rattle.plan.specs.Printed.{printed, printedAfter}
+use Rattle.plan.proofs.answer.Statement.{statement}
+use Rattle.plan.proofs.answer.Tie as tie
+
+fresh-requires : tie.Need-fresh-requires
+fresh-requires c κs = search needs
+
+load-requires : tie.Need-load-requires
+load-requires c κs = search needs
+
+put-planned-requires : tie.Need-put-planned-requires
+put-planned-requires c κs = search needs
+
+same-length : tie.Need-same-length
+same-length c = search needs
+
+returns : tie.Need-returns
+unfolding printed printedAfter
+returns c =
+    let load = c .before .before .before .before .before in
+    let file = load .before .before .before .before .args .file .now in
+    let e : load .load .result ≡ loadOf freshUnit file = load .load .ensures ∙ ap (λ (u : Unit). loadOf u file) (load .before .fresh .ensures .0) in
+    rw (← e) (c .before .before .put-planned .ensures)
+
+pub answer-spec : {M : Type 1} → statement M
+answer-spec =
+    tie.close (tie.spec fresh-requires load-requires put-planned-requires same-length returns)
