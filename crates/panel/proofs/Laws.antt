@@ -1,0 +1,36 @@
+-- How long an exported file and a complaint are at most. Assumes nothing.
+use Prim.Native.Nat.{ℕ, _+_, _≤_}
+use mathlib.Core.Bool.{Bool, true, false}
+use mathlib.Core.List.{List, _++_}
+use mathlib.Core.Path.{_≡_, refl, sym, ap, _∙_}
+use native.Mathlib.Omega.{arith}
+use lib.Dec.{leb}
+use lib.ListN.{length, length-append}
+use borrow.Author.Tests.{leb-true}
+use Rattle.base.specs.Text.{text}
+use Rattle.listing.specs.Listing.{failed}
+use Rattle.rules.specs.Answers.{unless, answerOf}
+use Rattle.rules.specs.Calls.{Export, exportRefusal, exported, exportOf}
+use Rattle.rules.specs.File.{encode}
+use Rattle.rules.specs.declared.Answer.{Answer}
+use Rattle.rules.specs.declared.Answer.the-variants.{Accepted}
+use Rattle.rules.specs.declared.Unit.{Unit}
+
+-- an export that is accepted has room
+accepted-fits : (size room n : ℕ) → answerOf (unless (leb size room) 9 0) size ≡ Accepted n → n ≤ room
+unfolding answerOf
+accepted-fits size room n e = go (leb size room) refl e
+  where
+    go : (t : Bool) → leb size room ≡ t → answerOf (unless t 9 0) size ≡ Accepted n → n ≤ room
+    go true l e =
+        let same : size ≡ n = cc in
+        omega (arith, leb-true size room l)
+    go false l e = let z : _≡_ {A = ℕ} 0 1 = cc in absurd (omega arith)
+
+pub export-fits : (u : Unit) (old : List ℕ) (answer : Answer) (new : List ℕ) (n : ℕ) → record { answer = answer; buffer = new } ≡ exportOf u old → answer ≡ Accepted n → n ≤ length old
+unfolding exportOf exported exportRefusal
+export-fits u old answer new n e a = accepted-fits (length (encode (u .district))) (length old) n (sym (ap (λ (x : Export). x .answer) e) ∙ a)
+
+pub failed-length : (what path : List ℕ) → length (failed what path) ≡ length what + length path + 1
+unfolding failed text
+failed-length what path = omega (arith, length-append what (path ++ text "\n"), length-append path (text "\n"))

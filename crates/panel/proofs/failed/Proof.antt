@@ -1,0 +1,18 @@
+-- `panel::failed` meets its contract. Assumes nothing.
+use native.Mathlib.Omega.{arith}
+use Rattle.panel.proofs.Laws.{failed-length}
+use borrow.Author.Needs.{needs}
+use Rattle.panel.proofs.failed.Statement.{statement}
+use Rattle.panel.proofs.failed.Tie as tie
+
+put-failed-requires : tie.Need-put-failed-requires
+put-failed-requires c κs = let a = c .before .before .before .before .args in omega (arith, failed-length (a .what .now) (a .path .now))
+
+same-length : tie.Need-same-length
+same-length c = search needs
+
+returns : tie.Need-returns
+returns c = search needs
+
+pub failed-spec : {M : Type 1} → statement M
+failed-spec = tie.close (tie.spec put-failed-requires same-length returns)

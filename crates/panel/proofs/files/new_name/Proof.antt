@@ -1,0 +1,59 @@
+-- `panel::files::new_name` meets its contract. Assumes nothing.
+use native.Mathlib.Omega.{arith}
+use mathlib.Core.List.{_++_}
+use lib.ListN.{length, length-append}
+use Prim.Native.Nat.{_≤_}
+use Rattle.base.specs.Text.{text}
+use Rattle.base.proofs.Text.{put-front, put-last}
+use Rattle.listing.proofs.Laws.{put-within, put-part}
+use borrow.Author.Needs.{needs}
+use Rattle.panel.proofs.files.new_name.Statement.{statement}
+use Rattle.panel.proofs.files.new_name.Tie as tie
+
+put-requires : tie.Need-put-requires
+put-requires c κs = search needs
+
+sub-put : tie.Need-sub-put
+sub-put c = search needs
+
+part-put-start : tie.Need-part-put-start
+part-put-start c = search needs
+
+part-put-end : tie.Need-part-put-end
+part-put-end c = search needs
+
+slice-aggregate-put : tie.Need-slice-aggregate-put
+slice-aggregate-put c = search needs
+
+put-requires-2 : tie.Need-put-requires-2
+put-requires-2 c κs = search needs
+
+add-result : tie.Need-add-result
+add-result c = search needs
+
+same-length : tie.Need-same-length
+same-length c = search needs
+
+returns : tie.Need-returns
+unfolding text
+returns c =
+    let s = c .before .before .before .before .before .before .before .before .before .before .before in
+    let path = s .args .path .now in
+    let name = s .args .name .now in
+    let fits : length (path ++ text ".new") ≤ length name = omega (arith, length-append path (text ".new"), s .pre) in
+    let p = put-last (put-front path (text ".new") (c .before .before .before .before .before .before .before .put .ensures) (omega (arith, s .pre))) fits (c .before .before .put2 .ensures) in
+    (put-within p, put-part p)
+
+pub new-name-spec : {M : Type 1} → statement M
+new-name-spec =
+    tie.close
+    (tie.spec
+    put-requires
+    sub-put
+    part-put-start
+    part-put-end
+    slice-aggregate-put
+    put-requires-2
+    add-result
+    same-length
+    returns)

@@ -1,0 +1,104 @@
+-- `panel::main` is safe and ends: the number of reads that are left falls. Assumes nothing.
+use native.Mathlib.Omega.{arith}
+use Prim.Native.Nat.{_≤_}
+use mathlib.Core.Path.{_≡_, refl, sym, _∙_}
+use lib.ListN.{length}
+use lib.Seq.{length-take-le}
+use borrow.Author.Needs.{needs}
+use Rattle.panel.proofs.main.Statement.{statement}
+use Rattle.panel.proofs.main.Tie as tie
+
+abbrev Inv-loop : tie.InvT-loop
+Inv-loop unit₀ line₀ n₀ turns₀ unit line n turns = (length line ≡ 513) × (n ≤ 513)
+
+abbrev μ-loop : tie.MeasureT-loop
+μ-loop unit₀ line₀ n₀ turns₀ unit line n turns = turns
+
+fresh-requires : tie.Need-fresh-requires Inv-loop μ-loop
+fresh-requires c κs = tt
+
+loop-holds : tie.Need-loop-holds Inv-loop μ-loop
+loop-holds c = (refl, omega arith)
+
+buffer-requires : tie.Need-buffer-requires Inv-loop μ-loop
+buffer-requires c κs = tt
+
+slice-aggregate-read : tie.Need-slice-aggregate-read Inv-loop μ-loop
+slice-aggregate-read c = search needs
+
+read-requires : tie.Need-read-requires Inv-loop μ-loop
+read-requires c κs = tt
+
+slice-aggregate-count : tie.Need-slice-aggregate-count Inv-loop μ-loop
+slice-aggregate-count c = search needs
+
+count-requires : tie.Need-count-requires Inv-loop μ-loop
+count-requires c κs = tt
+
+slice-aggregate-feed : tie.Need-slice-aggregate-feed Inv-loop μ-loop
+slice-aggregate-feed c = sym (c .before .before .before .before .before .before .before .before .before .loop .inv .0)
+
+array-share-prefix-bytes : tie.Need-array-share-prefix-bytes Inv-loop μ-loop
+array-share-prefix-bytes c = search needs
+
+slice-aggregate-feed-2 : tie.Need-slice-aggregate-feed-2 Inv-loop μ-loop
+slice-aggregate-feed-2 c = search needs
+
+feed-requires : tie.Need-feed-requires Inv-loop μ-loop
+feed-requires c κs = omega (arith, c .before .before .before .before .before .before .before .before .before .before .loop .inv .0, c .before .before .before .before .before .before .before .before .before .before .loop .inv .1)
+
+sub-turns : tie.Need-sub-turns Inv-loop μ-loop
+sub-turns c = search needs
+
+loop-less : tie.Need-loop-less Inv-loop μ-loop
+loop-less c = search needs
+
+loop-again : tie.Need-loop-again Inv-loop μ-loop
+loop-again c =
+    let f = c .before .before .feed in
+    let line : length (f .last .1 .0) ≡ 513 = f .kept .1 .0 ∙ c .before .before .before .before .before .before .before .before .before .before .before .before .before .loop .inv .0 in
+    (line, omega (arith, f .ensures))
+
+last-line : (c : tie.At-loop Inv-loop μ-loop) → c .loop .length ≤ length (c .loop .line)
+last-line c = omega (arith, c .loop .inv .0)
+
+array-share-prefix-line : tie.Need-array-share-prefix-line Inv-loop μ-loop
+array-share-prefix-line c = last-line (c .before .before)
+
+slice-aggregate-answer : tie.Need-slice-aggregate-answer Inv-loop μ-loop
+slice-aggregate-answer c = sym (length-take-le _ _ (last-line (c .before .before .before)))
+
+answer-requires : tie.Need-answer-requires Inv-loop μ-loop
+answer-requires c κs = let l = c .before .before .before .loop in omega (arith, length-take-le (l .length) (l .line) (last-line (c .before .before .before)), l .inv .1)
+
+returns : tie.Need-returns Inv-loop μ-loop
+returns c = tt
+
+returns-2 : tie.Need-returns-2 Inv-loop μ-loop
+returns-2 c = tt
+
+pub main-spec : {M : Type 1} → statement M
+main-spec =
+    tie.close
+    (tie.spec
+    Inv-loop
+    μ-loop
+    fresh-requires
+    loop-holds
+    buffer-requires
+    slice-aggregate-read
+    read-requires
+    slice-aggregate-count
+    count-requires
+    slice-aggregate-feed
+    array-share-prefix-bytes
+    slice-aggregate-feed-2
+    feed-requires
+    sub-turns
+    loop-less
+    loop-again
+    array-share-prefix-line
+    slice-aggregate-answer
+    answer-requires
+    returns
+    returns-2)

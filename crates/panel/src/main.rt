@@ -1,0 +1,195 @@
+// A console over one unit, fresh at its start: each line of standard input is a command, answered on standard output.
+// The end of the input ends it.
+mod files;
+
+ghost use Prim.Native.Nat.{_≤_};
+ghost use mathlib.Core.Path.{_≡_};
+ghost use lib.ListN.{length};
+ghost use Rattle.base.specs.Text.{Put};
+ghost use Rattle.io.specs.Counts.{Counts};
+ghost use Rattle.listing.specs.Listing.{done, failed as Listing·failed};
+ghost use Rattle.panel.specs.Console.{said, after};
+use command::Command;
+use libc::STDIN_FILENO;
+use libc::STDOUT_FILENO;
+use rules::Answer;
+use rules::Reply;
+use rules::Unit;
+
+// The unit after a command, and how many bytes the answer has.
+pub struct Said {
+    pub unit: Unit,
+    pub length: usize,
+}
+
+// ---- commands without a file
+
+fn conclude(reply: Reply, out: &mut [u8]) -> Said
+    requires { ⌜ 2815 ≤ length (now out) ⌝ }
+    ensures { λ r. ⌜ (r .unit ≡ reply .unit) × Put (done (reply .answer)) (now (out .entry)) (now (out .exit)) (r .length) ⌝ }
+{
+    let answer = reply.answer;
+    let unit = reply.unit;
+    let length = listing::put_done(out, answer);
+    Said { unit, length }
+}
+
+fn silent(u: Unit) -> Said
+    ensures { λ r. ⌜ (r .unit ≡ u) × (r .length ≡ 0) ⌝ }
+{
+    Said { unit: u, length: 0 }
+}
+
+fn obey(u: Unit, command: Command, out: &mut [u8]) -> Said
+    requires { ⌜ 2815 ≤ length (now out) ⌝ }
+    ensures { λ r. ⌜ (r .unit ≡ after u command) × Put (said u command) (now (out .entry)) (now (out .exit)) (r .length) ⌝ }
+{
+    match command {
+        Command::Bar(i, j) => conclude(unit::bar(u, i, j), out),
+        Command::Unbar(i, j) => conclude(unit::unbar(u, i, j), out),
+        Command::Limit(r, v) => conclude(unit::set_limit(u, r, v), out),
+        Command::Rating(i, k, v) => conclude(unit::set_rating(u, i, k, v), out),
+        Command::Show => Said {
+            unit: u,
+            length: listing::put_shown(out, u),
+        },
+        Command::Points(c, d, e, s) => Said {
+            unit: u,
+            length: listing::put_valued(out, b"points ", survey::survey_points(c, d, e, s)),
+        },
+        Command::Unknown => Said {
+            unit: u,
+            length: listing::put(out, b"unknown command\n"),
+        },
+        Command::Nothing => silent(u),
+        Command::Load => silent(u),
+        Command::Export => silent(u),
+    }
+}
+
+// ---- commands with a file
+
+fn failed(u: Unit, what: &[u8], path: &[u8], out: &mut [u8]) -> Said
+    requires { ⌜ (length (now what) ≤ 13) × (length (now path) ≤ 513) × (2815 ≤ length (now out)) ⌝ }
+    ensures { λ r. ⌜ (r .unit ≡ u) × Put (Listing·failed (now (what .entry)) (now (path .entry))) (now (out .entry)) (now (out .exit)) (r .length) ⌝ }
+{
+    Said {
+        unit: u,
+        length: listing::put_failed(out, what, path),
+    }
+}
+
+fn load(u: Unit, path: &[u8], out: &mut [u8]) -> Said
+    requires { ⌜ (length (now path) ≤ 513) × (2815 ≤ length (now out)) ⌝ }
+    ensures { λ r. ⌜ Counts (r .length) (now (out .exit)) ⌝ }
+{
+    let fd = os::open_read(path);
+    if fd < 0 {
+        return failed(u, b"cannot open ", path, out);
+    }
+    let mut file = io::buffer();
+    let got = files::read_all(fd, &mut file);
+    libc::close(fd);
+    if got.failed {
+        return failed(u, b"cannot read ", path, out);
+    }
+    let n = got.count;
+    conclude(unit::load(u, &file[..n]), out)
+}
+
+fn export(u: Unit, path: &[u8], out: &mut [u8]) -> Said
+    requires { ⌜ (length (now path) ≤ 513) × (2815 ≤ length (now out)) ⌝ }
+    ensures { λ r. ⌜ (r .unit ≡ u) × Counts (r .length) (now (out .exit)) ⌝ }
+{
+    let mut file = [0u8; 4096];
+    let answer = unit::export(u, &mut file);
+    if let Answer::Accepted(n) = answer {
+        if !files::save(path, &file[..n]) {
+            return failed(u, b"cannot write ", path, out);
+        }
+    }
+    Said {
+        unit: u,
+        length: listing::put_valued(out, b"ok ", answer),
+    }
+}
+
+// ---- lines
+
+fn respond(u: Unit, line: &[u8], out: &mut [u8]) -> Said
+    requires { ⌜ (length (now line) ≤ 513) × (2815 ≤ length (now out)) ⌝ }
+    ensures { λ r. ⌜ Counts (r .length) (now (out .exit)) ⌝ }
+{
+    let command = command::parse(line);
+    match command {
+        Command::Load => load(u, &line[5..], out),
+        Command::Export => export(u, &line[7..], out),
+        _ => obey(u, command, out),
+    }
+}
+
+fn answer(u: Unit, line: &[u8]) -> Unit
+    requires { ⌜ length (now line) ≤ 513 ⌝ }
+{
+    let mut out = [0u8; 2815];
+    let said = respond(u, line, &mut out);
+    let n = said.length;
+    io::write_all(STDOUT_FILENO, &out[..n]);
+    said.unit
+}
+
+// Of a line only the first 513 bytes are kept: enough to know that it is too long.
+fn keep(line: &mut [u8], kept: usize, byte: u8) -> usize
+    requires { ⌜ kept ≤ length (now line) ⌝ }
+    ensures { λ r. ⌜ r ≤ length (now (line .exit)) ⌝ }
+{
+    if kept < line.len() {
+        line[kept] = byte;
+        return kept + 1;
+    }
+    kept
+}
+
+// What was read goes to the line, and each line that ends is answered.
+fn feed(u: Unit, line: &mut [u8], kept: usize, bytes: &[u8]) -> Said
+    requires { ⌜ (kept ≤ length (now line)) × (length (now line) ≤ 513) ⌝ }
+    ensures { λ r. ⌜ r .length ≤ length (now (line .exit)) ⌝ }
+{
+    let mut unit = u;
+    let mut length = kept;
+    let mut i = 0;
+    while i < bytes.len() {
+        if bytes[i] == 10 {
+            let next = answer(unit, &line[..length]);
+            unit = next;
+            length = 0;
+        } else {
+            length = keep(line, length, bytes[i]);
+        }
+        i += 1;
+    }
+    Said { unit, length }
+}
+
+fn main() {
+    let mut unit = unit::fresh();
+    let mut line = [0u8; 513];
+    let mut length: usize = 0;
+    let mut turns = u64::MAX;
+    while turns > 0 {
+        let mut bytes = io::buffer();
+        let got = libc::read(STDIN_FILENO, &mut bytes);
+        let n = io::count(got, &bytes);
+        if n == 0 {
+            break;
+        }
+        let said = feed(unit, &mut line, length, &bytes[..n]);
+        let next = said.unit;
+        unit = next;
+        length = said.length;
+        turns -= 1;
+    }
+    if length > 0 {
+        answer(unit, &line[..length]);
+    }
+}
