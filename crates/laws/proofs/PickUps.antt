@@ -97,13 +97,3 @@ module _ (t : Table) where
           let old : nothingAt i (strategyAt c i) ≡ 1 = rw (eq-eqb (strategyAt c i) 0 (f .vacant)) in
           let new : nothingAt i j ≡ 0 = rw (ne-eqb j 0 (λ z. omega (arith, f .some-strategy))) in
           omega arith
-
-  pub pick-up-rises : ((i : ℕ) → 1 ≤ i → i ≤ t .segments → t .benefit i 0 ≡ 0) → (c e : List ℕ) → pickUp t c ≡ some e → Room c → total t c < total t e
-  unfolding chosenBenefit
-  pick-up-rises nothing c e found room = picked (λ e. total t c < total t e) c more e found
-    where
-      more : (i j : ℕ) → Fitting c i j → total t c < total t (give c i j)
-      more i j f =
-          let moved = total-give t c i j (f .some-segment) (f .segment) room in
-          let old = ap (t .benefit i) (f .vacant) in
-          omega (arith, nothing i (f .some-segment) (f .segment))

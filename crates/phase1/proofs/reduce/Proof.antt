@@ -4,7 +4,6 @@ use mathlib.Core.Path.{sym, _∙_}
 use mathlib.Core.List.{[]}
 use native.Mathlib.Omega.{arith}
 use borrow.Author.Needs.{needs}
-use Rattle.tables.proofs.Laws.{gains-of}
 use Rattle.phase1.proofs.Laws.{Down, down-start, down-within, down-nobody, down-spent, down-next, weakest-inside, weakest-cell, next-le, bound-le}
 use Rattle.phase1.proofs.reduce.Statement.{statement}
 use Rattle.phase1.proofs.reduce.Tie as tie
@@ -56,7 +55,7 @@ slice-read-next-candidate c = omega (arith, c .before .before .before .before .b
 
 next-candidate-requires : tie.Need-next-candidate-requires Inv-loop μ-loop
 next-candidate-requires c κs = let h = c .before .before .before .before .before .before .before .before .before .before .loop .inv .held .ready in
-    (gains-of _ _ _ _ (h .sound), (weakest-cell _ _ _ _ _ _ _ _ _ (c .before .before .before .before .before .before .before .before .before .before .loop .inv) (c .before .before .before .before .before .before .limits-hold .ensures) (c .before .before .before .before .before .if1 .left) (c .before .before .weakest-of .ensures) (c .before .if2 .left), h .chosen .numbers (c .before .before .weakest-of .result)))
+    (h .sound .gains, (weakest-cell _ _ _ _ _ _ _ _ _ (c .before .before .before .before .before .before .before .before .before .before .loop .inv) (c .before .before .before .before .before .before .limits-hold .ensures) (c .before .before .before .before .before .if1 .left) (c .before .before .weakest-of .ensures) (c .before .if2 .left), h .chosen .numbers (c .before .before .weakest-of .result)))
 
 make-one-requires : tie.Need-make-one-requires Inv-loop μ-loop
 make-one-requires c κs = (c .before .before .before .before .before .before .before .before .before .before .before .before .before .loop .inv .held .ready, (omega (arith, c .before .before .before .before .if2 .left), weakest-inside _ _ _ _ _ _ _ _ _ (c .before .before .before .before .before .before .before .before .before .before .before .before .before .loop .inv) (c .before .before .before .before .before .before .before .before .before .limits-hold .ensures) (c .before .before .before .before .before .before .before .before .if1 .left) (c .before .before .before .before .before .weakest-of .ensures), next-le _ _ _ _ _ _ (c .before .before .next-candidate .ensures [] [])))

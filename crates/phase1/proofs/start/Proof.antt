@@ -9,7 +9,6 @@ use lib.Seq.{getD-set-same, getD-set-other}
 use Rattle.base.proofs.All.{each-none, each-next}
 use Rattle.rules.specs.Phases.{used}
 use Rattle.tables.specs.Arrays.{tables}
-use Rattle.tables.proofs.Laws.{gains-of, uses-of}
 use Rattle.phase1.proofs.Laws.{start-chosen}
 use Rattle.phase1.proofs.start.Statement.{statement}
 use Rattle.phase1.proofs.start.Tie as tie
@@ -23,7 +22,7 @@ abbrev μ-loop : tie.MeasureT-loop
 
 choose-tops-requires : tie.Need-choose-tops-requires Inv-loop μ-loop
 choose-tops-requires c κs = let s = c .before .before .before .before .before .before in
-    (gains-of _ _ _ _ (s .pre .0), s .pre .0 .strategies, s .pre .1 .0)
+    (s .pre .0 .gains, s .pre .0 .strategies, s .pre .1 .0)
 
 loop-holds : tie.Need-loop-holds Inv-loop μ-loop
 loop-holds c = (search needs, c .before .before .before .before .before .before .before .before .before .pre .1 .1, each-none _)
@@ -34,7 +33,7 @@ add-used-of c = search needs
 used-of-requires : tie.Need-used-of-requires Inv-loop μ-loop
 used-of-requires c κs = let s = c .before .before .before .before .before .before .before .before .before .before .before .before in
     let t = s .pre .0 in
-    ((t .segments, t .strategies, uses-of _ _ _ _ t, start-chosen _ _ _ _ (c .before .before .before .before .before .choose-tops .ensures (now (s .args .uses)) (now (s .args .limits)))), (search needs, omega (arith, t .resources)))
+    ((t .segments, t .strategies, t .uses, start-chosen _ _ _ _ (c .before .before .before .before .before .choose-tops .ensures (now (s .args .uses)) (now (s .args .limits)))), (search needs, omega (arith, t .resources)))
 
 mul-sums : tie.Need-mul-sums Inv-loop μ-loop
 mul-sums c = search needs

@@ -5,7 +5,7 @@ use native.Mathlib.Omega.{arith}
 use borrow.Author.Needs.{needs}
 use Rattle.base.proofs.Best.{Leads}
 use Rattle.rules.specs.Phases.{vacant, offerBenefit}
-use Rattle.tables.proofs.Laws.{gains-of, cell-of}
+use Rattle.tables.proofs.Laws.{cell-of}
 use Rattle.tables.specs.Arrays.{tables}
 use Rattle.phase2.proofs.Laws.{offer-le, best-none, best-taken, best-kept, best-passed, best-end}
 use Rattle.phase2.proofs.best_offer.Statement.{statement}
@@ -38,7 +38,7 @@ add-benefit c = search needs
 benefit-requires : tie.Need-benefit-requires Inv-loop μ-loop
 benefit-requires c κs =
     let a = c .before .before .before .before .before .before .before .before .before .before .before in
-    (gains-of _ _ _ _ (a .pre .sound), cell-of _ _ _ _ (a .pre .sound) (c .before .before .before .before .before .loop .i + 1) (c .offer-of .result) (omega arith) (omega arith) (rw (c .offer-of .ensures) (offer-le _ _ _ _ _ (c .before .before .before .before .before .loop .i + 1))))
+    (a .pre .sound .gains, cell-of _ _ _ _ (a .pre .sound) (c .before .before .before .before .before .loop .i + 1) (c .offer-of .result) (omega arith) (omega arith) (rw (c .offer-of .ensures) (offer-le _ _ _ _ _ (c .before .before .before .before .before .loop .i + 1))))
 
 add-top : tie.Need-add-top Inv-loop μ-loop
 add-top c = search needs

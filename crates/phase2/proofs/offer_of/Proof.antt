@@ -6,7 +6,7 @@ use native.Mathlib.Omega.{arith}
 use borrow.Author.Needs.{needs}
 use Rattle.base.proofs.Best.{Leads}
 use Rattle.rules.specs.Phases.{fitting}
-use Rattle.tables.proofs.Laws.{gains-of, cell-of}
+use Rattle.tables.proofs.Laws.{cell-of}
 use Rattle.tables.specs.Arrays.{benefitAt, tables}
 use Rattle.phase2.proofs.Laws.{offer-none, offer-taken, offer-passed, offer-kept, offer-end}
 use Rattle.phase2.proofs.offer_of.Statement.{statement}
@@ -27,7 +27,7 @@ add-benefit c = search needs
 benefit-requires : tie.Need-benefit-requires Inv-loop μ-loop
 benefit-requires c κs =
     let a = c .before .before .before .before .before .before .before .before in
-    (gains-of _ _ _ _ (a .pre .0 .sound), cell-of _ _ _ _ (a .pre .0 .sound) (a .args .i) (c .before .before .loop .j + 1) (a .pre .1) (a .pre .2) (omega arith))
+    (a .pre .0 .sound .gains, cell-of _ _ _ _ (a .pre .0 .sound) (a .args .i) (c .before .before .loop .j + 1) (a .pre .1) (a .pre .2) (omega arith))
 
 add-fits-one : tie.Need-add-fits-one Inv-loop μ-loop
 add-fits-one c = search needs

@@ -1,7 +1,7 @@
 -- `phase3::counts_one` meets its contract. Assumes nothing.
 use mathlib.Core.Path.{sym, _∙_}
 use native.Mathlib.Omega.{arith}
-use Rattle.tables.proofs.Laws.{gains-of, from-cell, places}
+use Rattle.tables.proofs.Laws.{from-cell, places}
 use Rattle.phase3.proofs.Laws.{low-one, high-one}
 use borrow.Author.Needs.{needs}
 use Rattle.phase3.proofs.counts_one.Statement.{statement}
@@ -14,7 +14,7 @@ chosen-benefit-requires : tie.Need-chosen-benefit-requires
 chosen-benefit-requires c κs =
     let s = c .before .before .before .before .before .before in
     let m = s .pre .1 in
-    ((gains-of _ _ _ _ (s .pre .0 .sound), s .pre .0 .chosen .places), from-cell _ _ _ _ _ _ (s .pre .0) _ 0 (m .0) (m .1))
+    ((s .pre .0 .sound .gains, s .pre .0 .chosen .places), from-cell _ _ _ _ _ _ (s .pre .0) _ 0 (m .0) (m .1))
 
 returns : tie.Need-returns
 returns c =

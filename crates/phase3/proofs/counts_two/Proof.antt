@@ -3,7 +3,7 @@ use mathlib.Core.Path.{sym, _∙_}
 use borrow.Author.Tests.{not-true, not-false}
 use native.Mathlib.Omega.{arith}
 use denote.Ref.{now}
-use Rattle.tables.proofs.Laws.{gains-of, places, benefit-lt}
+use Rattle.tables.proofs.Laws.{places, benefit-lt}
 use Rattle.phase3.proofs.Laws.{low-two, high-two, not-second}
 use borrow.Author.Needs.{needs}
 use Rattle.phase3.proofs.counts_two.Statement.{statement}
@@ -19,7 +19,7 @@ add-new : tie.Need-add-new
 add-new c =
     let s = c .before .before .before .before .before .before .before in
     let a = s .args in
-    let small = benefit-lt (now (a .benefits)) (gains-of _ _ _ _ (s .pre .0 .sound)) in
+    let small = benefit-lt (now (a .benefits)) (s .pre .0 .sound .gains) in
     omega (arith, small (a .i) (a .a), small (a .k) (a .b), c .benefit2 .ensures, c .before .benefit .ensures)
 
 present-benefit-requires : tie.Need-present-benefit-requires

@@ -2,7 +2,6 @@
 use Prim.Native.Nat.{_-_, _^_}
 use mathlib.Core.Path.{sym, _∙_}
 use native.Mathlib.Omega.{arith}
-use Rattle.tables.proofs.Laws.{gains-of}
 use Rattle.phase3.proofs.Laws.{Under, under-start, under-end, under-small, under-next, turn, no-turn}
 use borrow.Author.Needs.{needs}
 use Rattle.phase3.proofs.improve.Statement.{statement}
@@ -20,7 +19,7 @@ slice-aggregate-fill-tops c = search needs
 fill-tops-requires : tie.Need-fill-tops-requires Inv-loop μ-loop
 fill-tops-requires c κs =
     let s = c .before .before .before .before .before .before .pre .sound in
-    (gains-of _ _ _ _ s, (s .segments, s .strategies, search needs))
+    (s .gains, (s .segments, s .strategies, search needs))
 
 loop-holds : tie.Need-loop-holds Inv-loop μ-loop
 loop-holds c = under-start _ _ _ _ _ _ (c .before .before .before .before .before .before .before .before .pre)

@@ -3,7 +3,7 @@ use mathlib.Core.Path.{sym, _∙_}
 use borrow.Author.Tests.{not-true, not-false}
 use native.Mathlib.Omega.{arith}
 use denote.Ref.{now}
-use Rattle.tables.proofs.Laws.{gains-of, benefit-lt}
+use Rattle.tables.proofs.Laws.{benefit-lt}
 use Rattle.phase3.proofs.Laws.{top-le, not-another, not-more, more-fits}
 use borrow.Author.Needs.{needs}
 use Rattle.phase3.proofs.with_may_count.Statement.{statement}
@@ -32,7 +32,7 @@ add-if2 c =
     let s = c .before .before .before .before .before .before .before .before .before .before in
     let a = s .args in
     let e = s .pre .0 .1 .each in
-    let g = gains-of _ _ _ _ (s .pre .0 .0 .sound) in
+    let g = s .pre .0 .0 .sound .gains in
     omega (
       arith,
       e (a .k) (omega arith) (omega arith),

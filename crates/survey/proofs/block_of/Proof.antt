@@ -1,7 +1,8 @@
 -- `survey::block_of` meets its contract. Assumes nothing.
 use borrow.Author.Needs.{needs}
 use Rattle.rules.specs.Survey.{blockOf}
-use Rattle.survey.proofs.Laws.{cases, no-code, no-seal}
+use Rattle.base.proofs.Choice.{cases}
+use Rattle.survey.proofs.Laws.{no-code, no-seal}
 use Rattle.survey.proofs.block_of.Statement.{statement}
 use Rattle.survey.proofs.block_of.Tie as tie
 

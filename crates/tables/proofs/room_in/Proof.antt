@@ -65,7 +65,7 @@ add-result-2 : tie.Need-add-result-2
 add-result-2 c =
     let s = c .before .before .before .before .before .before .before .before .before in
     let a = s .args in
-    omega (arith, small s (a .i) (a .x), small s (a .k) (a .y), s .pre .0 .limit-small (a .r - 1))
+    omega (arith, small s (a .i) (a .x), small s (a .k) (a .y), s .pre .0 .limits .small (a .r - 1))
 
 returns : tie.Need-returns
 unfolding roomFor
