@@ -1,6 +1,5 @@
 // Refusals in the order of their tests, and the answer that is made of one. A refusal is its number; 0 is none.
 ghost use mathlib.Core.Path.{_≡_};
-ghost use mathlib.Core.Bool.{Bool};
 ghost use Rattle.base.specs.Over.{between};
 ghost use Rattle.rules.specs.Answers.{unless, oneTo, answerOf};
 use rules::Answer;

@@ -1,11 +1,11 @@
 // The edits of a district: what refuses each, and the district with the one value altered. Every function is total, for
 // any numbers and any value of the type, so that no call relies on a check made before it.
 ghost use mathlib.Core.Path.{_≡_};
-ghost use Prim.Native.Nat.{_-_, _<_, _^_};
+ghost use Prim.Native.Nat.{_-_, _<_};
 ghost use lib.ListN.{getD, set};
 ghost use Rattle.base.specs.Bits.{setBit, clearBit};
 ghost use Rattle.rules.specs.Calls.{barRefusal, limitRefusal, ratingRefusal};
-ghost use Rattle.rules.specs.District.{greatestOf, barsOf, withLimit, withBar, withoutBar, withRating, freshDistrict};
+ghost use Rattle.rules.specs.District.{barsPlace, greatestOf, barsOf, withLimit, withBar, withoutBar, withRating, freshDistrict};
 use rules::District;
 
 // The place of the `n`-th of a row, where the first is 1.
@@ -115,24 +115,35 @@ fn clear_bit(mask: usize, n: usize) -> usize
     mask
 }
 
-pub fn with_bar(d: District, segment: usize, strategy: usize) -> District
-    ensures { λ r. ⌜ r ≡ withBar d segment strategy ⌝ }
+// The bars of a segment; none where there is no such segment.
+fn bars_of(d: District, segment: usize) -> usize
+    ensures { λ r. ⌜ r ≡ barsOf d segment ⌝ }
+{
+    if 64 < segment {
+        return 0;
+    }
+    value_at(d, 1660 + 15 * place(segment) + 5)
+}
+
+fn with_bars(d: District, segment: usize, bars: usize) -> District
+    ensures { λ r. ⌜ r ≡ set d (barsPlace segment) bars ⌝ }
 {
     if 64 < segment {
         return d;
     }
-    let at = 1660 + 15 * place(segment) + 5;
-    with_value(d, at, set_bit(value_at(d, at), place(strategy)))
+    with_value(d, 1660 + 15 * place(segment) + 5, bars)
+}
+
+pub fn with_bar(d: District, segment: usize, strategy: usize) -> District
+    ensures { λ r. ⌜ r ≡ withBar d segment strategy ⌝ }
+{
+    with_bars(d, segment, set_bit(bars_of(d, segment), place(strategy)))
 }
 
 pub fn without_bar(d: District, segment: usize, strategy: usize) -> District
     ensures { λ r. ⌜ r ≡ withoutBar d segment strategy ⌝ }
 {
-    if 64 < segment {
-        return d;
-    }
-    let at = 1660 + 15 * place(segment) + 5;
-    with_value(d, at, clear_bit(value_at(d, at), place(strategy)))
+    with_bars(d, segment, clear_bit(bars_of(d, segment), place(strategy)))
 }
 
 // ---- the fresh unit's district

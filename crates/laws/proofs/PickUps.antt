@@ -1,6 +1,6 @@
 -- What a pick-up of phase 2 does: a segment with nothing gets a candidate, the total rises, and every limit holds. Assumes nothing.
 use Prim.Native.Nat.{ℕ, zero, suc, _≤_, _<_}
-use mathlib.Core.Path.{_≡_, refl, ap, subst}
+use mathlib.Core.Path.{_≡_, refl, subst}
 use mathlib.Core.Bool.{true}
 use mathlib.Core.List.{List}
 use mathlib.Core.Logic.{inr}
@@ -15,8 +15,8 @@ use Rattle.base.proofs.Choice.{and-both, pick-all}
 use Rattle.base.proofs.Sums.{sum-bound}
 use Rattle.base.proofs.Best.{best-le, best-passes}
 use Rattle.rules.specs.Table.{Table}
-use Rattle.rules.specs.Phases.{strategyAt, give, isCandidate, greater, chosenBenefit, total, within, fitting, offer, offerBenefit, vacant, greaterOffer, bestOffer, pickedUp, pickUp}
-use Rattle.laws.proofs.Give.{sum-give, total-give}
+use Rattle.rules.specs.Phases.{strategyAt, give, isCandidate, greater, within, fitting, offer, offerBenefit, vacant, greaterOffer, bestOffer, pickedUp, pickUp}
+use Rattle.laws.proofs.Give.{sum-give}
 use Rattle.laws.proofs.Gives.{Gives, give-gives}
 
 module _ (t : Table) where

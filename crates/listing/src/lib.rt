@@ -3,7 +3,7 @@
 ghost use mathlib.Core.Path.{_≡_};
 ghost use Prim.Native.Nat.{_+_, _≤_, min};
 ghost use lib.ListN.{length};
-ghost use Rattle.base.specs.Text.{text, decimal, Put};
+ghost use Rattle.base.specs.Text.{decimal, Put};
 ghost use Rattle.listing.specs.Listing.{named, line, segmentLine, segmentLines, stepsLine, results, listing, shown, refusal, done, planned, valued, failed};
 use rules::Answer;
 use rules::Programme;

@@ -1,7 +1,7 @@
 -- Laws of the searches, shares, pulls and steps of phase 1 over arrays. Assumes nothing.
 use Prim.Native.Nat.{ℕ, zero, suc, _+_, _-_, _*_, _/_, _^_, _≤_, _<_}
 use mathlib.Core.Path.{_≡_, refl, ap, sym, _∙_}
-use mathlib.Core.Bool.{Bool, true, false, _&&_, and-false, true≢false}
+use mathlib.Core.Bool.{Bool, true, false, _&&_, true≢false}
 use mathlib.Core.List.{List}
 use mathlib.Core.Option.{none, some}
 use native.Mathlib.Nat.{zero-div, mul-le-mul}
@@ -10,7 +10,7 @@ use borrow.Author.Tests.{ltb-true, lt-ltb, le-ltb, leb-true, leb-false, le-leb, 
 use lib.Dec.{leb, ltb}
 use lib.ListN.{getD, length, List·getD-eq-default}
 use lib.Seq.{ext-getD}
-use Rattle.base.specs.Over.{sum, best, between}
+use Rattle.base.specs.Over.{sum, best}
 use Rattle.base.proofs.Choice.{and-both}
 use Rattle.base.proofs.Sums.{sum-next, sum-bound, sum-cong}
 use Rattle.base.proofs.All.{all-true, all-fails}

@@ -1,10 +1,10 @@
 -- What an entry of the table is, and where there is none. Assumes nothing.
 use Prim.Native.Nat.{ℕ, _<_, _≤_}
-use mathlib.Core.Path.{_≡_, refl}
+use mathlib.Core.Path.{_≡_}
 use mathlib.Core.Bool.{Bool, true, false, _&&_, and-false}
 use native.Mathlib.Omega.{arith}
 use borrow.Author.Tests.{lt-leb, ne-eqb}
-use lib.Dec.{leb, eqb}
+use lib.Dec.{leb}
 use Rattle.base.specs.Over.{between}
 use Rattle.base.proofs.Choice.{lt-eqb}
 use Rattle.rules.specs.Answers.{answerOf}

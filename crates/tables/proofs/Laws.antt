@@ -1,13 +1,11 @@
 -- What sound tables and running sums give. Assumes nothing.
 use Prim.Native.Nat.{ℕ, zero, suc, _+_, _-_, _*_, _^_, _≤_, _<_}
-use mathlib.Core.Path.{_≡_, refl, sym, _∙_}
-use mathlib.Core.Bool.{Bool, true, false, _&&_, and-false}
+use mathlib.Core.Path.{_≡_}
+use mathlib.Core.Bool.{_&&_, and-false}
 use mathlib.Core.List.{List}
 use native.Mathlib.Omega.{arith}
-use borrow.Author.Tests.{le-leb, lt-leb, leb-true, leb-false}
 use lib.Dec.{leb, lit<}
 use lib.ListN.{getD, length, length-set}
-use Rattle.base.specs.Choice.{pick}
 use Rattle.base.specs.Over.{sum, all, between}
 use Rattle.base.proofs.Choice.{pick-all, between-yes, leb-same}
 use Rattle.base.proofs.Sums.{sum-bound, sum-part}

@@ -7,7 +7,6 @@ use borrow.Author.Tests.{leb-true, le-leb, lt-leb}
 use lib.IntN.{ℤ, pos, negsuc, natAbs}
 use lib.Signed.{ltZ}
 use Rattle.base.specs.Choice.{pick}
-use Rattle.base.specs.Over.{between}
 use Rattle.base.proofs.Choice.{and-both, between-yes}
 use Rattle.base.proofs.All.{all-at}
 use Rattle.rules.specs.District.{District, segmentsOf, strategiesOf, resourcesOf}

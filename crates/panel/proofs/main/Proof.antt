@@ -23,14 +23,8 @@ loop-holds c = (refl, omega arith)
 buffer-requires : tie.Need-buffer-requires Inv-loop μ-loop
 buffer-requires c κs = tt
 
-slice-aggregate-read : tie.Need-slice-aggregate-read Inv-loop μ-loop
-slice-aggregate-read c = search needs
-
 read-requires : tie.Need-read-requires Inv-loop μ-loop
 read-requires c κs = tt
-
-slice-aggregate-count : tie.Need-slice-aggregate-count Inv-loop μ-loop
-slice-aggregate-count c = search needs
 
 count-requires : tie.Need-count-requires Inv-loop μ-loop
 count-requires c κs = tt
@@ -38,20 +32,8 @@ count-requires c κs = tt
 slice-aggregate-feed : tie.Need-slice-aggregate-feed Inv-loop μ-loop
 slice-aggregate-feed c = sym (c .before .before .before .before .before .before .before .before .before .loop .inv .0)
 
-array-share-prefix-bytes : tie.Need-array-share-prefix-bytes Inv-loop μ-loop
-array-share-prefix-bytes c = search needs
-
-slice-aggregate-feed-2 : tie.Need-slice-aggregate-feed-2 Inv-loop μ-loop
-slice-aggregate-feed-2 c = search needs
-
 feed-requires : tie.Need-feed-requires Inv-loop μ-loop
 feed-requires c κs = omega (arith, c .before .before .before .before .before .before .before .before .before .before .loop .inv .0, c .before .before .before .before .before .before .before .before .before .before .loop .inv .1)
-
-sub-turns : tie.Need-sub-turns Inv-loop μ-loop
-sub-turns c = search needs
-
-loop-less : tie.Need-loop-less Inv-loop μ-loop
-loop-less c = search needs
 
 loop-again : tie.Need-loop-again Inv-loop μ-loop
 loop-again c =
@@ -86,16 +68,16 @@ main-spec =
     fresh-requires
     loop-holds
     buffer-requires
-    slice-aggregate-read
+    (λ c. search needs)
     read-requires
-    slice-aggregate-count
+    (λ c. search needs)
     count-requires
     slice-aggregate-feed
-    array-share-prefix-bytes
-    slice-aggregate-feed-2
+    (λ c. search needs)
+    (λ c. search needs)
     feed-requires
-    sub-turns
-    loop-less
+    (λ c. search needs)
+    (λ c. search needs)
     loop-again
     array-share-prefix-line
     slice-aggregate-answer

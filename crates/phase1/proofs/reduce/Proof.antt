@@ -63,9 +63,6 @@ make-one-requires c κs = (c .before .before .before .before .before .before .be
 add-steps : tie.Need-add-steps Inv-loop μ-loop
 add-steps c = omega (arith, c .before .before .before .before .before .before .before .before .before .before .before .before .before .before .before .before .before .loop-test .taken, bound-le _ _ _ _ (c .before .before .before .before .before .before .before .before .before .before .before .before .before .before .before .before .before .before .before .before .before .before .before .before .before .before .pre .ready .sound))
 
-loop-less : tie.Need-loop-less Inv-loop μ-loop
-loop-less c = search needs
-
 loop-again : tie.Need-loop-again Inv-loop μ-loop
 loop-again c = down-next _ _ _ _ _ _ _ _ _ (c .before .before .before .before .before .before .before .before .before .before .before .before .before .before .before .before .before .before .loop .inv) (c .before .before .before .before .before .before .before .before .before .before .before .before .before .before .limits-hold .ensures) (c .before .before .before .before .before .before .before .before .before .before .before .before .before .if1 .left) (c .before .before .before .before .before .before .before .before .before .before .weakest-of .ensures) (c .before .before .before .before .before .before .before .before .before .if2 .left) (c .before .before .before .before .before .before .before .before .before .before .before .before .before .before .before .before .before .loop-test .taken) (c .before .before .before .before .before .before .before .next-candidate .ensures _ _) (c .before .before .before .before .make-one .ensures .0) (c .before .before .before .before .make-one .ensures .1)
 
@@ -100,7 +97,7 @@ reduce-spec =
     next-candidate-requires
     make-one-requires
     add-steps
-    loop-less
+    (λ c. search needs)
     loop-again
     same-length-5
     same-length-6

@@ -27,25 +27,10 @@ choose-tops-requires c κs = let s = c .before .before .before .before .before .
 loop-holds : tie.Need-loop-holds Inv-loop μ-loop
 loop-holds c = (search needs, c .before .before .before .before .before .before .before .before .before .pre .1 .1, each-none _)
 
-add-used-of : tie.Need-add-used-of Inv-loop μ-loop
-add-used-of c = search needs
-
 used-of-requires : tie.Need-used-of-requires Inv-loop μ-loop
 used-of-requires c κs = let s = c .before .before .before .before .before .before .before .before .before .before .before .before in
     let t = s .pre .0 in
     ((t .segments, t .strategies, t .uses, start-chosen _ _ _ _ (c .before .before .before .before .before .choose-tops .ensures (now (s .args .uses)) (now (s .args .limits)))), (search needs, omega (arith, t .resources)))
-
-mul-sums : tie.Need-mul-sums Inv-loop μ-loop
-mul-sums c = search needs
-
-slice-write-sums : tie.Need-slice-write-sums Inv-loop μ-loop
-slice-write-sums c = search needs
-
-add-r : tie.Need-add-r Inv-loop μ-loop
-add-r c = search needs
-
-loop-less : tie.Need-loop-less Inv-loop μ-loop
-loop-less c = search needs
 
 loop-again : tie.Need-loop-again Inv-loop μ-loop
 loop-again c = let s = c .before .before .before .before .before .before .before .before .before .before .before .before .before in
@@ -64,9 +49,6 @@ same-length : tie.Need-same-length Inv-loop μ-loop
 same-length c = let s = c .before .before .before .before .before .before .before .before .before .before .before in
     start-chosen _ _ _ _ (c .before .before .before .before .choose-tops .ensures (now (s .args .uses)) (now (s .args .limits))) .places ∙ sym (s .pre .1 .0)
 
-same-length-2 : tie.Need-same-length-2 Inv-loop μ-loop
-same-length-2 c = search needs
-
 returns : tie.Need-returns Inv-loop μ-loop
 returns c = let s = c .before .before .before .before .before .before .before .before .before .before .before in
     let l = c .before .loop in
@@ -83,13 +65,13 @@ start-spec =
     μ-loop
     choose-tops-requires
     loop-holds
-    add-used-of
+    (λ c. search needs)
     used-of-requires
-    mul-sums
-    slice-write-sums
-    add-r
-    loop-less
+    (λ c. search needs)
+    (λ c. search needs)
+    (λ c. search needs)
+    (λ c. search needs)
     loop-again
     same-length
-    same-length-2
+    (λ c. search needs)
     returns)

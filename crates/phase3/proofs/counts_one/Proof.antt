@@ -7,9 +7,6 @@ use borrow.Author.Needs.{needs}
 use Rattle.phase3.proofs.counts_one.Statement.{statement}
 use Rattle.phase3.proofs.counts_one.Tie as tie
 
-benefit-requires : tie.Need-benefit-requires
-benefit-requires c κs = search needs
-
 chosen-benefit-requires : tie.Need-chosen-benefit-requires
 chosen-benefit-requires c κs =
     let s = c .before .before .before .before .before .before in
@@ -24,9 +21,6 @@ returns c =
     let room = places _ _ _ _ _ _ r in
     sym (low-one _ _ _ _ (m .0) (m .1) room (omega (arith, c .before .chosen-benefit .ensures, c .before .before .benefit .ensures)))
 
-fits-one-requires : tie.Need-fits-one-requires
-fits-one-requires c κs = search needs
-
 returns-2 : tie.Need-returns-2
 returns-2 c =
     let s = c .before .before .before .before .before .before .before .before .before in
@@ -38,4 +32,4 @@ returns-2 c =
 pub counts-one-spec : {M : Type 1} → statement M
 counts-one-spec =
     tie.close
-    (tie.spec benefit-requires chosen-benefit-requires returns fits-one-requires returns-2)
+    (tie.spec (λ c κs. search needs) chosen-benefit-requires returns (λ c κs. search needs) returns-2)

@@ -26,9 +26,6 @@ sub-read-some c = c .before .loop .inv .0
 part-read-some-start : tie.Need-part-read-some-start Inv-loop μ-loop
 part-read-some-start c = omega (arith, c .before .loop .inv .0)
 
-part-read-some-end : tie.Need-part-read-some-end Inv-loop μ-loop
-part-read-some-end c = search needs
-
 read-some-requires : tie.Need-read-some-requires Inv-loop μ-loop
 read-some-requires c κs = tt
 
@@ -86,7 +83,7 @@ read-all-spec =
     loop-holds
     sub-read-some
     part-read-some-start
-    part-read-some-end
+    (λ c. search needs)
     read-some-requires
     same-length
     returns
