@@ -11,7 +11,7 @@ use borrow.Rule.Slice.PartMut.{putMid}
 use Rattle.base.specs.Choice.{pick}
 use Rattle.base.specs.Text.{digitsOf, decimal, Put}
 use Rattle.base.proofs.Choice.{pick-all}
-use Rattle.base.proofs.Lists.{Written, whole-tail, written-front, written-more, written-all, tail-room}
+use Rattle.base.proofs.Buffers.{Written, whole-tail, written-front, written-more, written-all, tail-room}
 
 -- ---- digits
 

@@ -12,7 +12,7 @@ ghost use Rattle.fill.specs.Lists.{benefitList, usageList, limitList, sh
 use rules::District;
 
 // The benefits of all segments and strategies.
-pub fn fill_benefits(d: &District, table: &mut [u64])
+fn fill_benefits(d: &District, table: &mut [u64])
     requires { ⌜ Ranges (now d) × (length (now table) ≡ 768) ⌝ }
     ensures { λ _. ⌜ now (table .exit) ≡ benefitList (now (d .entry)) ⌝ }
 {
@@ -39,7 +39,7 @@ fn fill_row(d: &District, i: usize, j: usize, row: &mut [u64])
 }
 
 // The uses of all segments and strategies, a row for each pair.
-pub fn fill_uses(d: &District, table: &mut [u64])
+fn fill_uses(d: &District, table: &mut [u64])
     requires { ⌜ Ranges (now d) × (length (now table) ≡ 12288) ⌝ }
     ensures { λ _. ⌜ now (table .exit) ≡ usageList (now (d .entry)) ⌝ }
 {
@@ -50,7 +50,7 @@ pub fn fill_uses(d: &District, table: &mut [u64])
     }
 }
 
-pub fn fill_limits(d: &District, table: &mut [u64])
+fn fill_limits(d: &District, table: &mut [u64])
     requires { ⌜ Ranges (now d) × (length (now table) ≡ 16) ⌝ }
     ensures { λ _. ⌜ now (table .exit) ≡ limitList (now (d .entry)) ⌝ }
 {
@@ -79,7 +79,7 @@ fn down_share(u: u64, l: u64) -> u64
 }
 
 // Both shares of all uses.
-pub fn fill_shares(uses: &[u64], limits: &[u64], shares: &mut [u64], downs: &mut [u64])
+fn fill_shares(uses: &[u64], limits: &[u64], shares: &mut [u64], downs: &mut [u64])
     requires { ⌜ (length (now uses) ≡ 12288) × (length (now limits) ≡ 16) × (length (now shares) ≡ 12288) × (length (now downs) ≡ 12288) ⌝ }
     requires { ⌜ ((k : ℕ) → getD (now uses) k 0 < 2 ^ 41) × ((k : ℕ) → getD (now limits) k 0 < 2 ^ 47) ⌝ }
     ensures up { λ _. ⌜ now (shares .exit) ≡ shareList (now (uses .entry)) (now (limits .entry)) ⌝ }

@@ -111,7 +111,7 @@ fn own_gain(d: &District, j: usize, k: usize) -> i64
 }
 
 // The same on segment i, cut to what is left up to the greatest rating.
-pub fn gain(d: &District, i: usize, j: usize, k: usize) -> i64
+fn gain(d: &District, i: usize, j: usize, k: usize) -> i64
     requires { ⌜ Ranges (now d) × Segment i × Strategy j × Distress k ⌝ }
     ensures { λ g. ⌜ g ≡ gain (now (d .entry)) i j k ⌝ }
 {
@@ -121,7 +121,7 @@ pub fn gain(d: &District, i: usize, j: usize, k: usize) -> i64
 }
 
 // What is left of it in year t, in millionths.
-pub fn survival(d: &District, i: usize, j: usize, k: usize, t: usize) -> usize
+fn survival(d: &District, i: usize, j: usize, k: usize, t: usize) -> usize
     requires { ⌜ Ranges (now d) × Segment i × Strategy j × Distress k × Year t ⌝ }
     ensures { λ s. ⌜ s ≡ survival (now (d .entry)) i j k t ⌝ }
 {
@@ -157,7 +157,7 @@ fn improvements(d: &District, i: usize, j: usize, k: usize) -> i64
 }
 
 // The effect of strategy j on segment i: one division, toward zero, after the whole sum.
-pub fn effect(d: &District, i: usize, j: usize) -> i64
+fn effect(d: &District, i: usize, j: usize) -> i64
     requires { ⌜ Ranges (now d) × Segment i × Strategy j ⌝ }
     ensures { λ e. ⌜ e ≡ effect (now (d .entry)) i j ⌝ }
 {
@@ -171,14 +171,14 @@ pub fn effect(d: &District, i: usize, j: usize) -> i64
     sum / 10000
 }
 
-pub fn area(d: &District, i: usize) -> u64
+fn area(d: &District, i: usize) -> u64
     requires { ⌜ Ranges (now d) × Segment i ⌝ }
     ensures { λ a. ⌜ a ≡ area (now (d .entry)) i ⌝ }
 {
     (segment_at(d, i, LENGTH) * segment_at(d, i, WIDTH)) as u64
 }
 
-pub fn benefit(d: &District, i: usize, j: usize) -> i64
+fn benefit(d: &District, i: usize, j: usize) -> i64
     requires { ⌜ Ranges (now d) × Segment i × Strategy j ⌝ }
     ensures { λ b. ⌜ b ≡ benefit (now (d .entry)) i j ⌝ }
 {
@@ -187,14 +187,14 @@ pub fn benefit(d: &District, i: usize, j: usize) -> i64
 
 // ---- uses and limits
 
-pub fn usage(d: &District, i: usize, j: usize, r: usize) -> u64
+fn usage(d: &District, i: usize, j: usize, r: usize) -> u64
     requires { ⌜ Ranges (now d) × Segment i × Strategy j × Resource r ⌝ }
     ensures { λ u. ⌜ u ≡ usage (now (d .entry)) i j r ⌝ }
 {
     area(d, i) * (requirement_at(d, j, r) as u64)
 }
 
-pub fn scaled_limit(d: &District, r: usize) -> u64
+fn scaled_limit(d: &District, r: usize) -> u64
     requires { ⌜ Ranges (now d) × Resource r ⌝ }
     ensures { λ l. ⌜ l ≡ scaledLimit (now (d .entry)) r ⌝ }
 {
@@ -204,7 +204,7 @@ pub fn scaled_limit(d: &District, r: usize) -> u64
 // ---- permitted
 
 // Bit j − 1 of the segment's bars, by shift and mask.
-pub fn barred(d: &District, i: usize, j: usize) -> bool
+fn barred(d: &District, i: usize, j: usize) -> bool
     requires { ⌜ Segment i × Strategy j ⌝ }
     ensures { λ b. ⌜ b ≡ barredIn (now (d .entry)) i j ⌝ }
 {
@@ -254,7 +254,7 @@ fn years_reached(d: &District, i: usize, j: usize, k: usize) -> bool
     true
 }
 
-pub fn minima_reached(d: &District, i: usize, j: usize) -> bool
+fn minima_reached(d: &District, i: usize, j: usize) -> bool
     requires { ⌜ Ranges (now d) × SegmentOf (now d) i × Strategy j ⌝ }
     ensures { λ b. ⌜ b ≡ minimaReached (now (d .entry)) i j ⌝ }
 {
@@ -285,7 +285,7 @@ fn first_ratings(d: &District, i: usize, j: usize) -> i64
     sum
 }
 
-pub fn overall_reached(d: &District, i: usize, j: usize) -> bool
+fn overall_reached(d: &District, i: usize, j: usize) -> bool
     requires { ⌜ Ranges (now d) × SegmentOf (now d) i × Strategy j ⌝ }
     ensures { λ b. ⌜ b ≡ overallReached (now (d .entry)) i j ⌝ }
 {
@@ -293,7 +293,7 @@ pub fn overall_reached(d: &District, i: usize, j: usize) -> bool
     reaches(first_ratings(d, i, j), required)
 }
 
-pub fn permitted(d: &District, i: usize, j: usize) -> bool
+fn permitted(d: &District, i: usize, j: usize) -> bool
     requires { ⌜ Ranges (now d) × SegmentOf (now d) i × Strategy j ⌝ }
     ensures { λ b. ⌜ b ≡ permitted (now (d .entry)) i j ⌝ }
 {
@@ -309,7 +309,7 @@ pub fn permitted(d: &District, i: usize, j: usize) -> bool
 // ---- candidates
 
 // Whether strategy j on segment i stays within each limit by itself.
-pub fn fits_alone(d: &District, i: usize, j: usize) -> bool
+fn fits_alone(d: &District, i: usize, j: usize) -> bool
     requires { ⌜ Ranges (now d) × Segment i × Strategy j ⌝ }
     ensures { λ b. ⌜ b ≡ fitsAlone (now (d .entry)) i j ⌝ }
 {
@@ -347,7 +347,7 @@ fn worth(d: &District, i: usize, j: usize) -> u64
 
 // ---- the table's entries, 0 for what the district does not have
 
-pub fn has(d: &District, i: usize, j: usize) -> bool
+fn has(d: &District, i: usize, j: usize) -> bool
     requires { ⌜ Segment i ⌝ }
     ensures { λ h. ⌜ h ≡ has (now (d .entry)) i j ⌝ }
 {

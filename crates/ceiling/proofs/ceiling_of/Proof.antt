@@ -31,9 +31,6 @@ slice-aggregate-price-all c =
     let l = c .before .before .loop in
     sym (after-places _ (l .k) (l .inv .1) (omega arith))
 
-power-requires : tie.Need-power-requires Inv-loop μ-loop
-power-requires c κs = omega arith
-
 price-all-requires : tie.Need-price-all-requires Inv-loop μ-loop
 price-all-requires c κs =
     let l = c .before .before .before .before .loop in
@@ -64,7 +61,7 @@ ceiling-of-spec =
     slice-aggregate-price-all
     (λ c. search needs)
     (λ c. search needs)
-    power-requires
+    (λ c κs. omega arith)
     price-all-requires
     (λ c. search needs)
     (λ c. search needs)

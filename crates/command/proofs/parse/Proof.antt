@@ -7,7 +7,7 @@ use native.Mathlib.Omega.{arith}
 use lib.Dec.{ltb}
 use lib.ListN.{length}
 use borrow.Author.Tests.{lt-ltb, le-ltb}
-use Rattle.base.proofs.Lists.{whole-tail}
+use Rattle.base.proofs.Buffers.{whole-tail}
 use Rattle.base.specs.Choice.{pick}
 use Rattle.base.specs.Text.{text}
 use Rattle.command.specs.Reading.{begins, every, isPath, commandIn}

@@ -9,7 +9,7 @@ use native.Mathlib.Omega.{arith}
 use lib.ListN.{length, take, drop, set, length-set, length-drop}
 use lib.Seq.{take-suc-set, drop-drop}
 use borrow.Author.Needs.{needs}
-use Rattle.base.proofs.Lists.{whole-tail}
+use Rattle.base.proofs.Buffers.{whole-tail}
 use Rattle.command.specs.Reading.{firstNumber, afterNumber, arguments, numberOf, numbersOf}
 use Rattle.command.proofs.Laws.{prefixed, prefixed-none, arguments-more, arguments-stop, arguments-end}
 use Rattle.command.proofs.read_arguments.Statement.{statement}
@@ -30,17 +30,11 @@ sub-first-number c = c .before .loop .inv .1
 part-first-number-start : tie.Need-part-first-number-start Inv-loop μ-loop
 part-first-number-start c = omega (arith, c .before .loop .inv .1)
 
-first-number-requires : tie.Need-first-number-requires Inv-loop μ-loop
-first-number-requires c κs = tt
-
 sub-first-length : tie.Need-sub-first-length Inv-loop μ-loop
 sub-first-length c = c .before .before .before .before .before .before .loop .inv .1
 
 part-first-length-start : tie.Need-part-first-length-start Inv-loop μ-loop
 part-first-length-start c = omega (arith, c .before .before .before .before .before .before .loop .inv .1)
-
-first-length-requires : tie.Need-first-length-requires Inv-loop μ-loop
-first-length-requires c κs = tt
 
 first-at : (c : tie.After-first-number Inv-loop μ-loop) → let l = c .before .before .before .loop in numberOf (c .first-number .result) ≡ firstNumber (drop (l .at) (c .before .before .before .before .before .args .line .now))
 first-at c = c .first-number .ensures ∙ ap firstNumber (whole-tail (c .before .before .before .before .before .args .line .now) (c .before .before .before .loop .at))
@@ -104,14 +98,14 @@ read-arguments-spec =
     sub-first-number
     part-first-number-start
     (λ c. search needs)
-    first-number-requires
+    (λ c κs. tt)
     (λ c. search needs)
     (λ c. search needs)
     (λ c. search needs)
     sub-first-length
     part-first-length-start
     (λ c. search needs)
-    first-length-requires
+    (λ c κs. tt)
     add-at
     (λ c. search needs)
     (λ c. search needs)

@@ -56,12 +56,6 @@ returns-5 c =
     let l = c .before .before .before .before .before .loop in
     sym (l .inv .1 ∙ number-over (l .value) w (l .i) (omega arith) (omega arith) (omega arith) (omega arith))
 
-mul-value : tie.Need-mul-value Inv-loop μ-loop
-mul-value c = omega arith
-
-add-value : tie.Need-add-value Inv-loop μ-loop
-add-value c = omega arith
-
 loop-again : tie.Need-loop-again Inv-loop μ-loop
 loop-again c =
     let w = c .before .before .before .before .before .before .before .before .args .word .now in
@@ -89,8 +83,8 @@ read-number-spec =
     returns-4
     (λ c. search needs)
     returns-5
-    mul-value
-    add-value
+    (λ c. omega arith)
+    (λ c. omega arith)
     (λ c. search needs)
     (λ c. search needs)
     loop-again

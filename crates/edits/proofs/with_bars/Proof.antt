@@ -9,9 +9,6 @@ use Rattle.edits.proofs.with_bars.Tie as tie
 returns : tie.Need-returns
 returns c = sym (set-out _ _ _ (omega arith))
 
-returns-2 : tie.Need-returns-2
-returns-2 c = cc
-
 pub with-bars-spec : {M : Type 1} → statement M
 with-bars-spec =
     tie.close
@@ -22,4 +19,4 @@ with-bars-spec =
     (λ c. search needs)
     (λ c. search needs)
     (λ c κs. search needs)
-    returns-2)
+    (λ c. cc))

@@ -3,12 +3,6 @@ use borrow.Author.Needs.{needs}
 use Rattle.grammar.proofs.rows_field.Statement.{statement}
 use Rattle.grammar.proofs.rows_field.Tie as tie
 
-returns : tie.Need-returns
-returns c = search picks
-
-returns-2 : tie.Need-returns-2
-returns-2 c = search picks
-
 pub rows-field-spec : {M : Type 1} → statement M
 rows-field-spec =
     tie.close
@@ -16,6 +10,6 @@ rows-field-spec =
     (λ c. search needs)
     (λ c. search needs)
     (λ c κs. search needs)
-    returns
+    (λ c. search picks)
     (λ c κs. search needs)
-    returns-2)
+    (λ c. search picks))

@@ -4,18 +4,6 @@ use borrow.Author.Needs.{needs}
 use Rattle.grammar.proofs.segment_field.Statement.{statement}
 use Rattle.grammar.proofs.segment_field.Tie as tie
 
-returns : tie.Need-returns
-returns c = search picks
-
-returns-2 : tie.Need-returns-2
-returns-2 c = search picks
-
-returns-3 : tie.Need-returns-3
-returns-3 c = search picks
-
-returns-4 : tie.Need-returns-4
-returns-4 c = search picks
-
 returns-5 : tie.Need-returns-5
 returns-5 c = let e = rw (c .before .largest-mask .ensures) at (c .number-of5 .ensures) in search picks depth 8
 
@@ -29,13 +17,13 @@ segment-field-spec =
     (tie.spec
     (λ c. search needs)
     (λ c κs. search needs)
-    returns
+    (λ c. search picks)
     (λ c κs. search needs)
-    returns-2
+    (λ c. search picks)
     (λ c κs. search needs)
-    returns-3
+    (λ c. search picks)
     (λ c κs. search needs)
-    returns-4
+    (λ c. search picks)
     (λ c. search needs)
     (λ c κs. search needs)
     (λ c κs. search needs)

@@ -7,7 +7,7 @@ use lib.ListN.{length, length-set, length-append}
 use borrow.Fn.Kinds.{In}
 use borrow.Fn.PlainCycle.{Measures, is, falls, and}
 use Rattle.base.specs.Text.{decimal}
-use Rattle.base.proofs.Lists.{written-none, written-one}
+use Rattle.base.proofs.Buffers.{written-none, written-one}
 use Rattle.base.proofs.Text.{decimal-small, decimal-large, put-front, put-all}
 use Rattle.listing.proofs.put_number.Reads as put-number
 use Rattle.listing.proofs.put_number.Kinds as put-number-kinds

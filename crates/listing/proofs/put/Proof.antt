@@ -7,7 +7,7 @@ use native.Mathlib.Omega.{arith}
 use lib.ListN.{length, getD, drop, drop-of-length-le}
 use lib.Seq.{drop-cons}
 use borrow.Author.Needs.{needs}
-use Rattle.base.proofs.Lists.{Written, written-none, written-one}
+use Rattle.base.proofs.Buffers.{Written, written-none, written-one}
 use Rattle.base.proofs.Text.{put-all}
 use Rattle.listing.proofs.put.Statement.{statement}
 use Rattle.listing.proofs.put.Tie as tie

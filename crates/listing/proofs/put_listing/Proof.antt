@@ -3,7 +3,7 @@ use Prim.Native.Nat.{_≤_, min}
 use native.Mathlib.Omega.{arith}
 use lib.ListN.{length}
 use borrow.Author.Needs.{needs}
-use Rattle.base.proofs.Lists.{Written}
+use Rattle.base.proofs.Buffers.{Written}
 use Rattle.base.proofs.Text.{put-front, put-last, last-fits, front-fits}
 use Rattle.listing.specs.Listing.{segmentLines, results, listing}
 use Rattle.listing.proofs.Laws.{listing-few}

@@ -3,7 +3,7 @@ use native.Mathlib.Omega.{arith}
 use borrow.Author.Needs.{needs}
 use Rattle.base.specs.Text.{text, decimal}
 use Rattle.listing.specs.Listing.{line, segmentLine}
-use Rattle.base.proofs.Lists.{Written}
+use Rattle.base.proofs.Buffers.{Written}
 use Rattle.base.proofs.Text.{put-front, put-last, last-fits, front-fits}
 use Rattle.listing.proofs.put_segment_line.Statement.{statement}
 use Rattle.listing.proofs.put_segment_line.Tie as tie

@@ -7,7 +7,7 @@ use native.Mathlib.Omega.{arith}
 use lib.ListN.{length, getD}
 use borrow.Author.Needs.{needs}
 use borrow.Rule.Slice.PartMut.{putMid}
-use Rattle.base.proofs.Lists.{Written, written-none}
+use Rattle.base.proofs.Buffers.{Written, written-none}
 use Rattle.base.proofs.Text.{put-all, put-more, tail-fits}
 use Rattle.listing.specs.Listing.{segmentLine, segmentLines}
 use Rattle.listing.proofs.put_segment_lines.Statement.{statement}

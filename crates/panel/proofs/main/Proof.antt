@@ -14,20 +14,8 @@ Inv-loop unit₀ line₀ n₀ turns₀ unit line n turns = (length line ≡ 513)
 abbrev μ-loop : tie.MeasureT-loop
 μ-loop unit₀ line₀ n₀ turns₀ unit line n turns = turns
 
-fresh-requires : tie.Need-fresh-requires Inv-loop μ-loop
-fresh-requires c κs = tt
-
 loop-holds : tie.Need-loop-holds Inv-loop μ-loop
 loop-holds c = (refl, omega arith)
-
-buffer-requires : tie.Need-buffer-requires Inv-loop μ-loop
-buffer-requires c κs = tt
-
-read-requires : tie.Need-read-requires Inv-loop μ-loop
-read-requires c κs = tt
-
-count-requires : tie.Need-count-requires Inv-loop μ-loop
-count-requires c κs = tt
 
 slice-aggregate-feed : tie.Need-slice-aggregate-feed Inv-loop μ-loop
 slice-aggregate-feed c = sym (c .before .before .before .before .before .before .before .before .before .loop .inv .0)
@@ -53,25 +41,19 @@ slice-aggregate-answer c = sym (length-take-le _ _ (last-line (c .before .before
 answer-requires : tie.Need-answer-requires Inv-loop μ-loop
 answer-requires c κs = let l = c .before .before .before .loop in omega (arith, length-take-le (l .length) (l .line) (last-line (c .before .before .before)), l .inv .1)
 
-returns : tie.Need-returns Inv-loop μ-loop
-returns c = tt
-
-returns-2 : tie.Need-returns-2 Inv-loop μ-loop
-returns-2 c = tt
-
 pub main-spec : {M : Type 1} → statement M
 main-spec =
     tie.close
     (tie.spec
     Inv-loop
     μ-loop
-    fresh-requires
+    (λ c κs. tt)
     loop-holds
-    buffer-requires
+    (λ c κs. tt)
     (λ c. search needs)
-    read-requires
+    (λ c κs. tt)
     (λ c. search needs)
-    count-requires
+    (λ c κs. tt)
     slice-aggregate-feed
     (λ c. search needs)
     (λ c. search needs)
@@ -82,5 +64,5 @@ main-spec =
     array-share-prefix-line
     slice-aggregate-answer
     answer-requires
-    returns
-    returns-2)
+    (λ c. tt)
+    (λ c. tt))

@@ -44,9 +44,6 @@ same-length-4 c = c .before .before .before .before .before .before .before .bef
 returns-2 : tie.Need-returns-2 Inv-loop μ-loop
 returns-2 c = down-nobody _ _ _ _ _ _ _ _ _ (c .before .before .before .before .before .before .before .before .before .loop .inv) (c .before .before .before .before .before .limits-hold .ensures) (c .before .before .before .before .if1 .left) (c .before .weakest-of .ensures) (c .if2 .taken)
 
-sub-next-candidate : tie.Need-sub-next-candidate Inv-loop μ-loop
-sub-next-candidate c = omega arith
-
 mul-next-candidate : tie.Need-mul-next-candidate Inv-loop μ-loop
 mul-next-candidate c = omega (arith, weakest-cell _ _ _ _ _ _ _ _ _ (c .before .before .before .before .before .before .before .before .before .loop .inv) (c .before .before .before .before .before .limits-hold .ensures) (c .before .before .before .before .if1 .left) (c .before .weakest-of .ensures) (c .if2 .left) .high)
 
@@ -91,7 +88,7 @@ reduce-spec =
     same-length-3
     same-length-4
     returns-2
-    sub-next-candidate
+    (λ c. omega arith)
     mul-next-candidate
     slice-read-next-candidate
     next-candidate-requires

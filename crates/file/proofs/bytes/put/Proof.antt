@@ -4,7 +4,7 @@ use mathlib.Core.Path.{_≡_, ap, _∙_}
 use native.Mathlib.Nat.{sub-zero}
 use native.Mathlib.Omega.{arith}
 use Rattle.base.proofs.Bytes.{length-bytes}
-use Rattle.base.proofs.Lists.{Written, written-none, written-one, written-all}
+use Rattle.base.proofs.Buffers.{Written, written-none, written-one, written-all}
 use Rattle.base.specs.Bytes.{bytesOf}
 use borrow.Author.Needs.{needs}
 use Rattle.file.proofs.bytes.put.Statement.{statement}

@@ -30,9 +30,6 @@ tested c t e =
 loop-holds : tie.Need-loop-holds Inv-loop μ-loop
 loop-holds c = (omega arith, rw (sub-zero, add-zero))
 
-field-at-requires : tie.Need-field-at-requires Inv-loop μ-loop
-field-at-requires c κs = omega arith
-
 returns : tie.Need-returns Inv-loop μ-loop
 returns c = sym (tested (c .before) false (not-true _ (c .if1 .taken)))
 
@@ -54,7 +51,7 @@ numbers-in-range-spec =
     Inv-loop
     μ-loop
     loop-holds
-    field-at-requires
+    (λ c κs. omega arith)
     (λ c. search needs)
     (λ c. search needs)
     (λ c. search needs)

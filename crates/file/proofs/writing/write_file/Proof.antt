@@ -4,7 +4,7 @@ use mathlib.Core.Path.{_≡_, refl, sym, ap}
 use mathlib.Core.List.{_++_}
 use native.Mathlib.Omega.{arith}
 use lib.ListN.{length, length-drop}
-use Rattle.base.proofs.Lists.{Written, whole-tail, tail-room, written-none, written-more, written-all}
+use Rattle.base.proofs.Buffers.{Written, whole-tail, tail-room, written-none, written-more, written-all}
 use Rattle.rules.specs.File.{recordBytes, recordsBytes, encode}
 use Rattle.rules.specs.declared.Slot.{Slot}
 use Rattle.grammar.specs.Places.{startOf}

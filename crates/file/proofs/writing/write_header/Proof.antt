@@ -5,7 +5,7 @@ use mathlib.Core.List.{[], _++_}
 use native.Mathlib.Omega.{arith}
 use lib.ListN.{length, length-drop}
 use borrow.Author.Tests.{not-true, not-false}
-use Rattle.base.proofs.Lists.{whole-tail, written-front, written-more, written-all}
+use Rattle.base.proofs.Buffers.{whole-tail, written-front, written-more, written-all}
 use Rattle.base.specs.Bytes.{bytesOf}
 use Rattle.rules.specs.File.{size, headerBytes}
 use Rattle.file.proofs.Steps.{header-there, header-none}

@@ -6,7 +6,7 @@ use native.Mathlib.Nat.{sub-zero, add-zero}
 use native.Mathlib.Omega.{arith}
 use lib.ListN.{length, getD, length-drop}
 use Rattle.base.proofs.Bytes.{length-bytes}
-use Rattle.base.proofs.Lists.{Written, written-none, written-all, written-more, tail-room, whole-tail}
+use Rattle.base.proofs.Buffers.{Written, written-none, written-all, written-more, tail-room, whole-tail}
 use Rattle.base.specs.Bytes.{bytesOf}
 use Rattle.rules.specs.File.{numberBytes}
 use Rattle.file.proofs.Steps.{numbers-step}
@@ -37,9 +37,6 @@ room c =
 
 loop-holds : tie.Need-loop-holds Inv-loop μ-loop
 loop-holds c = (omega arith, rw (sub-zero, add-zero) (written-none _ _))
-
-field-at-requires : tie.Need-field-at-requires Inv-loop μ-loop
-field-at-requires c κs = omega arith
 
 sub-put : tie.Need-sub-put Inv-loop μ-loop
 sub-put c = omega (arith, c .before .before .loop .inv .1 .room)
@@ -86,7 +83,7 @@ write-numbers-spec =
     Inv-loop
     μ-loop
     loop-holds
-    field-at-requires
+    (λ c κs. omega arith)
     sub-put
     part-put-start
     (λ c. search needs)

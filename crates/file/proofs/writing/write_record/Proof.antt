@@ -4,7 +4,7 @@ use mathlib.Core.Path.{refl, sym}
 use mathlib.Core.List.{[], _++_, append-nil}
 use native.Mathlib.Omega.{arith}
 use lib.ListN.{length, length-drop, length-append}
-use Rattle.base.proofs.Lists.{whole-tail, written-front, written-more, written-all}
+use Rattle.base.proofs.Buffers.{whole-tail, written-front, written-more, written-all}
 use Rattle.rules.specs.File.{headerBytes, numberBytes}
 use borrow.Author.Needs.{needs}
 use Rattle.file.proofs.writing.write_record.Statement.{statement}
