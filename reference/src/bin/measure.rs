@@ -15,7 +15,7 @@ use std::time::{Duration, Instant};
 
 /// How often each program is run for a time. The shortest run counts: what
 /// else the machine does can only make one longer.
-const ROUNDS: usize = 25;
+const ROUNDS: usize = 50;
 
 fn main() -> ExitCode {
     let arguments: Vec<String> = std::env::args().skip(1).collect();
