@@ -11,11 +11,11 @@ use reference::{file, phases};
 use std::fs::{self, File};
 use std::path::{Path, PathBuf};
 use std::process::{Command, ExitCode, Stdio};
-use std::time::{Duration, Instant};
+use std::time::Instant;
 
-/// How often each program is run for a time. The shortest run counts: what
-/// else the machine does can only make one longer.
-const ROUNDS: usize = 50;
+/// How many rounds are timed. In each both programs run, one right after the
+/// other, so that both find the machine equally busy.
+const ROUNDS: usize = 51;
 
 fn main() -> ExitCode {
     let arguments: Vec<String> = std::env::args().skip(1).collect();
@@ -47,7 +47,7 @@ fn run(arguments: &[String]) -> Result<(), String> {
 /// The widest and the slowest districts, one line each; gives the worst ratio.
 fn districts(programs: &Programs, empty: Counts) -> Result<f64, String> {
     println!("instructions in millions; tried: options and pairs that phase 3 went past; net: less an empty run;");
-    println!("time: the shortest of {ROUNDS} runs each, taken in turn, as a ratio");
+    println!("time: as a ratio, the median of {ROUNDS} rounds in which each runs once");
     println!("{:<12}{:>8}{:>10}{HEADS}{:>8}{:>8}", "district", "changes", "tried", "net", "time");
     let mut worst: f64 = 0.0;
     for name in [programs.named("widest-", 10)?, programs.named("slowest-", 10)?].concat() {
@@ -175,24 +175,24 @@ impl Programs {
         Ok((total.ok_or_else(|| told(&path, "no total in it"))?, output.stdout))
     }
 
-    /// The proved program's time over the reference's.
+    /// The proved program's time over the reference's: the median of all rounds.
     fn time_ratio(&self, file: &Path) -> Result<f64, String> {
-        let (mut proved, mut reference) = (Duration::MAX, Duration::MAX);
+        let mut ratios = Vec::with_capacity(ROUNDS);
         for _ in 0..ROUNDS {
-            proved = proved.min(timed(&self.proved, file)?);
-            reference = reference.min(timed(&self.reference, file)?);
+            ratios.push(timed(&self.proved, file)? / timed(&self.reference, file)?);
         }
-        Ok(proved.as_secs_f64() / reference.as_secs_f64())
+        ratios.sort_by(f64::total_cmp);
+        Ok(ratios[ROUNDS / 2])
     }
 }
 
-/// One run from its start to its end.
-fn timed(program: &Path, file: &Path) -> Result<Duration, String> {
+/// One run from its start to its end, in seconds.
+fn timed(program: &Path, file: &Path) -> Result<f64, String> {
     let mut command = Command::new(program);
     command.stdin(opened(file)?).stdout(Stdio::null());
     let start = Instant::now();
     let status = command.status().map_err(|error| told(program, error))?;
-    let taken = start.elapsed();
+    let taken = start.elapsed().as_secs_f64();
     if status.success() {
         Ok(taken)
     } else {
