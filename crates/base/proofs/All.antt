@@ -1,9 +1,12 @@
 -- Laws of tests over 1 to n. Assumes nothing.
-use Prim.Native.Nat.{ℕ, zero, suc, _+_, _≤_}
+use Prim.Native.Nat.{ℕ, zero, suc, _+_, _-_, _≤_, _<_}
 use mathlib.Core.Path.{_≡_, refl, subst}
 use mathlib.Core.Bool.{Bool, true, false, and-false}
 use native.Mathlib.Numerals.{add-one}
 use native.Mathlib.Omega.{arith}
+use mathlib.Core.List.{List}
+use lib.ListN.{getD, length, set}
+use lib.Seq.{getD-set-same, getD-set-other}
 use Rattle.base.specs.Over.{all}
 use Rattle.base.proofs.Sums.{up-to}
 
@@ -53,3 +56,12 @@ module _ (P : ℕ → Type 0) where
   each-next n before here k l h =
       let up : k ≤ suc n = omega arith in
       up-to up (λ q. let e : n + 1 ≡ k = omega arith in subst P e here) (λ u. before k l u)
+
+-- a list that is filled from the front: entry k stands at place k - 1
+pub each-set : (P : ℕ → ℕ → Type 0) (l : List ℕ) (n v : ℕ) → n < length l → ((k : ℕ) → 1 ≤ k → k ≤ n → P k (getD l (k - 1) 0)) → P (n + 1) v
+    → (k : ℕ) → 1 ≤ k → k ≤ n + 1 → P k (getD (set l n v) (k - 1) 0)
+each-set P l n v inside before here =
+    let last : n + 1 - 1 ≡ n = omega arith in
+    each-next (λ k. P k (getD (set l n v) (k - 1) 0)) n
+    (λ k low high. let ne : k - 1 ≡ n → ⊥ = λ e. omega arith in rw (getD-set-other l n (k - 1) v 0 ne) (before k low high))
+    (rw (last, getD-set-same l n v 0 inside) here)

@@ -5,9 +5,10 @@ ghost use mathlib.Core.Bool.{true};
 ghost use mathlib.Core.List.{List};
 ghost use lib.ListN.{length};
 ghost use Rattle.base.specs.Over.{most};
-ghost use Rattle.rules.specs.Phases.{another, firstSingle, firstPair, change, phase3};
+ghost use Rattle.rules.specs.Phases.{strategyAt, another, firstSingle, firstPair, change, phase3};
 use tables::Size;
 ghost use Rattle.tables.specs.Arrays.{benefitAt, tables, Gains, Ready};
+ghost use Rattle.tables.specs.Moves.{Budgets};
 ghost use Rattle.phase3.specs.Improve.{after, isNothing, Inside, Found, countsOne, countsTwo, Tops, Compared, present, pairMayRise, withMayCount};
 
 // A change: none, segment i gets strategy a, or segments i and k get strategies a and b.
@@ -89,6 +90,32 @@ fn pair_may_rise(
     present_benefit(z, benefits, choice, i, k) < tops[i - 1] + tops[k - 1]
 }
 
+// The budgets where segments i and k give up what they have.
+fn both_give_up(
+    z: Size,
+    benefits: &[u64],
+    uses: &[u64],
+    limits: &[u64],
+    choice: &[usize],
+    sums: &[u64],
+    i: usize,
+    k: usize,
+) -> [u64; 16]
+    requires { ⌜ Ready z (now benefits) (now uses) (now limits) (now choice) (now sums) ⌝ }
+    requires { ⌜ (1 ≤ i) × (i < k) × (k ≤ z .segments) ⌝ }
+    ensures { λ v. ⌜ Budgets (z .resources) (now (uses .entry)) (now (limits .entry)) i (strategyAt (now (choice .entry)) i) k (strategyAt (now (choice .entry)) k) v ⌝ }
+{
+    tables::budgets(
+        z.resources,
+        uses,
+        limits,
+        i,
+        choice[i - 1],
+        k,
+        choice[k - 1],
+    )
+}
+
 // Strategy a is another for segment i, more than the present with the greatest benefit of segment k, and within the
 // limits where segment k gets nothing.
 fn with_may_count(
@@ -99,12 +126,13 @@ fn with_may_count(
     choice: &[usize],
     sums: &[u64],
     tops: &[u64],
+    given: &[u64],
     i: usize,
     k: usize,
     a: usize,
 ) -> bool
     requires { ⌜ Ready z (now benefits) (now uses) (now limits) (now choice) (now sums) × Tops z (now benefits) (now tops) ⌝ }
-    requires { ⌜ (1 ≤ i) × (i < k) × (k ≤ z .segments) × (a ≤ z .strategies) ⌝ }
+    requires { ⌜ (1 ≤ i) × (i < k) × (k ≤ z .segments) × (a ≤ z .strategies) × Budgets (z .resources) (now uses) (now limits) i (strategyAt (now choice) i) k (strategyAt (now choice) k) (now given) ⌝ }
     ensures { λ ok. ⌜ ok ≡ withMayCount (tables z (now (benefits .entry)) (now (uses .entry)) (now (limits .entry))) (now (choice .entry)) i k a ⌝ }
 {
     if !is_another(z, benefits, choice, i, a) {
@@ -113,7 +141,7 @@ fn with_may_count(
     if tables::benefit(benefits, i, a) + tops[k - 1] <= present_benefit(z, benefits, choice, i, k) {
         return false;
     }
-    tables::fits_two(z, benefits, uses, limits, choice, sums, i, k, a, 0)
+    tables::fits_two(z, benefits, uses, limits, choice, sums, given, i, k, a, 0)
 }
 
 // Giving segment i strategy a counts. A strategy of greater benefit is another one, and a candidate.
@@ -145,13 +173,14 @@ fn counts_two(
     limits: &[u64],
     choice: &[usize],
     sums: &[u64],
+    given: &[u64],
     i: usize,
     k: usize,
     a: usize,
     b: usize,
 ) -> bool
     requires { ⌜ Ready z (now benefits) (now uses) (now limits) (now choice) (now sums) ⌝ }
-    requires { ⌜ (1 ≤ i) × (i < k) × (k ≤ z .segments) × (a ≤ z .strategies) × (b ≤ z .strategies) ⌝ }
+    requires { ⌜ (1 ≤ i) × (i < k) × (k ≤ z .segments) × (a ≤ z .strategies) × (b ≤ z .strategies) × Budgets (z .resources) (now uses) (now limits) i (strategyAt (now choice) i) k (strategyAt (now choice) k) (now given) ⌝ }
     requires { ⌜ another (tables z (now benefits) (now uses) (now limits)) (now choice) i a ≡ true ⌝ }
     ensures { λ ok. ⌜ ok ≡ countsTwo (tables z (now (benefits .entry)) (now (uses .entry)) (now (limits .entry))) (now (choice .entry)) i k a b ⌝ }
 {
@@ -162,7 +191,7 @@ fn counts_two(
     if !is_another(z, benefits, choice, k, b) {
         return false;
     }
-    tables::fits_two(z, benefits, uses, limits, choice, sums, i, k, a, b)
+    tables::fits_two(z, benefits, uses, limits, choice, sums, given, i, k, a, b)
 }
 
 // The first single change that counts: by segment, then by strategy, with nothing as 0.
@@ -212,10 +241,35 @@ fn first_two(
     'search: for i in 1..segments_end {
         for k in i + 1..segments_end {
             if pair_may_rise(z, benefits, choice, tops, i, k) {
+                let given = both_give_up(z, benefits, uses, limits, choice, sums, i, k);
                 for a in 0..strategies_end {
-                    if with_may_count(z, benefits, uses, limits, choice, sums, tops, i, k, a) {
+                    if with_may_count(
+                        z,
+                        benefits,
+                        uses,
+                        limits,
+                        choice,
+                        sums,
+                        tops,
+                        &given,
+                        i,
+                        k,
+                        a,
+                    ) {
                         for b in 0..strategies_end {
-                            if counts_two(z, benefits, uses, limits, choice, sums, i, k, a, b) {
+                            if counts_two(
+                                z,
+                                benefits,
+                                uses,
+                                limits,
+                                choice,
+                                sums,
+                                &given,
+                                i,
+                                k,
+                                a,
+                                b,
+                            ) {
                                 found = Change::Two(i, k, a, b);
                                 break 'search;
                             }

@@ -14,7 +14,7 @@ use Rattle.rules.specs.Phases.{strategyAt, give, chosenBenefit, total, chosenUs
 use Rattle.laws.proofs.Give.{kept, used-give, give-numbers}
 use Rattle.tables.specs.declared.Size.{Size}
 use Rattle.tables.specs.Arrays.{entry, benefitAt, usageAt, limitAt, tables, Sound, Gains, Uses, Cell, Chosen, Ready}
-use Rattle.tables.specs.Moves.{Room, roomFor, Movable, moved}
+use Rattle.tables.specs.Moves.{Budgets, Room, roomFor, Movable, moved}
 
 -- ---- what an array holds is the table's entry
 
@@ -75,17 +75,19 @@ module _ (z : Size) (b u l : List ℕ) (sound : Sound z b u l) where
 
 -- ---- the limits, by the running sums
 
--- a resource's limit holds of programme e where its sum with what comes is no more than the limit with what goes
-pub room-law : (z : Size) (b u l sums e : List ℕ) → Sound z b u l → (more less : ℕ → ℕ)
+-- a resource's limit holds of programme e where its sum with what comes is no more than its budget, the limit with what goes
+pub room-law : (z : Size) (b u l sums e given : List ℕ) → Sound z b u l → (more less : ℕ → ℕ)
+    → ((r : ℕ) → 1 ≤ r → r ≤ z .resources → getD given (r - 1) 0 ≡ getD l (r - 1) 0 + less r)
     → ((r : ℕ) → 1 ≤ r → r ≤ z .resources → used (tables z b u l) e r + less r ≡ getD sums (r - 1) 0 + more r)
-    → all (z .resources) (λ r. leb (getD sums (r - 1) 0 + more r) (getD l (r - 1) 0 + less r)) ≡ within (tables z b u l) e
+    → all (z .resources) (λ r. leb (getD sums (r - 1) 0 + more r) (getD given (r - 1) 0)) ≡ within (tables z b u l) e
 unfolding within holds
-room-law z b u l sums e sound more less h =
-    all-cong (z .resources) (λ r. leb (getD sums (r - 1) 0 + more r) (getD l (r - 1) 0 + less r)) (λ r. leb (used (tables z b u l) e r) (limitAt l r))
+room-law z b u l sums e given sound more less is h =
+    all-cong (z .resources) (λ r. leb (getD sums (r - 1) 0 + more r) (getD given (r - 1) 0)) (λ r. leb (used (tables z b u l) e r) (limitAt l r))
     (λ r low high.
     let same = h r low high in
+    let budget = is r low high in
     let limit = limit-at l r low (omega (arith, sound .resources)) in
-    leb-same (getD sums (r - 1) 0 + more r) (getD l (r - 1) 0 + less r) (used (tables z b u l) e r) (limitAt l r)
+    leb-same (getD sums (r - 1) 0 + more r) (getD given (r - 1) 0) (used (tables z b u l) e r) (limitAt l r)
     (λ q. omega arith)
     (λ q. omega arith))
 
@@ -93,14 +95,14 @@ module _ (z : Size) (b u l c sums : List ℕ) (ready : Ready z b u l c sums) whe
   pub sums-le : (r : ℕ) → 1 ≤ r → r ≤ z .resources → getD sums (r - 1) 0 ≤ 2 ^ 47
   sums-le r low high = omega (arith, ready .sums-are r low high, used-le z b u l (ready .sound) c r)
 
-  pub room-of : Room (z .resources) u l sums
-  room-of =
+  pub room-of : {given : List ℕ} → length given ≡ 16 → Room (z .resources) u sums given
+  room-of places =
       record {
         few = ready .sound .resources;
         uses = ready .sound .uses;
-        limits = ready .sound .limits;
         sums-length = ready .sums-length;
         sums-small = sums-le;
+        budgets-length = places;
       }
 
   pub places : z .segments ≤ length c
@@ -115,12 +117,13 @@ module _ (z : Size) (b u l c sums : List ℕ) (ready : Ready z b u l c sums) whe
     unfolding chosenUsage
     used-one r = used-give (tables z b u l) c i a low high places r
 
-    pub one-fits : all (z .resources) (roomFor u l sums i (strategyAt c i) a i 0 0) ≡ within (tables z b u l) (give c i a)
+    pub one-fits : {given : List ℕ} → Budgets (z .resources) u l i (strategyAt c i) i 0 given → all (z .resources) (roomFor u sums given i a i 0) ≡ within (tables z b u l) (give c i a)
     unfolding roomFor
-    one-fits =
-        room-law z b u l sums (give c i a) (ready .sound)
+    one-fits {given} are =
+        room-law z b u l sums (give c i a) given (ready .sound)
         (λ r. usageAt u i a r + usageAt u i 0 r)
         (λ r. usageAt u i (strategyAt c i) r + usageAt u i 0 r)
+        (are .each)
         (λ r lr hr. omega (arith, used-one r, ready .sums-are r lr hr))
 
     -- a second segment's move
@@ -131,12 +134,14 @@ module _ (z : Size) (b u l c sums : List ℕ) (ready : Ready z b u l c sums) whe
           let wide : z .segments ≤ length (give c i a) = simp length-set places in
           rw (kept c i a k low (omega arith) (λ e. omega arith)) at (used-give (tables z b u l) (give c i a) k b₂ (omega arith) top wide r)
 
-      pub two-fits : all (z .resources) (roomFor u l sums i (strategyAt c i) a k (strategyAt c k) b₂) ≡ within (tables z b u l) (give (give c i a) k b₂)
+      pub two-fits : {given : List ℕ} → Budgets (z .resources) u l i (strategyAt c i) k (strategyAt c k) given
+          → all (z .resources) (roomFor u sums given i a k b₂) ≡ within (tables z b u l) (give (give c i a) k b₂)
       unfolding roomFor
-      two-fits =
-          room-law z b u l sums (give (give c i a) k b₂) (ready .sound)
+      two-fits {given} are =
+          room-law z b u l sums (give (give c i a) k b₂) given (ready .sound)
           (λ r. usageAt u i a r + usageAt u k b₂ r)
           (λ r. usageAt u i (strategyAt c i) r + usageAt u k (strategyAt c k) r)
+          (are .each)
           (λ r lr hr. omega (arith, used-one r, used-two r, ready .sums-are r lr hr))
 
   -- ---- a segment's new strategy, with the sums moved along
@@ -169,12 +174,12 @@ module _ (z : Size) (b u l c sums : List ℕ) (ready : Ready z b u l c sums) whe
           sums-are = λ r lr hr. omega (arith, h r lr hr, ready .sums-are r lr hr, used-one i a low high r);
         }
 
-pub room-part : (n m : ℕ) (u l sums : List ℕ) → Room n u l sums → m ≤ n → Room m u l sums
-room-part n m u l sums room h =
+pub room-part : (n m : ℕ) (u sums given : List ℕ) → Room n u sums given → m ≤ n → Room m u sums given
+room-part n m u sums given room h =
     record {
       few = omega (arith, room .few);
       uses = room .uses;
-      limits = room .limits;
       sums-length = room .sums-length;
       sums-small = λ r lr hr. room .sums-small r lr (omega arith);
+      budgets-length = room .budgets-length;
     }

@@ -5,27 +5,24 @@ use mathlib.Core.Bool.{Bool}
 use mathlib.Core.List.{List}
 use lib.Dec.{leb}
 use lib.ListN.{getD, length}
-use Rattle.tables.specs.Arrays.{usageAt, Uses, Limits, Cell}
+use Rattle.tables.specs.Arrays.{usageAt, Uses, Cell}
 
--- segment i goes from x to a, and segment k from y to b
-pub record Moves (i x a k y b : ℕ) : Type 0 where
-  pub from-i : Cell i x
-  pub to-i : Cell i a
-  pub from-k : Cell k y
-  pub to-k : Cell k b
+-- Budgets, where segments i and k give up strategies x and y: of each of the first resources its limit, and what they use of it now.
+pub record Budgets (resources : ℕ) (u l : List ℕ) (i x k y : ℕ) (budgets : List ℕ) : Type 0 where
+  pub places : length budgets ≡ 16
+  pub each : (r : ℕ) → 1 ≤ r → r ≤ resources → getD budgets (r - 1) 0 ≡ getD l (r - 1) 0 + (usageAt u i x r + usageAt u k y r)
 
--- what the test of the first resources reads, and bounds under which no sum wraps
-pub record Room (resources : ℕ) (u l sums : List ℕ) : Type 0 where
+-- what a test of the first resources reads, and bounds under which no sum wraps
+pub record Room (resources : ℕ) (u sums budgets : List ℕ) : Type 0 where
   pub few : resources ≤ 16
   pub uses : Uses u
-  pub limits : Limits l
   pub sums-length : length sums ≡ 16
   pub sums-small : (r : ℕ) → 1 ≤ r → r ≤ resources → getD sums (r - 1) 0 ≤ 2 ^ 47
+  pub budgets-length : length budgets ≡ 16
 
--- resource r suffices: what comes beside the sum is no more than what goes beside the limit
-unfoldable pub roomFor : List ℕ → List ℕ → List ℕ → ℕ → ℕ → ℕ → ℕ → ℕ → ℕ → ℕ → Bool
-roomFor u l sums i x a k y b r =
-    leb (getD sums (r - 1) 0 + (usageAt u i a r + usageAt u k b r)) (getD l (r - 1) 0 + (usageAt u i x r + usageAt u k y r))
+-- resource r suffices where segment i then gets strategy a and segment k strategy b
+unfoldable pub roomFor : List ℕ → List ℕ → List ℕ → ℕ → ℕ → ℕ → ℕ → ℕ → Bool
+roomFor u sums budgets i a k b r = leb (getD sums (r - 1) 0 + (usageAt u i a r + usageAt u k b r)) (getD budgets (r - 1) 0)
 
 -- what a move of the sums reads, and bounds under which none wraps
 pub record Movable (resources : ℕ) (u sums : List ℕ) (i x a : ℕ) : Type 0 where

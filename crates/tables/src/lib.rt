@@ -5,8 +5,8 @@ ghost use mathlib.Core.List.{List};
 ghost use Rattle.base.specs.Over.{all};
 ghost use lib.ListN.{length};
 ghost use Rattle.rules.specs.Phases.{strategyAt, give, total, within};
-ghost use Rattle.tables.specs.Arrays.{benefitAt, usageAt, tables, Gains, Uses, Cell, Chosen, Ready};
-ghost use Rattle.tables.specs.Moves.{Room, Moves, roomFor, Movable, moved};
+ghost use Rattle.tables.specs.Arrays.{benefitAt, usageAt, tables, Gains, Uses, Limits, Cell, Chosen, Ready};
+ghost use Rattle.tables.specs.Moves.{Budgets, Room, roomFor, Movable, moved};
 
 // How many segments, strategies and resources there are.
 pub struct Size {
@@ -42,51 +42,67 @@ pub fn usage(uses: &[u64], i: usize, j: usize, r: usize) -> u64
     uses[16 * (12 * (i - 1) + j) + (r - 1)]
 }
 
-// Resource r suffices where segment i goes from x to a and segment k from y to b.
+// Resource r suffices where segment i gets strategy a and segment k strategy b.
 fn room_in(
     uses: &[u64],
-    limits: &[u64],
     sums: &[u64],
+    budgets: &[u64],
     i: usize,
-    x: usize,
     a: usize,
     k: usize,
-    y: usize,
     b: usize,
     r: usize,
 ) -> bool
-    requires { ⌜ Room r (now uses) (now limits) (now sums) ⌝ }
-    requires { ⌜ Moves i x a k y b × (1 ≤ r) ⌝ }
-    ensures { λ ok. ⌜ ok ≡ roomFor (now (uses .entry)) (now (limits .entry)) (now (sums .entry)) i x a k y b r ⌝ }
+    requires { ⌜ Room r (now uses) (now sums) (now budgets) ⌝ }
+    requires { ⌜ Cell i a × Cell k b × (1 ≤ r) ⌝ }
+    ensures { λ ok. ⌜ ok ≡ roomFor (now (uses .entry)) (now (sums .entry)) (now (budgets .entry)) i a k b r ⌝ }
 {
     let more = usage(uses, i, a, r) + usage(uses, k, b, r);
-    let less = usage(uses, i, x, r) + usage(uses, k, y, r);
-    sums[r - 1] + more <= limits[r - 1] + less
+    sums[r - 1] + more <= budgets[r - 1]
 }
 
-// Every resource suffices where segment i goes from x to a and segment k from y to b.
+// Every resource suffices where segment i gets strategy a and segment k strategy b.
 fn room(
     resources: usize,
     uses: &[u64],
-    limits: &[u64],
     sums: &[u64],
+    budgets: &[u64],
     i: usize,
-    x: usize,
     a: usize,
     k: usize,
-    y: usize,
     b: usize,
 ) -> bool
-    requires { ⌜ Room resources (now uses) (now limits) (now sums) ⌝ }
-    requires { ⌜ Moves i x a k y b ⌝ }
-    ensures { λ ok. ⌜ ok ≡ all resources (roomFor (now (uses .entry)) (now (limits .entry)) (now (sums .entry)) i x a k y b) ⌝ }
+    requires { ⌜ Room resources (now uses) (now sums) (now budgets) ⌝ }
+    requires { ⌜ Cell i a × Cell k b ⌝ }
+    ensures { λ ok. ⌜ ok ≡ all resources (roomFor (now (uses .entry)) (now (sums .entry)) (now (budgets .entry)) i a k b) ⌝ }
 {
     for r in 0..resources {
-        if !room_in(uses, limits, sums, i, x, a, k, y, b, r + 1) {
+        if !room_in(uses, sums, budgets, i, a, k, b, r + 1) {
             return false;
         }
     }
     true
+}
+
+// The budget of each resource where segments i and k give up strategies x and y.
+pub fn budgets(
+    resources: usize,
+    uses: &[u64],
+    limits: &[u64],
+    i: usize,
+    x: usize,
+    k: usize,
+    y: usize,
+) -> [u64; 16]
+    requires { ⌜ (resources ≤ 16) × Uses (now uses) × Limits (now limits) ⌝ }
+    requires { ⌜ Cell i x × Cell k y ⌝ }
+    ensures { λ v. ⌜ Budgets resources (now (uses .entry)) (now (limits .entry)) i x k y v ⌝ }
+{
+    let mut each = [0u64; 16];
+    for r in 0..resources {
+        each[r] = limits[r] + (usage(uses, i, x, r + 1) + usage(uses, k, y, r + 1));
+    }
+    each
 }
 
 // The limits hold where segment i gets strategy a.
@@ -104,21 +120,11 @@ pub fn fits_one(
     requires { ⌜ (1 ≤ i) × (i ≤ z .segments) × (a ≤ z .strategies) ⌝ }
     ensures { λ ok. ⌜ ok ≡ within (tables z (now (benefits .entry)) (now (uses .entry)) (now (limits .entry))) (give (now (choice .entry)) i a) ⌝ }
 {
-    room(
-        z.resources,
-        uses,
-        limits,
-        sums,
-        i,
-        choice[i - 1],
-        a,
-        i,
-        0,
-        0,
-    )
+    let given = budgets(z.resources, uses, limits, i, choice[i - 1], i, 0);
+    room(z.resources, uses, sums, &given, i, a, i, 0)
 }
 
-// The limits hold where segment i gets strategy a and a higher segment k strategy b.
+// The limits hold where segment i gets strategy a and a higher segment k strategy b, their budgets being given.
 pub fn fits_two(
     z: Size,
     benefits: &[u64],
@@ -126,27 +132,17 @@ pub fn fits_two(
     limits: &[u64],
     choice: &[usize],
     sums: &[u64],
+    given: &[u64],
     i: usize,
     k: usize,
     a: usize,
     b: usize,
 ) -> bool
     requires { ⌜ Ready z (now benefits) (now uses) (now limits) (now choice) (now sums) ⌝ }
-    requires { ⌜ (1 ≤ i) × (i < k) × (k ≤ z .segments) × (a ≤ z .strategies) × (b ≤ z .strategies) ⌝ }
+    requires { ⌜ (1 ≤ i) × (i < k) × (k ≤ z .segments) × (a ≤ z .strategies) × (b ≤ z .strategies) × Budgets (z .resources) (now uses) (now limits) i (strategyAt (now choice) i) k (strategyAt (now choice) k) (now given) ⌝ }
     ensures { λ ok. ⌜ ok ≡ within (tables z (now (benefits .entry)) (now (uses .entry)) (now (limits .entry))) (give (give (now (choice .entry)) i a) k b) ⌝ }
 {
-    room(
-        z.resources,
-        uses,
-        limits,
-        sums,
-        i,
-        choice[i - 1],
-        a,
-        k,
-        choice[k - 1],
-        b,
-    )
+    room(z.resources, uses, sums, given, i, a, k, b)
 }
 
 // The sums after segment i goes from x to a.

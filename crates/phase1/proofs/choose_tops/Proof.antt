@@ -1,12 +1,12 @@
 -- `phase1::choose_tops` meets its contract: the segments passed have their top candidates. Assumes nothing.
 use Prim.Native.Nat.{ℕ, _+_, _-_, _≤_}
-use mathlib.Core.Path.{_≡_, _∙_}
+use mathlib.Core.Path.{_≡_}
 use mathlib.Core.List.{List}
 use native.Mathlib.Omega.{arith}
+use denote.Ref.{now}
 use borrow.Author.Needs.{needs}
 use lib.ListN.{length, length-set}
-use lib.Seq.{getD-set-same, getD-set-other}
-use Rattle.base.proofs.All.{each-none, each-next}
+use Rattle.base.proofs.All.{each-none, each-set}
 use Rattle.rules.specs.Phases.{strategyAt, topCandidate}
 use Rattle.tables.specs.Arrays.{tables}
 use Rattle.phase1.proofs.Laws.{start-is}
@@ -23,15 +23,12 @@ loop-holds : tie.Need-loop-holds Inv-loop μ-loop
 loop-holds c = (search needs, search needs, each-none _)
 
 loop-again : tie.Need-loop-again Inv-loop μ-loop
-loop-again c = let l = c .before .before .loop in
-    let e : l .i + 1 - 1 ≡ l .i = omega arith in (
+loop-again c =
+    let a = c .before .before .before .before .before .args in
+    let l = c .before .before .loop in (
       search needs,
       simp length-set (l .inv .1),
-      each-next _ _
-          (λ k lk hk u m.
-          let ne : k - 1 ≡ l .i → ⊥ = λ q. omega arith in
-          getD-set-other (l .choice) (l .i) (k - 1) _ 0 ne ∙ l .inv .2 k lk hk u m)
-          (λ u m. rw e (getD-set-same (l .choice) (l .i) _ 0 (omega arith) ∙ c .top-candidate .ensures u m)),
+      each-set (λ k v. (u m : List ℕ) → v ≡ topCandidate (tables (a .z) (now (a .benefits)) u m) k) (l .choice) (l .i) _ (omega arith) (l .inv .2) (c .top-candidate .ensures),
     )
 
 returns : tie.Need-returns Inv-loop μ-loop

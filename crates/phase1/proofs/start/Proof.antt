@@ -5,8 +5,7 @@ use denote.Ref.{now}
 use native.Mathlib.Omega.{arith}
 use borrow.Author.Needs.{needs}
 use lib.ListN.{length, getD, length-set}
-use lib.Seq.{getD-set-same, getD-set-other}
-use Rattle.base.proofs.All.{each-none, each-next}
+use Rattle.base.proofs.All.{each-none, each-set}
 use Rattle.rules.specs.Phases.{used}
 use Rattle.tables.specs.Arrays.{tables}
 use Rattle.phase1.proofs.Laws.{start-chosen}
@@ -35,14 +34,11 @@ used-of-requires c κs = let s = c .before .before .before .before .before .befo
 loop-again : tie.Need-loop-again Inv-loop μ-loop
 loop-again c = let s = c .before .before .before .before .before .before .before .before .before .before .before .before .before in
     let l = c .before .before .before .loop in
-    let here : l .r + 1 - 1 ≡ l .r = omega arith in (
+    let choice = c .before .before .before .before .before .before .choose-tops .last .1 .1 .0 in (
       search needs,
       simp length-set (l .inv .1),
-      each-next _ _
-          (λ q lq hq.
-          let ne : q - 1 ≡ l .r → ⊥ = λ e. omega arith in
-          getD-set-other (l .sums) (l .r) (q - 1) _ 0 ne ∙ l .inv .2 q lq hq)
-          (rw here (getD-set-same (l .sums) (l .r) _ 0 (omega (arith, s .pre .0 .resources)) ∙ c .used-of .ensures _ _)),
+      each-set (λ q v. v ≡ used (tables (s .args .z) (now (s .args .benefits)) (now (s .args .uses)) (now (s .args .limits))) choice q) (l .sums) (l .r) _ (omega (arith, s .pre .0 .resources)) (l .inv .2)
+          (c .used-of .ensures _ _),
     )
 
 same-length : tie.Need-same-length Inv-loop μ-loop

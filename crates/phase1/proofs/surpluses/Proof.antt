@@ -1,11 +1,11 @@
 -- `phase1::surpluses` meets its contract: the surpluses passed are right. Assumes nothing.
 use Prim.Native.Nat.{ℕ, _+_, _-_, _≤_}
-use mathlib.Core.Path.{_≡_, refl, _∙_}
+use mathlib.Core.Path.{_≡_, refl}
 use native.Mathlib.Omega.{arith}
+use denote.Ref.{now}
 use borrow.Author.Needs.{needs}
 use lib.ListN.{length, getD, length-set}
-use lib.Seq.{getD-set-same, getD-set-other}
-use Rattle.base.proofs.All.{each-none, each-next}
+use Rattle.base.proofs.All.{each-none, each-set}
 use Rattle.rules.specs.Phases.{surplus}
 use Rattle.tables.specs.Arrays.{tables}
 use Rattle.phase1.proofs.surpluses.Statement.{statement}
@@ -25,15 +25,12 @@ surplus-of-requires : tie.Need-surplus-of-requires Inv-loop μ-loop
 surplus-of-requires c κs = (c .before .before .before .before .before .before .before .before .pre, search needs)
 
 loop-again : tie.Need-loop-again Inv-loop μ-loop
-loop-again c = let l = c .before .before .loop in
-    let here : l .r + 1 - 1 ≡ l .r = omega arith in (
+loop-again c =
+    let a = c .before .before .before .before .before .before .before .before .before .args in
+    let l = c .before .before .loop in (
       search needs,
       simp length-set (l .inv .1),
-      each-next _ _
-          (λ q lq hq.
-          let ne : q - 1 ≡ l .r → ⊥ = λ e. omega arith in
-          getD-set-other (l .over) (l .r) (q - 1) _ 0 ne ∙ l .inv .2 q lq hq)
-          (rw here (getD-set-same (l .over) (l .r) _ 0 (omega arith) ∙ c .surplus-of .ensures)),
+      each-set (λ q v. v ≡ surplus (tables (a .z) (now (a .benefits)) (now (a .uses)) (now (a .limits))) (now (a .choice)) q) (l .over) (l .r) _ (omega arith) (l .inv .2) (c .surplus-of .ensures),
     )
 
 returns : tie.Need-returns Inv-loop μ-loop

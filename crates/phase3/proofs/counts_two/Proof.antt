@@ -11,14 +11,14 @@ use Rattle.phase3.proofs.counts_two.Tie as tie
 
 add-new : tie.Need-add-new
 add-new c =
-    let s = c .before .before .before .before .before .before .before in
+    let s = c .before .before .before .before .before .before .before .before in
     let a = s .args in
     let small = benefit-lt (now (a .benefits)) (s .pre .0 .sound .gains) in
     omega (arith, small (a .i) (a .a), small (a .k) (a .b), c .benefit2 .ensures, c .before .benefit .ensures)
 
 returns : tie.Need-returns
 returns c =
-    let s = c .before .before .before .before .before .before .before .before .before in
+    let s = c .before .before .before .before .before .before .before .before .before .before in
     let r = s .pre .0 in
     let m = s .pre .1 .0 in
     let room = places _ _ _ _ _ _ r in
@@ -29,7 +29,7 @@ returns-2 c = sym (not-second _ _ _ _ _ _ (sym (c .before .is-another .ensures _
 
 returns-3 : tie.Need-returns-3
 returns-3 c =
-    let s = c .before .before .before .before .before .before .before .before .before .before .before .before in
+    let s = c .before .before .before .before .before .before .before .before .before .before .before .before .before in
     let r = s .pre .0 in
     let m = s .pre .1 .0 in
     let room = places _ _ _ _ _ _ r in

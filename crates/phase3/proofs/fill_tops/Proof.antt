@@ -2,9 +2,9 @@
 use Prim.Native.Nat.{ℕ, _+_, _-_, _≤_}
 use mathlib.Core.Path.{_≡_, refl}
 use native.Mathlib.Omega.{arith}
+use denote.Ref.{now}
 use lib.ListN.{length, getD, length-set}
-use lib.Seq.{getD-set-same, getD-set-other}
-use Rattle.base.proofs.All.{each-none, each-next}
+use Rattle.base.proofs.All.{each-none, each-set}
 use Rattle.base.specs.Over.{most}
 use Rattle.tables.specs.Arrays.{benefitAt}
 use borrow.Author.Needs.{needs}
@@ -22,16 +22,11 @@ loop-holds c = (search needs, refl, each-none _)
 
 loop-again : tie.Need-loop-again Inv-loop μ-loop
 loop-again c =
-    let l = c .before .before .loop in
-    let i = l .i in
-    let here : i + 1 - 1 ≡ i = omega arith in (
+    let a = c .before .before .before .before .before .args in
+    let l = c .before .before .loop in (
       search needs,
       simp length-set (l .inv .1),
-      each-next _ _
-          (λ p lp hp.
-          let ne : p - 1 ≡ i → ⊥ = λ e. omega arith in
-          rw (getD-set-other (l .tops) i (p - 1) _ 0 ne) (l .inv .2 p lp hp))
-          (rw (here, getD-set-same (l .tops) i _ 0 (omega arith)) (c .top-of .ensures)),
+      each-set (λ p v. v ≡ most (a .z .strategies) (benefitAt (now (a .benefits)) p)) (l .tops) (l .i) _ (omega arith) (l .inv .2) (c .top-of .ensures),
     )
 
 returns : tie.Need-returns Inv-loop μ-loop

@@ -29,18 +29,18 @@ use Rattle.phase3.proofs.first_two.Statement.{statement}
 use Rattle.phase3.proofs.first_two.Tie as tie
 
 abbrev Inv-loop3 : tie.InvT-loop3
-Inv-loop3 z benefits uses limits choice sums tops found₀ segments-end strategies-end i k a b₀ found b =
+Inv-loop3 z benefits uses limits choice sums tops found₀ segments-end strategies-end i k given a b₀ found b =
     (b ≤ strategies-end) × ((v : ℕ) → v < b → pair (tables z benefits uses limits) choice i k a v ≡ none) × (found ≡ Nothing)
 
 abbrev μ-loop3 : tie.MeasureT-loop3
-μ-loop3 z benefits uses limits choice sums tops found₀ segments-end strategies-end i k a b₀ found b = strategies-end - b
+μ-loop3 z benefits uses limits choice sums tops found₀ segments-end strategies-end i k given a b₀ found b = strategies-end - b
 
 abbrev Inv-loop2 : tie.InvT-loop2
-Inv-loop2 z benefits uses limits choice sums tops found₀ segments-end strategies-end i k a₀ found a =
+Inv-loop2 z benefits uses limits choice sums tops found₀ segments-end strategies-end i k given a₀ found a =
     (a ≤ strategies-end) × ((v : ℕ) → v < a → pairsWith (tables z benefits uses limits) choice i k v ≡ none) × (found ≡ Nothing)
 
 abbrev μ-loop2 : tie.MeasureT-loop2
-μ-loop2 z benefits uses limits choice sums tops found₀ segments-end strategies-end i k a₀ found a = strategies-end - a
+μ-loop2 z benefits uses limits choice sums tops found₀ segments-end strategies-end i k given a₀ found a = strategies-end - a
 
 abbrev Inv-loop : tie.InvT-loop
 Inv-loop z benefits uses limits choice sums tops found₀ segments-end strategies-end i k₀ found k =
@@ -55,30 +55,6 @@ Inv-search z benefits uses limits choice sums tops found₀ segments-end strateg
 
 abbrev μ-search : tie.MeasureT-search
 μ-search z benefits uses limits choice sums tops found₀ segments-end strategies-end i₀ found i = segments-end - i
-
-add-segments-end :
-    tie.Need-add-segments-end
-    Inv-loop3
-    μ-loop3
-    Inv-loop2
-    μ-loop2
-    Inv-loop
-    μ-loop
-    Inv-search
-    μ-search
-add-segments-end c = search needs
-
-add-strategies-end :
-    tie.Need-add-strategies-end
-    Inv-loop3
-    μ-loop3
-    Inv-loop2
-    μ-loop2
-    Inv-loop
-    μ-loop
-    Inv-search
-    μ-search
-add-strategies-end c = search needs
 
 search-holds :
     tie.Need-search-holds Inv-loop3 μ-loop3 Inv-loop2 μ-loop2 Inv-loop μ-loop Inv-search μ-search
@@ -102,9 +78,21 @@ pair-may-rise-requires c κs =
     let s = c .before .before .before .before .before .before .before .before .before .before .before .before .pre in
     ((compared-of _ _ _ _ _ _ (s .0), s .1), (omega arith, omega arith, omega arith))
 
+both-give-up-requires :
+    tie.Need-both-give-up-requires
+    Inv-loop3
+    μ-loop3
+    Inv-loop2
+    μ-loop2
+    Inv-loop
+    μ-loop
+    Inv-search
+    μ-search
+both-give-up-requires c κs = (c .before .before .before .before .before .before .before .before .before .before .before .before .before .before .pre .0, (omega arith, omega arith, omega arith))
+
 loop2-holds :
     tie.Need-loop2-holds Inv-loop3 μ-loop3 Inv-loop2 μ-loop2 Inv-loop μ-loop Inv-search μ-search
-loop2-holds c = (search needs, below-none _, c .before .before .before .loop .inv .3)
+loop2-holds c = (search needs, below-none _, c .before .before .before .before .loop .inv .3)
 
 with-may-count-requires :
     tie.Need-with-may-count-requires
@@ -116,11 +104,11 @@ with-may-count-requires :
     μ-loop
     Inv-search
     μ-search
-with-may-count-requires c κs = (c .before .before .before .before .before .before .before .before .before .before .before .before .before .before .before .before .pre, (omega arith, omega arith, omega arith, omega arith))
+with-may-count-requires c κs = (c .before .before .before .before .before .before .before .before .before .before .before .before .before .before .before .before .before .before .pre, (omega arith, omega arith, omega arith, omega arith, c .before .before .before .both-give-up .ensures))
 
 loop3-holds :
     tie.Need-loop3-holds Inv-loop3 μ-loop3 Inv-loop2 μ-loop2 Inv-loop μ-loop Inv-search μ-search
-loop3-holds c = (search needs, below-none _, c .before .before .before .loop2 .inv .2)
+loop3-holds c = (search needs, below-none _, c .before .before .before .before .loop2 .inv .2)
 
 counts-two-requires :
     tie.Need-counts-two-requires
@@ -133,34 +121,29 @@ counts-two-requires :
     Inv-search
     μ-search
 counts-two-requires c κs = (
-  c .before .before .before .before .before .before .before .before .before .before .before .before .before .before .before .before .before .before .before .before .pre .0,
-  ((omega arith, omega arith, omega arith, omega arith, omega arith), another-of _ _ _ _ _ (sym (c .before .before .before .with-may-count .ensures) ∙ c .before .before .if2 .taken)),
+  c .before .before .before .before .before .before .before .before .before .before .before .before .before .before .before .before .before .before .before .before .before .before .before .pre .0,
+  ((omega arith, omega arith, omega arith, omega arith, omega arith, c .before .before .before .before .before .before .before .before .both-give-up .ensures), another-of _ _ _ _ _ (sym (c .before .before .before .before .with-may-count .ensures) ∙ c .before .before .before .if2 .taken)),
 )
 
 add-b : tie.Need-add-b Inv-loop3 μ-loop3 Inv-loop2 μ-loop2 Inv-loop μ-loop Inv-search μ-search
-add-b c = omega (arith, c .before .before .loop3-test .taken, c .before .before .before .before .before .before .before .before .before .before .before .before .before .before .before .before .before .before .before .before .before .before .pre .0 .sound .strategies)
-
-loop3-less :
-    tie.Need-loop3-less Inv-loop3 μ-loop3 Inv-loop2 μ-loop2 Inv-loop μ-loop Inv-search μ-search
-loop3-less c = search needs
+add-b c = omega (arith, c .before .before .before .loop3-test .taken, c .before .before .before .before .before .before .before .before .before .before .before .before .before .before .before .before .before .before .before .before .before .before .before .before .before .pre .0 .sound .strategies)
 
 loop3-again :
     tie.Need-loop3-again Inv-loop3 μ-loop3 Inv-loop2 μ-loop2 Inv-loop μ-loop Inv-search μ-search
 loop3-again c = (
   search needs,
-  below-more _ _ (c .before .before .before .loop3 .inv .1) (pair-none _ _ _ _ _ _ (sym (c .before .counts-two .ensures) ∙ c .if3 .left)),
-  c .before .before .before .loop3 .inv .2,
+  below-more _ _ (c .before .before .before .before .loop3 .inv .1) (pair-none _ _ _ _ _ _ (sym (c .before .counts-two .ensures) ∙ c .if3 .left)),
+  c .before .before .before .before .loop3 .inv .2,
 )
 
-loop2-less :
-    tie.Need-loop2-less Inv-loop3 μ-loop3 Inv-loop2 μ-loop2 Inv-loop μ-loop Inv-search μ-search
-loop2-less c = search needs
+add-a : tie.Need-add-a Inv-loop3 μ-loop3 Inv-loop2 μ-loop2 Inv-loop μ-loop Inv-search μ-search
+add-a c = omega (arith, c .before .before .before .loop2-test .taken, c .before .before .before .before .before .before .before .before .before .before .before .before .before .before .before .before .before .before .before .before .pre .0 .sound .strategies)
 
 loop2-again :
     tie.Need-loop2-again Inv-loop3 μ-loop3 Inv-loop2 μ-loop2 Inv-loop μ-loop Inv-search μ-search
 loop2-again c =
-    let l = c .before .before .before .loop2 in
-    let room = places _ _ _ _ _ _ (c .before .before .before .before .before .before .before .before .before .before .before .before .before .before .before .before .before .before .pre .0) in
+    let l = c .before .before .before .before .loop2 in
+    let room = places _ _ _ _ _ _ (c .before .before .before .before .before .before .before .before .before .before .before .before .before .before .before .before .before .before .before .before .pre .0) in
     ⊎-elim
     (λ w. (
       search needs,
@@ -174,10 +157,6 @@ loop2-again c =
     ))
     (c .if2 .came)
 
-loop-less :
-    tie.Need-loop-less Inv-loop3 μ-loop3 Inv-loop2 μ-loop2 Inv-loop μ-loop Inv-search μ-search
-loop-less c = search needs
-
 loop-again :
     tie.Need-loop-again Inv-loop3 μ-loop3 Inv-loop2 μ-loop2 Inv-loop μ-loop Inv-search μ-search
 loop-again c =
@@ -188,8 +167,8 @@ loop-again c =
     (λ w. (
       search needs,
       search needs,
-      below-more _ _ (l .inv .2) (λ one. of-none _ _ _ _ (λ v lv. w .1 .inv .1 v (omega arith))),
-      w .3 ∙ w .1 .inv .2,
+      below-more _ _ (l .inv .2) (λ one. of-none _ _ _ _ (λ v lv. w .2 .inv .1 v (omega arith))),
+      w .4 ∙ w .2 .inv .2,
     ))
     (λ w. (
       search needs,
@@ -198,10 +177,6 @@ loop-again c =
       w .1 ∙ l .inv .3,
     ))
     (c .if1 .came)
-
-search-less :
-    tie.Need-search-less Inv-loop3 μ-loop3 Inv-loop2 μ-loop2 Inv-loop μ-loop Inv-search μ-search
-search-less c = search needs
 
 search-again :
     tie.Need-search-again Inv-loop3 μ-loop3 Inv-loop2 μ-loop2 Inv-loop μ-loop Inv-search μ-search
@@ -218,13 +193,14 @@ returns c = found-nothing _ _ _ _ (c .before .search .inv .3) (pairs-end _ _ (λ
 returns-2 :
     tie.Need-returns-2 Inv-loop3 μ-loop3 Inv-loop2 μ-loop2 Inv-loop μ-loop Inv-search μ-search
 returns-2 c =
+    let outer = c .before .before .before .before .before .before .before .before .before .before .before .before .before .before .before .before .search in
+    let inner = c .before .before .before .before .before .before .before .before .before .before .before .before .before .before .loop in
     record {
-      is = sym (pair-found _ _ _ _ _ _ (omega arith) (omega arith) (omega arith)
-          (c .before .before .before .before .before .before .before .before .before .before .before .before .before .search .inv .2) (c .before .before .before .before .before .before .before .before .before .before .before .loop .inv .2)
-          (omega arith) (c .before .before .before .before .before .before .before .loop2 .inv .1)
-          (omega arith) (c .before .before .before .loop3 .inv .1)
+      is = sym (pair-found _ _ _ _ _ _ (outer .inv .0) (omega arith) (omega arith) (outer .inv .2) (inner .inv .2)
+          (omega arith) (c .before .before .before .before .before .before .before .before .before .loop2 .inv .1)
+          (omega arith) (c .before .before .before .before .loop3 .inv .1)
           (sym (c .before .counts-two .ensures) ∙ c .if3 .taken));
-      inside = (omega arith, omega arith, omega arith, omega arith, omega arith);
+      inside = (outer .inv .0, inner .inv .0, omega arith, omega arith, omega arith);
     }
 
 pub first-two-spec : {M : Type 1} → statement M
@@ -239,27 +215,30 @@ first-two-spec =
     μ-loop
     Inv-search
     μ-search
-    add-segments-end
-    add-strategies-end
+    (λ c. search needs)
+    (λ c. search needs)
     search-holds
     (λ c. search needs)
     loop-holds
     pair-may-rise-requires
+    both-give-up-requires
     loop2-holds
+    (λ c. search needs)
     with-may-count-requires
     loop3-holds
+    (λ c. search needs)
     counts-two-requires
     add-b
-    loop3-less
-    loop3-again
     (λ c. search needs)
-    loop2-less
+    loop3-again
+    add-a
+    (λ c. search needs)
     loop2-again
     (λ c. search needs)
-    loop-less
+    (λ c. search needs)
     loop-again
     (λ c. search needs)
-    search-less
+    (λ c. search needs)
     search-again
     returns
     returns-2)

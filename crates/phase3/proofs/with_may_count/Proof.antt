@@ -14,7 +14,7 @@ returns c = sym (not-another _ _ _ _ _ (sym (c .before .is-another .ensures _ _)
 
 add-if2 : tie.Need-add-if2
 add-if2 c =
-    let s = c .before .before .before .before .before .before .before .before .before .before in
+    let s = c .before .before .before .before .before .before .before .before .before .before .before in
     let a = s .args in
     let e = s .pre .0 .1 .each in
     let g = s .pre .0 .0 .sound .gains in
@@ -27,7 +27,7 @@ add-if2 c =
 
 returns-2 : tie.Need-returns-2
 returns-2 c =
-    let s = c .before .before .before .before .before .before .before .before .before .before .before .before in
+    let s = c .before .before .before .before .before .before .before .before .before .before .before .before .before in
     let a = s .args in
     let e = s .pre .0 .1 .each in
     let p = c .before .present-benefit .ensures (now (a .uses)) (now (a .limits)) in
@@ -35,7 +35,7 @@ returns-2 c =
 
 returns-3 : tie.Need-returns-3
 returns-3 c =
-    let s = c .before .before .before .before .before .before .before .before .before .before .before .before .before in
+    let s = c .before .before .before .before .before .before .before .before .before .before .before .before .before .before in
     let a = s .args in
     let e = s .pre .0 .1 .each in
     let p = c .before .before .present-benefit .ensures (now (a .uses)) (now (a .limits)) in

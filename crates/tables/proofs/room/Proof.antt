@@ -13,16 +13,18 @@ use Rattle.tables.proofs.room.Statement.{statement}
 use Rattle.tables.proofs.room.Tie as tie
 
 abbrev Inv-loop : tie.InvT-loop
-Inv-loop resources uses limits sums i x a k y b r₀ r = (r ≤ resources) × (all r (roomFor uses limits sums i x a k y b) ≡ true)
+Inv-loop resources uses sums budgets i a k b r₀ r = (r ≤ resources) × (all r (roomFor uses sums budgets i a k b) ≡ true)
 
 abbrev μ-loop : tie.MeasureT-loop
-μ-loop resources uses limits sums i x a k y b r₀ r = resources - r
+μ-loop resources uses sums budgets i a k b r₀ r = resources - r
 
 loop-holds : tie.Need-loop-holds Inv-loop μ-loop
 loop-holds c = (search needs, all-none _)
 
 room-in-requires : tie.Need-room-in-requires Inv-loop μ-loop
-room-in-requires c κs = (room-part _ _ _ _ _ (c .before .before .before .before .before .pre .0) (omega arith), (c .before .before .before .before .before .pre .1, omega arith))
+room-in-requires c κs =
+    let s = c .before .before .before .before .before in
+    (room-part _ _ _ _ _ (s .pre .0) (omega arith), (s .pre .1 .0, s .pre .1 .1, omega arith))
 
 returns : tie.Need-returns Inv-loop μ-loop
 returns c = sym (all-fails _ _ (c .before .before .before .loop .r + 1) (omega arith) (omega arith) (sym (c .before .room-in .ensures) ∙ not-true _ (c .if1 .taken)))
