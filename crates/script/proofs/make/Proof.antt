@@ -29,31 +29,31 @@ refused-requires c κs = search needs
 
 returns : tie.Need-returns
 unfolding callOf outcomeOf
-returns c = rw (c .before .before .match .keys1, c .before .load .ensures)
+returns c = rw (c .before .match .keys1, c .load .ensures)
 
 returns-2 : tie.Need-returns-2
 unfolding callOf outcomeOf
-returns-2 c = rw (c .before .before .match .keys2, c .before .bar .ensures)
+returns-2 c = rw (c .before .match .keys2, c .bar .ensures)
 
 returns-3 : tie.Need-returns-3
 unfolding callOf outcomeOf
-returns-3 c = rw (c .before .before .match .keys3, c .before .unbar .ensures)
+returns-3 c = rw (c .before .match .keys3, c .unbar .ensures)
 
 returns-4 : tie.Need-returns-4
 unfolding callOf outcomeOf
-returns-4 c = rw (c .before .before .match .keys4, c .before .set-limit .ensures)
+returns-4 c = rw (c .before .match .keys4, c .set-limit .ensures)
 
 returns-5 : tie.Need-returns-5
 unfolding callOf outcomeOf
-returns-5 c = rw (c .before .before .match .keys5, c .before .set-rating .ensures)
+returns-5 c = rw (c .before .match .keys5, c .set-rating .ensures)
 
 returns-6 : tie.Need-returns-6
 unfolding callOf outcomeOf
-returns-6 c = rw (c .before .match .keys6) (c .exported .ensures)
+returns-6 c = rw (c .before .match .keys6, c .exported .ensures)
 
 returns-7 : tie.Need-returns-7
 unfolding callOf outcomeOf
-returns-7 c = rw (c .before .match .keys7) (c .refused .ensures)
+returns-7 c = rw (c .before .match .keys7, c .refused .ensures)
 
 returns-8 : tie.Need-returns-8
 unfolding callOf outcomeOf

@@ -1,29 +1,27 @@
 -- `script::run` meets its contract. Assumes nothing.
 use Prim.Native.Nat.{_≤_}
-use mathlib.Core.Path.{_≡_, refl, ap, sym, _∙_}
+use mathlib.Core.Path.{_≡_, refl, sym, _∙_}
 use borrow.Author.Needs.{needs}
 use native.Mathlib.Omega.{arith}
 use lib.ListN.{length, drop}
-use Rattle.rules.specs.Lists.{unitFrom, unitAfter}
-use Rattle.rules.specs.declared.Unit.{Unit}
-use Rattle.script.specs.Script.{callsIn, callsOf}
-use Rattle.script.proofs.Turns.{stops, turned, claimed}
+use Rattle.script.specs.Script.{callsIn, callsOf, replyFrom, replyAfter}
+use Rattle.script.proofs.Turns.{stops, turned, met}
 use Rattle.script.proofs.run.Statement.{statement}
 use Rattle.script.proofs.run.Tie as tie
 
 abbrev Inv-loop : tie.InvT-loop
-Inv-loop script u₀ at₀ left₀ u at left =
-    (at ≤ length script) × (unitFrom u (callsIn left (drop at script)) ≡ unitAfter (callsOf script))
+Inv-loop script last₀ at₀ left₀ last at left =
+    (at ≤ length script) × (replyFrom last (callsIn left (drop at script)) ≡ replyAfter (callsOf script))
 
 abbrev μ-loop : tie.MeasureT-loop
-μ-loop script u₀ at₀ left₀ u at left = left
+μ-loop script last₀ at₀ left₀ last at left = left
 
 fresh-requires : tie.Need-fresh-requires Inv-loop μ-loop
 fresh-requires c κs = search needs
 
 loop-holds : tie.Need-loop-holds Inv-loop μ-loop
-unfolding unitAfter callsOf
-loop-holds c = (search needs, ap (λ (u : Unit). unitFrom u (callsOf (c .before .before .args .script .now))) (c .fresh .ensures .0))
+unfolding replyAfter callsOf
+loop-holds c = (search needs, rw (c .fresh .ensures .0))
 
 sub-rest : tie.Need-sub-rest Inv-loop μ-loop
 sub-rest c = search needs
@@ -38,8 +36,8 @@ returns : tie.Need-returns Inv-loop μ-loop
 returns c =
     let l = c .before .before .before .loop in
     let s = c .before .before .before .before .before .before .args .script .now in
-    let e : l .u ≡ unitAfter (callsOf s) = sym (stops s (l .at) _ refl (l .u) (l .left) (omega arith)) ∙ l .inv .1 in
-    (e, claimed s (l .u) e)
+    let e : l .last ≡ replyAfter (callsOf s) = sym (stops s (l .at) _ refl (l .last) (l .left) (omega arith)) ∙ l .inv .1 in
+    met s (l .last) e
 
 body-of-requires : tie.Need-body-of-requires Inv-loop μ-loop
 body-of-requires c κs = search needs
@@ -51,8 +49,8 @@ returns-2 : tie.Need-returns-2 Inv-loop μ-loop
 returns-2 c =
     let l = c .before .before .before .before .before .loop in
     let s = c .before .before .before .before .before .before .before .before .args .script .now in
-    let e : l .u ≡ unitAfter (callsOf s) = sym (stops s (l .at) _ (c .before .body-of .ensures) (l .u) (l .left) (omega arith)) ∙ l .inv .1 in
-    (e, claimed s (l .u) e)
+    let e : l .last ≡ replyAfter (callsOf s) = sym (stops s (l .at) _ (c .before .body-of .ensures) (l .last) (l .left) (omega arith)) ∙ l .inv .1 in
+    met s (l .last) e
 
 shared-slice-read-kind : tie.Need-shared-slice-read-kind Inv-loop μ-loop
 shared-slice-read-kind c = search needs
@@ -95,21 +93,24 @@ loop-less c = search needs
 
 loop-again : tie.Need-loop-again Inv-loop μ-loop
 loop-again c =
-    let l = c .before .before .before .before .before .before .before .before .before .before .before .loop in
-    let s = c .before .before .before .before .before .before .before .before .before .before .before .before .before .before .args .script .now in (
+    let read = c .before .before in
+    let body = read .before .before .before .before .before .before in
+    let again = body .before .before .before in
+    let l = again .before .loop in
+    let s = again .before .before .before .before .args .script .now in (
       omega arith,
-      turned s (l .at) _ (c .before .before .before .before .before .before .before .body-of .ensures) (l .u) (c .make .result) (l .left) _ _ _ (c .before .before .before .before .before .before .before .before .before .before .loop-test .taken) (omega arith) (c .before .before .before .before .number .ensures) (c .before .before .before .number2 .ensures) (c .before .before .number3 .ensures) (c .make .ensures)
+      turned s (l .at) _ (body .body-of .ensures) (l .last) (c .make .result) (l .left) _ _ _ (again .loop-test .taken) (omega arith) (read .before .before .number .ensures) (read .before .number2 .ensures) (read .number3 .ensures) (c .make .ensures)
           ∙ l .inv .1,
     )
 
 returns-3 : tie.Need-returns-3 Inv-loop μ-loop
-unfolding callsIn unitFrom
+unfolding callsIn replyFrom
 returns-3 c =
     let l = c .before .loop in
     let s = c .before .before .before .before .args .script .now in
     let z : l .left ≡ 0 = omega arith in
-    let e : l .u ≡ unitAfter (callsOf s) = rw z at (l .inv .1) in
-    (e, claimed s (l .u) e)
+    let e : l .last ≡ replyAfter (callsOf s) = rw z at (l .inv .1) in
+    met s (l .last) e
 
 pub run-spec : {M : Type 1} → statement M
 run-spec =
