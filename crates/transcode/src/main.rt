@@ -1,7 +1,6 @@
 // Loads and exports files, for a comparison with other decoders. Standard input holds frames: a length of 4 bytes, low
 // byte first, and that many bytes. For each, standard output gets the refusal's number or 0, and after a 0 the length,
 // in 4 bytes again, and the bytes of the exported file. A frame that is cut short or longer than 65,536 ends the run.
-use libc::STDIN_FILENO;
 use libc::STDOUT_FILENO;
 use rules::Answer;
 use rules::District;
@@ -44,25 +43,15 @@ fn transcode(frame: &[u8]) -> bool {
     io::write_all(STDOUT_FILENO, &number)
 }
 
-fn read_frame(space: &mut [u8], length: usize) -> bool {
-    if space.len() < length {
-        return false;
-    }
-    if io::read_full(STDIN_FILENO, &mut space[..length]) < length {
-        return false;
-    }
-    transcode(&space[..length])
-}
-
 // One frame; false where there is none.
 fn next_frame() -> bool {
-    let mut header = [0u8; 4];
-    if io::read_full(STDIN_FILENO, &mut header) < 4 {
+    let mut space = io::large_buffer();
+    let frame = frames::read(&mut space);
+    if !frame.whole {
         return false;
     }
-    let length = file::bytes::number(&header, 0, 4);
-    let mut space = io::large_buffer();
-    read_frame(&mut space, length)
+    let n = frame.length;
+    transcode(&space[..n])
 }
 
 fn main() {
