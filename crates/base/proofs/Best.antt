@@ -8,9 +8,9 @@ use native.Mathlib.Numerals.{add-one}
 use native.Mathlib.Omega.{arith}
 use borrow.Author.Tests.{ltb-true, ltb-false, eqb-true, eqb-false, eq-eqb, ne-eqb}
 use lib.Dec.{ltb, eqb}
-use lib.ListN.{getD, length}
 use Rattle.base.specs.Choice.{pick}
-use Rattle.base.specs.Over.{best, betterOf, listedFrom}
+use Rattle.base.specs.Over.{best, betterOf}
+use Rattle.base.proofs.Choice.{pick-all}
 use Rattle.base.proofs.Sums.{up-to}
 
 pub best-none : (p : ℕ → Bool) (better : ℕ → ℕ → Bool) → 0 ≡ best 0 p better
@@ -156,25 +156,8 @@ module _ (p : ℕ → Bool) (f : ℕ → ℕ) where
         taken e (inl z) = absurd (omega (arith, h e, leads .number, ap f z, leads .none-has, leads .some-have (n + 1) e))
         taken e (inr w) = absurd (omega (arith, h e, leads .number))
 
-pick-le : (t : Bool) (x y b : ℕ) → x ≤ b → y ≤ b → pick t x y ≤ b
-pick-le true x y b p q = p
-pick-le false x y b p q = q
-
 pub best-le : (n : ℕ) (p : ℕ → Bool) (better : ℕ → ℕ → Bool) → best n p better ≤ n
 unfolding best betterOf
 best-le zero p better = omega arith
 best-le (suc n) p better =
-    pick-le (p (suc n) && (eqb (best n p better) 0 || better (suc n) (best n p better))) (suc n) (best n p better) (suc n) (omega arith) (omega (arith, best-le n p better))
-
--- ---- a list of f 1, .. f n
-
-pub listed-at : (n m k : ℕ) (f : ℕ → ℕ) → k < n → getD (listedFrom n m f) k 0 ≡ f (m + k)
-unfolding listedFrom
-listed-at zero m k f h = absurd (omega arith)
-listed-at (suc n) m zero f h = let e : m ≡ m + 0 = omega arith in ap f e
-listed-at (suc n) m (suc k) f h = let e : suc m + k ≡ m + suc k = omega arith in listed-at n (suc m) k f (omega arith) ∙ ap f e
-
-pub listed-length : (n m : ℕ) (f : ℕ → ℕ) → length (listedFrom n m f) ≡ n
-unfolding listedFrom
-listed-length zero m f = refl
-listed-length (suc n) m f = ap suc (listed-length n (suc m) f)
+    pick-all (λ (k : ℕ). k ≤ suc n) (p (suc n) && (eqb (best n p better) 0 || better (suc n) (best n p better))) (suc n) (best n p better) (omega arith) (omega (arith, best-le n p better))

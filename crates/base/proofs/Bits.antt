@@ -1,11 +1,11 @@
 -- Bits by shift and mask: one tested, one set, one cleared. Assumes nothing.
 use Prim.Native.Nat.{ℕ, suc, zero, _+_, _-_, _*_, _/_, _%_, _^_, _≤_, _<_, min}
-use mathlib.Core.Path.{_≡_, refl, sym, ap, _∙_}
+use mathlib.Core.Path.{_≡_, refl, ap}
 use native.Mathlib.Nat.{pow-suc, mod-eq-of-lt, one-mul, zero-min}
 use native.Mathlib.Numerals.{one-add}
 use native.Mathlib.Omega.{arith}
 use borrow.Author.Tests.{lt-ltb, le-ltb}
-use lib.Dec.{eqb, ltb}
+use lib.Dec.{eqb}
 use lib.Pow.{pow-lt}
 use lib.Bits.{bitAnd, bitOr, and-mask, and-step, and-high, or-add-and}
 use Rattle.base.specs.Bits.{bitAt, isSet, setBit, clearBit}

@@ -1,10 +1,13 @@
 -- Laws of choices by tests. `search picks` finds the case of a definition that goes by tests. Assumes nothing.
-use mathlib.Core.Path.{_≡_, refl, sym}
-use mathlib.Core.Bool.{Bool, true, false, _&&_, _||_, true≢false}
+use Prim.Native.Nat.{ℕ, _≤_, _<_}
+use mathlib.Core.Path.{_≡_, refl, sym, _∙_}
+use mathlib.Core.Bool.{Bool, true, false, _&&_, _||_, and-false, true≢false}
 use mathlib.Core.Logic.{_⊎_, inl, inr}
 use native.Mathlib.Omega.{arith}
-use borrow.Author.Tests.{lt-ltb, le-ltb, le-leb, lt-leb, eq-eqb, ne-eqb}
+use borrow.Author.Tests.{lt-ltb, le-ltb, le-leb, lt-leb, leb-true, eq-eqb, ne-eqb}
+use lib.Dec.{leb, eqb}
 use Rattle.base.specs.Choice.{pick}
+use Rattle.base.specs.Over.{between}
 
 pub pick-yes {ℓ} : {A : Type ℓ} (t : Bool) (x a b : A) → t ≡ true → x ≡ a → x ≡ pick t a b
 pick-yes t x a b e f = rw e f
@@ -25,6 +28,38 @@ pub or-no : (s t x : Bool) → s ≡ false → x ≡ t → x ≡ (s || t)
 or-no s t x e f = rw e f
 
 pub ruleset picks = (refl, pick-yes, pick-no, and-yes, and-no, or-yes, or-no, lt-ltb, le-ltb, le-leb, lt-leb, eq-eqb, ne-eqb, arith)
+
+-- ---- what tests say
+
+pub both : (s t : Bool) → s ≡ true → t ≡ true → (s && t) ≡ true
+both s t p q = rw (p, q)
+
+pub first-fails : (s t : Bool) → s ≡ false → (s && t) ≡ false
+first-fails s t p = rw p
+
+pub second-fails : (s t : Bool) → t ≡ false → (s && t) ≡ false
+second-fails s t p = rw p (and-false s)
+
+pub lt-eqb : (a b : ℕ) → a < b → eqb a b ≡ false
+lt-eqb a b l = ne-eqb a b (λ e. omega arith)
+
+pub gt-eqb : (a b : ℕ) → b < a → eqb a b ≡ false
+gt-eqb a b l = ne-eqb a b (λ e. omega arith)
+
+pub between-yes : (a b x : ℕ) → a ≤ x → x ≤ b → between a b x ≡ true
+between-yes a b x l h = rw (le-leb a x l, le-leb x b h)
+
+-- two tests of which each holds where the other does
+pub leb-same : (a b c d : ℕ) → (a ≤ b → c ≤ d) → (c ≤ d → a ≤ b) → leb a b ≡ leb c d
+leb-same a b c d to from = known (leb a b) refl (leb c d) refl
+  where
+    known : (x : Bool) → leb a b ≡ x → (y : Bool) → leb c d ≡ y → leb a b ≡ leb c d
+    known true e y f = e ∙ sym (le-leb c d (to (leb-true a b e)))
+    known false e true f = le-leb a b (from (leb-true c d f)) ∙ sym f
+    known false e false f = e ∙ sym f
+
+-- finds the case of a choice between such tests
+pub ruleset cases = (refl, pick-yes, pick-no, both, first-fails, second-fails, le-leb, lt-leb, eq-eqb, ne-eqb, lt-eqb, gt-eqb, arith)
 
 -- what holds of both answers holds of the one that is picked
 pub pick-all {ℓ} : {A : Type ℓ} (P : A → Type 0) (t : Bool) (a b : A) → P a → P b → P (pick t a b)

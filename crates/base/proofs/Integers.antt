@@ -13,8 +13,8 @@ use lib.Signed.{mag, quotZ, leZ, ltZ, nonNeg}
 use mir.Syntax.{Width}
 use mir.Val.{Fits, SFits, bits, hbits, toZ, ofZ}
 use mir.ValLaws.{toZ-ofZ}
-use Rattle.base.specs.Choice.{pick}
 use Rattle.base.specs.Over.{sum, sumZ, minZ}
+use Rattle.base.proofs.Choice.{pick-all}
 
 -- ---- bounds
 
@@ -50,13 +50,9 @@ pub abs-quot : (z : ℤ) (b : ℕ) → natAbs (quotZ z (pos b)) ≡ natAbs z / b
 abs-quot (pos a) b = refl
 abs-quot (negsuc a) b = abs-neg (pos (suc a / b))
 
-pick-abs : (t : Bool) (x y : ℤ) {n : ℕ} → natAbs x ≤ n → natAbs y ≤ n → natAbs (pick t x y) ≤ n
-pick-abs true x y p q = p
-pick-abs false x y p q = q
-
 pub abs-min : (x y : ℤ) {n : ℕ} → natAbs x ≤ n → natAbs y ≤ n → natAbs (minZ x y) ≤ n
 unfolding minZ
-abs-min x y p q = pick-abs (leZ x y) x y p q
+abs-min x y {n} p q = pick-all (λ (z : ℤ). natAbs z ≤ n) (leZ x y) x y p q
 
 pub min-first : (x y : ℤ) → leZ x y ≡ true → minZ x y ≡ x
 unfolding minZ

@@ -1,10 +1,10 @@
 -- Laws of the search for the first of many. Assumes nothing.
-use Prim.Native.Nat.{ℕ, zero, suc, _+_, _≤_, _<_}
-use mathlib.Core.Path.{_≡_, refl, sym, subst}
+use Prim.Native.Nat.{ℕ, zero, suc, _≤_, _<_}
+use mathlib.Core.Path.{_≡_, refl, subst}
 use mathlib.Core.Bool.{Bool, true, false}
 use mathlib.Core.Option.{Option, none, some}
 use native.Mathlib.Omega.{arith}
-use Rattle.base.specs.Choice.{pick, only}
+use Rattle.base.specs.Choice.{only}
 use Rattle.base.specs.Search.{first, orElse}
 use Rattle.base.proofs.Sums.{up-to}
 

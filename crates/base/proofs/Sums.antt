@@ -56,6 +56,11 @@ sum-bound (suc n) m f h =
     let b = h (suc n) (omega arith) (omega arith) in
     rw (suc-mul n m) (omega arith)
 
+pub sum-more : (n m : ℕ) (f : ℕ → ℕ) → n ≤ m → sum n f ≤ sum m f
+unfolding sum
+sum-more n zero f h = let e : n ≡ 0 = omega arith in rw e (omega arith)
+sum-more n (suc m) f h = up-to h (λ q. rw q (omega arith)) (λ u. omega (arith, sum-more n m f u))
+
 pub sum-part : (n : ℕ) (f : ℕ → ℕ) (k : ℕ) → 1 ≤ k → k ≤ n → f k ≤ sum n f
 unfolding sum
 sum-part zero f k l h = absurd (omega arith)

@@ -1,6 +1,5 @@
 -- Laws of the digits of a number, and of bytes put to the front of a buffer, one piece after another. Assumes nothing.
 use Prim.Native.Nat.{ℕ, zero, suc, _+_, _-_, _/_, _%_, _^_, _≤_, _<_}
-use mathlib.Core.Bool.{Bool, true, false}
 use mathlib.Core.Path.{_≡_, refl, sym, ap, _∙_}
 use mathlib.Core.List.{List, [], _∷_, _++_, append-nil}
 use native.Mathlib.Nat.{pow-succ'}
@@ -12,7 +11,7 @@ use borrow.Rule.Slice.PartMut.{putMid}
 use Rattle.base.specs.Choice.{pick}
 use Rattle.base.specs.Text.{digitsOf, decimal, Put}
 use Rattle.base.proofs.Choice.{pick-all}
-use Rattle.base.proofs.Lists.{Written, whole-tail, written-front, written-more, written-all, tail-room}
+use Rattle.base.proofs.Buffers.{Written, whole-tail, written-front, written-more, written-all, tail-room}
 
 -- ---- digits
 

@@ -1,29 +1,24 @@
 -- What a new price does to the costs and to the ceiling, and that no sum of them wraps. Assumes nothing.
-use Prim.Native.Nat.{ℕ, zero, suc, _+_, _-_, _*_, _^_, _≤_, _<_, max, min}
+use Prim.Native.Nat.{ℕ, suc, _+_, _-_, _*_, _^_, _≤_, _<_, max, min}
 use mathlib.Core.Path.{_≡_, refl, ap, sym, _∙_}
 use mathlib.Core.Bool.{Bool, true, false}
 use mathlib.Core.List.{List}
 use native.Mathlib.Nat.{mul-le-mul, le-trans, sub-le, max-eq-left, min-eq-right, mul-div-cancel}
 use native.Mathlib.Omega.{arith}
-use borrow.Author.Tests.{lt-ltb, le-ltb, ltb-true, ltb-false, eqb-true, eqb-false}
+use borrow.Author.Tests.{lt-ltb, le-ltb, eqb-true, eqb-false}
 use lib.Dec.{ltb, eqb}
 use lib.ListN.{getD, length, set, length-set}
 use lib.Seq.{getD-set-same, getD-set-other}
 use Rattle.base.specs.Choice.{pick}
 use Rattle.base.specs.Over.{sum, most}
-use Rattle.base.proofs.Sums.{sum-bound, sum-change, most-bound, most-next, sum-next, up-to}
+use Rattle.base.proofs.Choice.{leb-same}
+use Rattle.base.proofs.Sums.{sum-bound, sum-change, sum-more, most-bound, most-next, sum-next}
 use Rattle.rules.specs.Table.{Table}
 use Rattle.rules.specs.Ceiling.{priceAt, downShare, costBy, cost, net, margin, ceilingAt}
 use Rattle.laws.proofs.Give.{given, kept}
 use Rattle.tables.specs.Arrays.{entry}
 use Rattle.tables.specs.declared.Size.{Size}
 use Rattle.ceiling.specs.Prices.{shareEntry, In, Sized, shown, Prices, Costs, Trial}
-
--- a sum with more terms
-sum-more : (n m : ℕ) (f : ℕ → ℕ) → n ≤ m → sum n f ≤ sum m f
-unfolding sum
-sum-more n zero f h = let e : n ≡ 0 = omega arith in rw e (omega arith)
-sum-more n (suc m) f h = up-to h (λ q. rw q (omega arith)) (λ u. omega (arith, sum-more n m f u))
 
 -- ---- resource r gets the price q
 
@@ -147,15 +142,6 @@ module _ (z : Size) (b d p : List ℕ) (r price : ℕ) (m : Trial z b d p r pric
 
 -- ---- costs that are brought to new prices one after another
 
-ltb-same : (k e f : ℕ) → (k < e → k < f) → (k < f → k < e) → ltb k e ≡ ltb k f
-ltb-same k e f to from = go (ltb k e) refl (ltb k f) refl
-  where
-    go : (x : Bool) → ltb k e ≡ x → (y : Bool) → ltb k f ≡ y → x ≡ y
-    go true p true q = refl
-    go true p false q = absurd (omega (arith, to (ltb-true k e p), ltb-false k f q))
-    go false p true q = absurd (omega (arith, from (ltb-true k f q), ltb-false k e p))
-    go false p false q = refl
-
 module _ (z : Size) (b d new old c : List ℕ) where
   pub costs-start : Costs z b d old old 0 c → Costs z b d new old 0 c
   costs-start h = record { places = h .places; costs = λ i j inside worth. h .costs i j inside worth ∙ rw (le-ltb (entry i j) 0 (omega arith)) }
@@ -171,7 +157,7 @@ module _ (z : Size) (b d new old c : List ℕ) where
   -- from e to f where no candidate's entry stands between them
   pub costs-past : {e f : ℕ} → Costs z b d new old e c → ((i j : ℕ) → In z i j → entry i j < e → entry i j < f) → ((i j : ℕ) → In z i j → entry i j < f → entry i j < e) → Costs z b d new old f c
   costs-past {e} {f} h to from =
-      record { places = h .places; costs = λ i j inside worth. h .costs i j inside worth ∙ rw (ltb-same (entry i j) e f (to i j inside) (from i j inside)) }
+      record { places = h .places; costs = λ i j inside worth. h .costs i j inside worth ∙ rw (leb-same (suc (entry i j)) e (suc (entry i j)) f (to i j inside) (from i j inside)) }
 
   pub costs-held : (e : ℕ) → Costs z b d new old e c → (i j : ℕ) → In z i j → 0 < getD b (entry i j) 0 → e ≤ entry i j → getD c (entry i j) 0 ≡ cost (shown z b d) old i j
   costs-held e h i j inside worth le = h .costs i j inside worth ∙ rw (le-ltb (entry i j) e le)
@@ -188,7 +174,7 @@ module _ (z : Size) (b d new old c : List ℕ) where
             rw (lt-ltb (entry k l) (entry i (j + 1)) (omega arith), same-i, same-j) (here (rw (same-i, same-j) at worth))
         go k l in' worth false q =
             let ne = eqb-false (entry k l) (entry i j) q in
-            there (entry k l) ne ∙ h .costs k l in' worth ∙ rw (ltb-same (entry k l) (entry i j) (entry i (j + 1)) (λ lt. omega arith) (λ lt. omega (arith, ne)))
+            there (entry k l) ne ∙ h .costs k l in' worth ∙ rw (leb-same (suc (entry k l)) (entry i j) (suc (entry k l)) (entry i (j + 1)) (λ lt. omega arith) (λ lt. omega (arith, ne)))
 
     pub costs-set : {x : ℕ} → i ≤ 64 → x ≡ cost (shown z b d) new i j → Costs z b d new old (entry i (j + 1)) (set c (entry i j) x)
     costs-set {x} l e =

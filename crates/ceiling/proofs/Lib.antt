@@ -1,4 +1,3 @@
 pub mod Costs
 pub mod Search
 pub mod Same
-pub mod Witness

@@ -105,15 +105,15 @@ after-next t n e q h = h ∙ rw (add-one, e, q)
 halved : (n : ℕ) → n < 41 → 2 ^ (41 - n) ≡ 2 * 2 ^ (40 - n)
 halved n h = let e : 41 - n ≡ suc (40 - n) = omega arith in rw e (omega arith)
 
-pub none : (n k : ℕ) → _≡_ {A = ℕ} (getD (replicate n 0) k 0) 0
-none zero k = refl
-none (suc n) zero = refl
-none (suc n) (suc k) = none n k
+zeros : (n k : ℕ) → _≡_ {A = ℕ} (getD (replicate n 0) k 0) 0
+zeros zero k = refl
+zeros (suc n) zero = refl
+zeros (suc n) (suc k) = zeros n k
 
 -- before round n + 1 there is room for all the steps that are left
 after-ready : (t : Table) (n : ℕ) → n ≤ 41 → Ready (2 ^ 41) (2 ^ (41 - n)) 0 (pricesAfter t n)
 unfolding pricesAfter
-after-ready t zero h = record { places = refl; small = λ q. omega (arith, none 16 q); room = λ q l. omega (arith, none 16 q) }
+after-ready t zero h = record { places = refl; small = λ q. omega (arith, zeros 16 q); room = λ q l. omega (arith, zeros 16 q) }
 after-ready t (suc n) h =
     let e : 41 - suc n ≡ 40 - n = omega arith in
     let before : Ready (2 ^ 41) (2 ^ (41 - n)) 0 (pricesAfter t n) = after-ready t n (omega arith) in
@@ -154,7 +154,7 @@ module _ (z : Size) (b d : List ℕ) where
     start-trial =
         record {
           sized = sized;
-          prices = record { places = length-replicate {A = ℕ} 16 0; small = λ k. omega (arith, none 16 k) };
+          prices = record { places = length-replicate {A = ℕ} 16 0; small = λ k. omega (arith, zeros 16 k) };
           resource-from = omega arith;
           resource-to = sized .resources-from;
           small = omega arith;
@@ -167,7 +167,7 @@ module _ (z : Size) (b d : List ℕ) where
           places = length-replicate {A = ℕ} 768 0;
           costs = λ i j inside worth.
               let e = le-ltb (entry i j) 0 (omega arith) in
-              none 768 (entry i j) ∙ sym (rw e (sum-cong (z .resources) (costBy (shown z b d) (replicate 16 0) i j) (λ _. 0) (λ r l h. rw (none 16 (r - 1)) (zero-mul (downShare (shown z b d) i j r))) ∙ sum-zero (z .resources)));
+              zeros 768 (entry i j) ∙ sym (rw e (sum-cong (z .resources) (costBy (shown z b d) (replicate 16 0) i j) (λ _. 0) (λ r l h. rw (zeros 16 (r - 1)) (zero-mul (downShare (shown z b d) i j r))) ∙ sum-zero (z .resources)));
         }
 
     pub start-value : {x : ℕ} → x ≡ min (ceilingAt (shown z b d) (set (replicate 16 0) 0 0)) (2 ^ 62) → x ≡ ceilingAt (shown z b d) (replicate 16 0)

@@ -1,5 +1,4 @@
 // A line of the panel as a command, for any bytes at all and any number of them.
-ghost use mathlib.Core.Bool.{Bool};
 ghost use mathlib.Core.Path.{_≡_};
 ghost use Prim.Native.Nat.{_≤_};
 ghost use lib.ListN.{length, drop};

@@ -1,11 +1,13 @@
 // The edits of a district: what refuses each, and the district with the one value altered. Every function is total, for
 // any numbers and any value of the type, so that no call relies on a check made before it.
 ghost use mathlib.Core.Path.{_≡_};
-ghost use Prim.Native.Nat.{_-_, _<_, _^_};
+ghost use Prim.Native.Nat.{_-_, _<_};
 ghost use lib.ListN.{getD, set};
 ghost use Rattle.base.specs.Bits.{setBit, clearBit};
+ghost use Rattle.base.specs.Over.{between};
+ghost use Rattle.rules.specs.Answers.{unless, oneTo};
 ghost use Rattle.rules.specs.Calls.{barRefusal, limitRefusal, ratingRefusal};
-ghost use Rattle.rules.specs.District.{greatestOf, barsOf, withLimit, withBar, withoutBar, withRating, freshDistrict};
+ghost use Rattle.rules.specs.District.{barsPlace, greatestOf, barsOf, withLimit, withBar, withoutBar, withRating, freshDistrict};
 use rules::District;
 
 // The place of the `n`-th of a row, where the first is 1.
@@ -34,14 +36,40 @@ fn with_value(d: District, at: usize, value: usize) -> District
     e
 }
 
+// ---- refusals, in the order of their tests; a refusal is its number, and 0 is none
+
+// Refusal `n` where the test fails, else what the later tests say.
+fn refuse_unless(test: bool, n: usize, rest: usize) -> usize
+    ensures { λ r. ⌜ r ≡ unless test n rest ⌝ }
+{
+    if test { rest } else { n }
+}
+
+// Whether `x` is `low` to `high`.
+fn within(low: usize, high: usize, x: usize) -> bool
+    ensures { λ r. ⌜ r ≡ between low high x ⌝ }
+{
+    if x < low {
+        return false;
+    }
+    x <= high
+}
+
+// Refusal `n` where `x` is not 1 to `count`, else what the later tests say.
+fn one_to(x: usize, count: usize, n: usize, rest: usize) -> usize
+    ensures { λ r. ⌜ r ≡ oneTo x count n rest ⌝ }
+{
+    refuse_unless(within(1, count, x), n, rest)
+}
+
 // ---- limits
 
 pub fn limit_refusal(d: District, resource: usize, limit: usize) -> usize
     ensures { λ r. ⌜ r ≡ limitRefusal d resource limit ⌝ }
 {
     let field = grammar::limit_field(&d, place(resource));
-    let range = answers::refuse_unless(grammar::is_inside(field, limit), 8, 0);
-    answers::one_to(resource, d[5], 7, range)
+    let range = refuse_unless(grammar::is_inside(field, limit), 8, 0);
+    one_to(resource, d[5], 7, range)
 }
 
 pub fn with_limit(d: District, resource: usize, limit: usize) -> District
@@ -69,9 +97,9 @@ pub fn rating_refusal(d: District, segment: usize, distress: usize, rating: usiz
     ensures { λ r. ⌜ r ≡ ratingRefusal d segment distress rating ⌝ }
 {
     let most = greatest_of(d, distress);
-    let range = answers::refuse_unless(rating <= most, 8, 0);
-    let number = answers::one_to(distress, d[3], 7, range);
-    answers::one_to(segment, d[0], 6, number)
+    let range = refuse_unless(rating <= most, 8, 0);
+    let number = one_to(distress, d[3], 7, range);
+    one_to(segment, d[0], 6, number)
 }
 
 pub fn with_rating(d: District, segment: usize, distress: usize, rating: usize) -> District
@@ -91,8 +119,8 @@ pub fn with_rating(d: District, segment: usize, distress: usize, rating: usize) 
 pub fn bar_refusal(d: District, segment: usize, strategy: usize) -> usize
     ensures { λ r. ⌜ r ≡ barRefusal d segment strategy ⌝ }
 {
-    let number = answers::one_to(strategy, d[1], 7, 0);
-    answers::one_to(segment, d[0], 6, number)
+    let number = one_to(strategy, d[1], 7, 0);
+    one_to(segment, d[0], 6, number)
 }
 
 // The mask with bit `n` set.
@@ -115,24 +143,35 @@ fn clear_bit(mask: usize, n: usize) -> usize
     mask
 }
 
-pub fn with_bar(d: District, segment: usize, strategy: usize) -> District
-    ensures { λ r. ⌜ r ≡ withBar d segment strategy ⌝ }
+// The bars of a segment; none where there is no such segment.
+fn bars_of(d: District, segment: usize) -> usize
+    ensures { λ r. ⌜ r ≡ barsOf d segment ⌝ }
+{
+    if 64 < segment {
+        return 0;
+    }
+    value_at(d, 1660 + 15 * place(segment) + 5)
+}
+
+fn with_bars(d: District, segment: usize, bars: usize) -> District
+    ensures { λ r. ⌜ r ≡ set d (barsPlace segment) bars ⌝ }
 {
     if 64 < segment {
         return d;
     }
-    let at = 1660 + 15 * place(segment) + 5;
-    with_value(d, at, set_bit(value_at(d, at), place(strategy)))
+    with_value(d, 1660 + 15 * place(segment) + 5, bars)
+}
+
+pub fn with_bar(d: District, segment: usize, strategy: usize) -> District
+    ensures { λ r. ⌜ r ≡ withBar d segment strategy ⌝ }
+{
+    with_bars(d, segment, set_bit(bars_of(d, segment), place(strategy)))
 }
 
 pub fn without_bar(d: District, segment: usize, strategy: usize) -> District
     ensures { λ r. ⌜ r ≡ withoutBar d segment strategy ⌝ }
 {
-    if 64 < segment {
-        return d;
-    }
-    let at = 1660 + 15 * place(segment) + 5;
-    with_value(d, at, clear_bit(value_at(d, at), place(strategy)))
+    with_bars(d, segment, clear_bit(bars_of(d, segment), place(strategy)))
 }
 
 // ---- the fresh unit's district

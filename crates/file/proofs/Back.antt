@@ -10,7 +10,7 @@ use lib.ListN.{length, take, drop, length-append, length-drop}
 use lib.Seq.{getD-drop, take-at, drop-at, take-suc, take-all, take-add}
 use Rattle.base.proofs.Bytes.{length-bytes, number-bytes}
 use Rattle.base.specs.Bytes.{bytesOf, numberOf}
-use Rattle.rules.specs.District.{District, valueAt}
+use Rattle.rules.specs.District.{District, valueAt, districtPlaces}
 use Rattle.rules.specs.File.{found, size, readNumbers, readRecord, readRecords, decode, numberBytes, recordBytes, recordsBytes, encode, inRange}
 use Rattle.rules.specs.Format.{slotOf, present, fieldAt, inside}
 use Rattle.rules.specs.declared.Slot.{Slot}
@@ -75,7 +75,7 @@ records-back : (d : District) → InRange d → (m n : ℕ) → n + m ≡ 83 →
 unfolding readRecords recordsBytes
 records-back d ok zero n e =
     let z : n ≡ 83 = omega arith in
-    rw z (ap (λ (l : List ℕ). found l []) (take-all 2620 d (omega (arith, ok .places))))
+    rw z (ap (λ (l : List ℕ). found l []) (take-all districtPlaces d (omega (arith, ok .places))))
 records-back d ok (suc m) n e =
     let p = startOf n in
     let s = slotOf n in

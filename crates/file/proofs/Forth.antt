@@ -17,7 +17,7 @@ use Rattle.base.specs.Choice.{pick}
 use Rattle.rules.specs.Answers.{accepting}
 use Rattle.rules.specs.Calls.{loadRefusalOf, loadRefusal, loadedOf, districtIn, unitOf, answered, loadOf, exportRefusal, exported, exportOf}
 use Rattle.rules.specs.Demands.{ByteForByte}
-use Rattle.rules.specs.District.{District, valueAt}
+use Rattle.rules.specs.District.{District, valueAt, districtPlaces}
 use Rattle.rules.specs.File.{Read, refused, found, value, widths, size, readNumbers, readRecord, readRecords, decode, numberBytes, headerBytes, recordBytes, recordsBytes, encode, inRange}
 use Rattle.rules.specs.Format.{slotOf, present, fieldAt, inside}
 use Rattle.rules.specs.declared.Answer.the-variants.{Accepted}
@@ -168,7 +168,7 @@ module _ (u : District) (s : Slot) (bs vs rest : List ℕ) where
 record TookAll (d : District) (m n : ℕ) (u bs end : List ℕ) : Type 0 where
   none : end ≡ []
   front : take (startOf n) d ≡ u
-  all-of : length d ≡ 2620
+  all-of : length d ≡ districtPlaces
   bytes : Bytes bs → bs ≡ recordsBytes m d n (startOf n)
   good : (q i : ℕ) → n ≤ q → q < 83 → i < slotOf q .places → inside (fieldAt d (slotOf q) i) (valueAt d (startOf q + i)) ≡ true
 
@@ -225,9 +225,9 @@ records-forth : (d : District) (m n : ℕ) (u bs rest : List ℕ) → n + m ≡ 
 unfolding readRecords recordsBytes
 records-forth d zero n u [] rest e l q =
     let z : n ≡ 83 = omega arith in
-    let a : length u ≡ 2620 = rw z at l in
+    let a : length u ≡ districtPlaces = rw z at l in
     let v : u ≡ d = found-values u [] d rest q in
-    record { none = sym (found-rest u [] d rest q); front = rw z (take-all 2620 d (omega (arith, ap length v)) ∙ sym v); all-of = omega (arith, ap length v); bytes = λ h. refl; good = λ q i x y w. absurd (omega arith) }
+    record { none = sym (found-rest u [] d rest q); front = rw z (take-all districtPlaces d (omega (arith, ap length v)) ∙ sym v); all-of = omega (arith, ap length v); bytes = λ h. refl; good = λ q i x y w. absurd (omega arith) }
 records-forth d zero n u (b ∷ bs) rest e l q = absurd (never 5 d rest q)
 records-forth d (suc m) n u bs rest e l q = go (readRecord u (slotOf n) bs) refl (λ vs cs. records-forth d m (n + 1) (u ++ vs) cs rest (omega arith))
   where

@@ -10,7 +10,7 @@ use Rattle.base.proofs.Choice.{pick-all}
 use Rattle.base.specs.Bytes.{numberOf}
 use Rattle.rules.specs.Answers.{answerOf, accepting}
 use Rattle.rules.specs.Calls.{loadRefusalOf, loadRefusal, loadedOf, districtIn, exportRefusal, exported}
-use Rattle.rules.specs.District.{District}
+use Rattle.rules.specs.District.{District, districtPlaces}
 use Rattle.rules.specs.File.{Read, refused, found, value, size, readNumbers, readRecord, andThen, readRecords, decode, encode}
 use Rattle.rules.specs.Format.{present, fieldAt, inside, slotOf}
 use Rattle.rules.specs.declared.Answer.the-variants.{Accepted, Refused}
@@ -69,7 +69,7 @@ pub loaded-found : (file : List ℕ) (d : District) (rest : List ℕ) → decode
 unfolding loadRefusal loadRefusalOf districtIn loadedOf accepting
 loaded-found file d rest e = rw e
 
-pub loaded-refused : (file : List ℕ) (n : ℕ) → decode file ≡ refused n → record { refusal = n; district = replicate 2620 0 } ≡ loadedFrom file
+pub loaded-refused : (file : List ℕ) (n : ℕ) → decode file ≡ refused n → record { refusal = n; district = replicate districtPlaces 0 } ≡ loadedFrom file
 unfolding loadRefusal loadRefusalOf districtIn loadedOf accepting
 loaded-refused file zero e = absurd (omega (arith, refusals file zero e .0))
 loaded-refused file (suc n) e = rw e

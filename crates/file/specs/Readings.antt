@@ -9,6 +9,7 @@ use Rattle.rules.specs.File.{Read, refused, found}
 use Rattle.file.specs.declared.Loaded.{Loaded}
 use Rattle.file.specs.declared.reading.Reading.{Reading}
 use Rattle.file.specs.declared.reading.Reading.the-variants.{At, Refused}
+use Rattle.rules.specs.District.{districtPlaces}
 
 -- a reader's answer, where vs are the values that it read from the file
 abbrev pub readOf : Reading → List ℕ → List ℕ → Read
@@ -24,8 +25,8 @@ pub record ReadInto (read : Read) (place places : ℕ) (file old d : List ℕ) (
   pub same : read ≡ readOf r (take places (drop place d)) file
   pub inside : within r file
   pub before : take place d ≡ take place old
-  pub all : length d ≡ 2620
+  pub all : length d ≡ districtPlaces
 
 -- a load's refusal, and the file's district where there is none, else zeros
 abbrev pub loadedFrom : List ℕ → Loaded
-loadedFrom file = record { refusal = loadRefusal file; district = accepting (loadRefusal file) (districtIn file) (replicate 2620 0) }
+loadedFrom file = record { refusal = loadRefusal file; district = accepting (loadRefusal file) (districtIn file) (replicate districtPlaces 0) }

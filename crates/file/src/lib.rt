@@ -11,6 +11,7 @@ ghost use Rattle.rules.specs.Calls.{exported, exportRefusal};
 ghost use Rattle.rules.specs.File.{encode, inRange};
 ghost use Rattle.file.specs.Readings.{loadedFrom};
 ghost use Rattle.file.specs.Trips.{Trips};
+ghost use Rattle.rules.specs.District.{districtPlaces};
 use reading::Reading;
 use rules::Answer;
 use rules::District;
@@ -22,7 +23,7 @@ pub struct Loaded {
 }
 
 fn refused(refusal: usize) -> Loaded
-    ensures { λ r. ⌜ r ≡ record { refusal = refusal; district = replicate 2620 0 } ⌝ }
+    ensures { λ r. ⌜ r ≡ record { refusal = refusal; district = replicate districtPlaces 0 } ⌝ }
 {
     Loaded {
         refusal,

@@ -3,11 +3,13 @@ ghost use mathlib.Core.Path.{_≡_};
 ghost use Prim.Native.Nat.{_+_, _≤_};
 ghost use lib.ListN.{drop};
 ghost use Rattle.rules.specs.File.{numbersInRange, recordsInRange};
+ghost use Rattle.rules.specs.District.{districtPlaces};
+use rules::District;
 use rules::Slot;
 
 // Whether each number of the record is in its range; they stand in the district from `place` on.
-fn numbers_in_range(d: &[usize; 2620], slot: Slot, place: usize) -> bool
-    requires { ⌜ (slot .places ≤ 115) × (place + slot .places ≤ 2620) ⌝ }
+fn numbers_in_range(d: &District, slot: Slot, place: usize) -> bool
+    requires { ⌜ (slot .places ≤ 115) × (place + slot .places ≤ districtPlaces) ⌝ }
     ensures { λ r. ⌜ r ≡ numbersInRange (slot .places) (now (d .entry)) slot 0 (drop place (now (d .entry))) ⌝ }
 {
     let places = slot.places;
@@ -22,7 +24,7 @@ fn numbers_in_range(d: &[usize; 2620], slot: Slot, place: usize) -> bool
     true
 }
 
-pub fn records_in_range(d: &[usize; 2620]) -> bool
+pub fn records_in_range(d: &District) -> bool
     ensures { λ r. ⌜ r ≡ recordsInRange 83 (now (d .entry)) 0 (now (d .entry)) ⌝ }
 {
     let mut place: usize = 0;

@@ -6,7 +6,9 @@ ghost use lib.ListN.{length, take, drop};
 ghost use Rattle.grammar.specs.Places.{Ready};
 ghost use Rattle.rules.specs.File.{size, readNumbers, readRecord};
 ghost use Rattle.file.specs.Readings.{ReadInto};
+ghost use Rattle.rules.specs.District.{districtPlaces};
 use crate::bytes;
+use rules::District;
 use rules::Slot;
 
 // Where reading goes on, or the number of the refusal.
@@ -16,7 +18,7 @@ pub enum Reading {
 }
 
 // How many bytes the payload of the record has.
-pub fn payload(d: &[usize; 2620], slot: Slot) -> usize
+pub fn payload(d: &District, slot: Slot) -> usize
     requires { ⌜ slot .places ≤ 115 ⌝ }
     ensures { λ r. ⌜ r ≡ size (now (d .entry)) slot ⌝ }
 {
@@ -32,16 +34,10 @@ pub fn payload(d: &[usize; 2620], slot: Slot) -> usize
 }
 
 // The numbers of the record, from `from` on, to the district's places from `place` on.
-fn read_numbers(
-    d: &mut [usize; 2620],
-    file: &[u8],
-    from: usize,
-    slot: Slot,
-    place: usize,
-) -> Reading
+fn read_numbers(d: &mut District, file: &[u8], from: usize, slot: Slot, place: usize) -> Reading
     requires { ⌜ Ready slot place ⌝ }
     requires { ⌜ from + size (take place (now d)) slot ≤ length (now file) ⌝ }
-    requires { ⌜ length (now d) ≡ 2620 ⌝ }
+    requires { ⌜ length (now d) ≡ districtPlaces ⌝ }
     ensures { λ r. ⌜ ReadInto (readNumbers (slot .places) (take place (now (d .entry))) slot 0 [] (drop from (now (file .entry)))) place (slot .places) (now (file .entry)) (now (d .entry)) (now (d .exit)) r ⌝ }
 {
     let places = slot.places;
@@ -62,16 +58,10 @@ fn read_numbers(
 }
 
 // The record that starts at `at`, where the district has it.
-pub fn read_record(
-    d: &mut [usize; 2620],
-    file: &[u8],
-    at: usize,
-    slot: Slot,
-    place: usize,
-) -> Reading
+pub fn read_record(d: &mut District, file: &[u8], at: usize, slot: Slot, place: usize) -> Reading
     requires { ⌜ Ready slot place ⌝ }
     requires { ⌜ at ≤ length (now file) ⌝ }
-    requires { ⌜ length (now d) ≡ 2620 ⌝ }
+    requires { ⌜ length (now d) ≡ districtPlaces ⌝ }
     ensures { λ r. ⌜ ReadInto (readRecord (take place (now (d .entry))) slot (drop at (now (file .entry)))) place (slot .places) (now (file .entry)) (now (d .entry)) (now (d .exit)) r ⌝ }
 {
     if !grammar::is_present(d, slot) {

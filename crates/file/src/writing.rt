@@ -3,14 +3,15 @@ ghost use mathlib.Core.List.{_++_};
 ghost use mathlib.Core.Path.{_≡_};
 ghost use Prim.Native.Nat.{_+_, _≤_};
 ghost use lib.ListN.{length, drop};
-ghost use Rattle.grammar.specs.Places.{Ready};
 ghost use Rattle.rules.specs.File.{headerBytes, numberBytes, recordBytes, encode};
+ghost use Rattle.rules.specs.District.{districtPlaces};
 use crate::bytes;
 use crate::reading;
+use rules::District;
 use rules::Slot;
 
 // The length and the kind of the record, where the district has it.
-fn write_header(out: &mut [u8], d: &[usize; 2620], slot: Slot) -> usize
+fn write_header(out: &mut [u8], d: &District, slot: Slot) -> usize
     requires { ⌜ slot .places ≤ 115 ⌝ }
     requires { ⌜ length (headerBytes (now d) slot) ≤ length (now out) ⌝ }
     ensures { λ r. ⌜ r ≡ length (headerBytes (now (d .entry)) slot) ⌝ }
@@ -27,8 +28,8 @@ fn write_header(out: &mut [u8], d: &[usize; 2620], slot: Slot) -> usize
 }
 
 // The numbers of the record, which stand in the district from `place` on.
-fn write_numbers(out: &mut [u8], d: &[usize; 2620], slot: Slot, place: usize) -> usize
-    requires { ⌜ (slot .places ≤ 115) × (place + slot .places ≤ 2620) ⌝ }
+fn write_numbers(out: &mut [u8], d: &District, slot: Slot, place: usize) -> usize
+    requires { ⌜ (slot .places ≤ 115) × (place + slot .places ≤ districtPlaces) ⌝ }
     requires { ⌜ length (numberBytes (slot .places) (now d) slot 0 place) ≤ length (now out) ⌝ }
     ensures { λ r. ⌜ r ≡ length (numberBytes (slot .places) (now (d .entry)) slot 0 place) ⌝ }
     ensures { λ r. ⌜ now (out .exit) ≡ numberBytes (slot .places) (now (d .entry)) slot 0 place ++ drop (length (numberBytes (slot .places) (now (d .entry)) slot 0 place)) (now (out .entry)) ⌝ }
@@ -46,8 +47,8 @@ fn write_numbers(out: &mut [u8], d: &[usize; 2620], slot: Slot, place: usize) ->
     at
 }
 
-fn write_record(out: &mut [u8], d: &[usize; 2620], slot: Slot, place: usize) -> usize
-    requires { ⌜ (slot .places ≤ 115) × (place + slot .places ≤ 2620) ⌝ }
+fn write_record(out: &mut [u8], d: &District, slot: Slot, place: usize) -> usize
+    requires { ⌜ (slot .places ≤ 115) × (place + slot .places ≤ districtPlaces) ⌝ }
     requires { ⌜ length (recordBytes (now d) slot place) ≤ length (now out) ⌝ }
     ensures { λ r. ⌜ r ≡ length (recordBytes (now (d .entry)) slot place) ⌝ }
     ensures { λ r. ⌜ now (out .exit) ≡ recordBytes (now (d .entry)) slot place ++ drop (length (recordBytes (now (d .entry)) slot place)) (now (out .entry)) ⌝ }
@@ -58,7 +59,7 @@ fn write_record(out: &mut [u8], d: &[usize; 2620], slot: Slot, place: usize) -> 
 }
 
 // How many bytes the record has, wherever its numbers stand.
-fn record_length(d: &[usize; 2620], slot: Slot, place: usize) -> usize
+fn record_length(d: &District, slot: Slot, place: usize) -> usize
     requires { ⌜ slot .places ≤ 115 ⌝ }
     ensures { λ r. ⌜ r ≡ length (recordBytes (now (d .entry)) slot place) ⌝ }
 {
@@ -68,7 +69,7 @@ fn record_length(d: &[usize; 2620], slot: Slot, place: usize) -> usize
     0
 }
 
-pub fn file_length(d: &[usize; 2620]) -> usize
+pub fn file_length(d: &District) -> usize
     ensures { λ r. ⌜ r ≡ length (encode (now (d .entry))) ⌝ }
 {
     let mut sum: usize = 0;
@@ -84,7 +85,7 @@ pub fn file_length(d: &[usize; 2620]) -> usize
 }
 
 // Each record goes into what is left of the buffer.
-pub fn write_file(out: &mut [u8], d: &[usize; 2620])
+pub fn write_file(out: &mut [u8], d: &District)
     requires { ⌜ length (encode (now d)) ≤ length (now out) ⌝ }
     ensures { λ r. ⌜ now (out .exit) ≡ encode (now (d .entry)) ++ drop (length (encode (now (d .entry)))) (now (out .entry)) ⌝ }
 {

@@ -6,8 +6,7 @@ use native.Mathlib.Nat.{div-zero, div-lt-iff-lt-mul}
 use native.Mathlib.Omega.{arith}
 use lib.ListN.{getD, length}
 use Rattle.base.specs.Over.{divideUp}
-use Rattle.base.proofs.Best.{listed-at}
-use Rattle.base.proofs.Listed.{listed-length}
+use Rattle.base.proofs.Listed.{listed-at, listed-length}
 use Rattle.rules.specs.Table.{Table}
 use Rattle.rules.specs.Phases.{share}
 use Rattle.rules.specs.Ceiling.{downShare}
@@ -15,7 +14,7 @@ use Rattle.laws.specs.Tables.{FitAlone}
 use Rattle.laws.proofs.Shares.{divide-up-small}
 use Rattle.tables.specs.declared.Size.{Size}
 use Rattle.tables.specs.Arrays.{entry, usageAt, limitAt, tables, Sound, Cell}
-use Rattle.tables.proofs.Laws.{usage-at, limit-at, uses-of}
+use Rattle.tables.proofs.Laws.{usage-at, limit-at}
 use Rattle.grammar.specs.Ranges.{Ranges}
 use Rattle.rules.specs.District.{District}
 use Rattle.fill.specs.Filled.{Filled}
@@ -38,7 +37,7 @@ module _ (z : Size) (b u l : List ℕ) (sound : Sound z b u l) (i j r : ℕ) (ce
   unfolding place
   use-here =
       let e : 0 + (16 * entry i j + (r - 1)) ≡ 16 * entry i j + (r - 1) = omega arith in
-      ap (λ n. getD u n 0) e ∙ usage-at u (uses-of z b u l sound) i j r cell low high
+      ap (λ n. getD u n 0) e ∙ usage-at u (sound .uses) i j r cell low high
 
   limit-here : getD l ((0 + place) % 16) 0 ≡ limitAt l r
   unfolding place
@@ -94,10 +93,10 @@ filled d ok =
 -- the same of arrays that equal them, with what the shares need of uses and limits
 module _ (d : District) (ok : Ranges d) {u l : List ℕ} (hu : u ≡ usageList d) (hl : l ≡ limitList d) where
   pub sized : (length u ≡ 12_288) × (length l ≡ 16)
-  sized = rw (hu, hl) (sound d ok .uses-length, sound d ok .limits-length)
+  sized = rw (hu, hl) (sound d ok .uses .places, sound d ok .limits .places)
 
   pub bounded : ((k : ℕ) → getD u k 0 < 2 ^ 41) × ((k : ℕ) → getD l k 0 < 2 ^ 47)
-  bounded = rw (hu, hl) (sound d ok .use-small, sound d ok .limit-small)
+  bounded = rw (hu, hl) (sound d ok .uses .small, sound d ok .limits .small)
 
   pub filled-by : {b s e : List ℕ} → b ≡ benefitList d → s ≡ shareList u l → e ≡ downShareList u l → Filled d (sizeOf d) b u l s e
   filled-by hb hs he = rw (hb, hs, he, hu, hl) (filled d ok)

@@ -7,9 +7,8 @@ use lib.Dec.{lit<}
 use lib.ListN.{getD}
 use Rattle.base.specs.Choice.{pick}
 use Rattle.base.specs.Over.{between}
-use Rattle.base.proofs.Best.{listed-at}
-use Rattle.base.proofs.Choice.{and-both}
-use Rattle.base.proofs.Listed.{listed-length, listed-each}
+use Rattle.base.proofs.Choice.{and-both, between-yes}
+use Rattle.base.proofs.Listed.{listed-at, listed-length, listed-each}
 use Rattle.grammar.specs.Ranges.{Ranges}
 use Rattle.rules.specs.District.{District, resourcesOf}
 use Rattle.rules.specs.Rating.{candidate}
@@ -17,7 +16,6 @@ use Rattle.rules.specs.Table.{has, candidateBenefit, usageIn, limitIn, tableOf}
 use Rattle.laws.specs.Tables.{FitAlone}
 use Rattle.theorems.proofs.Entries.{table-fit}
 use Rattle.tables.specs.Arrays.{entry, benefitAt, usageAt, limitAt, tables, Sound}
-use Rattle.tables.proofs.Laws.{inside}
 use Rattle.rating.specs.Numbers.{Segment, Resource}
 use Rattle.rating.proofs.Entries.{between-in, has-within, resource-within, candidate-benefit-le, usage-in-le, limit-in-le}
 use Rattle.fill.specs.Lists.{sizeOf, benefitEntry, benefitList, usageEntry, usageList, limitList}
@@ -63,7 +61,7 @@ module _ (d : District) (ok : Ranges d) where
           benefit-entry d i j (between-in 1 64 i (w .0)) (between-in 1 11 j (w .1) .1)
       go false e =
           outside (between 1 64 i && between 1 11 j) (has d i j && candidate d i j) _ e
-          (λ h. let w = has-within d ok i j (and-both (has d i j) (candidate d i j) h .0) in rw (inside 1 64 i (w .0 .0) (w .0 .1)) (inside 1 11 j (w .1 .0) (w .1 .1)))
+          (λ h. let w = has-within d ok i j (and-both (has d i j) (candidate d i j) h .0) in rw (between-yes 1 64 i (w .0 .0) (w .0 .1)) (between-yes 1 11 j (w .1 .0) (w .1 .1)))
 
   usage-is : (i j r : ℕ) → usageAt (usageList d) i j r ≡ usageIn d i j r
   unfolding usageAt usageIn
@@ -82,7 +80,7 @@ module _ (d : District) (ok : Ranges d) where
               let v = and-both (has d i j) (between 1 (resourcesOf d) r) h in
               let w = has-within d ok i j (v .0) in
               let x = resource-within d ok r (v .1) in
-              rw (inside 1 64 i (w .0 .0) (w .0 .1), inside 1 11 j (w .1 .0) (w .1 .1)) (inside 1 16 r (x .0) (x .1))
+              rw (between-yes 1 64 i (w .0 .0) (w .0 .1), between-yes 1 11 j (w .1 .0) (w .1 .1)) (between-yes 1 16 r (x .0) (x .1))
 
   limit-is : (r : ℕ) → limitAt (limitList d) r ≡ limitIn d r
   unfolding limitAt limitIn
@@ -90,7 +88,7 @@ module _ (d : District) (ok : Ranges d) where
     where
       go : (t : Bool) → between 1 16 r ≡ t → pick t (getD (limitList d) (r - 1) 0) 0 ≡ limitIn d r
       go true e = limit-entry d r (between-in 1 16 r e)
-      go false e = outside (between 1 16 r) (between 1 (resourcesOf d) r) _ e (λ h. let x = resource-within d ok r h in inside 1 16 r (x .0) (x .1))
+      go false e = outside (between 1 16 r) (between 1 (resourcesOf d) r) _ e (λ h. let x = resource-within d ok r h in between-yes 1 16 r (x .0) (x .1))
 
   -- so what is proved of code over arrays is what the rules say of the district
   pub table-is : tables (sizeOf d) (benefitList d) (usageList d) (limitList d) ≡ tableOf d
@@ -108,14 +106,20 @@ module _ (d : District) (ok : Ranges d) where
         segments = ok .segments;
         strategies = ok .strategies;
         resources = ok .resources;
-        benefits-length = listed-length (benefitEntry d) 768 0;
-        uses-length = listed-length (usageEntry d) 12_288 0;
-        limits-length = listed-length (limitIn d) 16 1;
-        benefit-small = listed-each (λ v. v < 2 ^ 40) 768 0 (benefitEntry d) (lit< tt) (λ n. omega (arith, candidate-benefit-le d ok (n / 12 + 1) (n % 12)));
-        use-small = listed-each (λ v. v < 2 ^ 41) 12_288 0 (usageEntry d) (lit< tt) (λ n. omega (arith, usage-in-le d ok (n / 192 + 1) (n / 16 % 12) (n % 16 + 1)));
-        limit-small = listed-each (λ v. v < 2 ^ 47) 16 1 (limitIn d) (lit< tt) (λ r. omega (arith, limit-in-le d ok r));
-        nothing-gains = λ i l h. benefit-entry d i 0 (l, h) (omega arith) ∙ simp and-false;
-        nothing-uses = λ i r l h m u. usage-entry d i 0 r (l, h) (omega arith) (m, u) ∙ simp and-false;
+        gains = record {
+          places = listed-length (benefitEntry d) 768 0;
+          small = listed-each (λ v. v < 2 ^ 40) 768 0 (benefitEntry d) (lit< tt) (λ n. omega (arith, candidate-benefit-le d ok (n / 12 + 1) (n % 12)));
+          nothing = λ i l h. benefit-entry d i 0 (l, h) (omega arith) ∙ simp and-false;
+        };
+        uses = record {
+          places = listed-length (usageEntry d) 12_288 0;
+          small = listed-each (λ v. v < 2 ^ 41) 12_288 0 (usageEntry d) (lit< tt) (λ n. omega (arith, usage-in-le d ok (n / 192 + 1) (n / 16 % 12) (n % 16 + 1)));
+          nothing = λ i r l h m u. usage-entry d i 0 r (l, h) (omega arith) (m, u) ∙ simp and-false;
+        };
+        limits = record {
+          places = listed-length (limitIn d) 16 1;
+          small = listed-each (λ v. v < 2 ^ 47) 16 1 (limitIn d) (lit< tt) (λ r. omega (arith, limit-in-le d ok r));
+        };
       }
 
   -- each candidate fits each limit alone

@@ -1,7 +1,7 @@
 // The arrays that the phases and the ceiling read, filled once for a plan from a district.
 use tables::Size;
 ghost use mathlib.Core.Path.{_≡_};
-ghost use Prim.Native.Nat.{ℕ, _+_, _-_, _*_, _/_, _^_, _≤_, _<_};
+ghost use Prim.Native.Nat.{ℕ, _+_, _-_, _*_, _/_, _^_, _<_};
 ghost use lib.ListN.{length, getD};
 ghost use Rattle.base.specs.Over.{listed, divideUp};
 ghost use Rattle.grammar.specs.Ranges.{Ranges};
@@ -9,9 +9,10 @@ ghost use Rattle.rules.specs.Table.{usageIn};
 ghost use Rattle.rating.specs.Numbers.{Segment};
 ghost use Rattle.fill.specs.Filled.{Filled};
 ghost use Rattle.fill.specs.Lists.{benefitList, usageList, limitList, shareList, downShareList};
+use rules::District;
 
 // The benefits of all segments and strategies.
-pub fn fill_benefits(d: &[usize; 2620], table: &mut [u64])
+fn fill_benefits(d: &District, table: &mut [u64])
     requires { ⌜ Ranges (now d) × (length (now table) ≡ 768) ⌝ }
     ensures { λ _. ⌜ now (table .exit) ≡ benefitList (now (d .entry)) ⌝ }
 {
@@ -24,7 +25,7 @@ pub fn fill_benefits(d: &[usize; 2620], table: &mut [u64])
 }
 
 // The uses that strategy j on segment i makes of each resource.
-fn fill_row(d: &[usize; 2620], i: usize, j: usize, row: &mut [u64])
+fn fill_row(d: &District, i: usize, j: usize, row: &mut [u64])
     requires { ⌜ Ranges (now d) × Segment i × (length (now row) ≡ 16) ⌝ }
     ensures { λ _. ⌜ now (row .exit) ≡ listed 16 (usageIn (now (d .entry)) i j) ⌝ }
 {
@@ -38,7 +39,7 @@ fn fill_row(d: &[usize; 2620], i: usize, j: usize, row: &mut [u64])
 }
 
 // The uses of all segments and strategies, a row for each pair.
-pub fn fill_uses(d: &[usize; 2620], table: &mut [u64])
+fn fill_uses(d: &District, table: &mut [u64])
     requires { ⌜ Ranges (now d) × (length (now table) ≡ 12288) ⌝ }
     ensures { λ _. ⌜ now (table .exit) ≡ usageList (now (d .entry)) ⌝ }
 {
@@ -49,7 +50,7 @@ pub fn fill_uses(d: &[usize; 2620], table: &mut [u64])
     }
 }
 
-pub fn fill_limits(d: &[usize; 2620], table: &mut [u64])
+fn fill_limits(d: &District, table: &mut [u64])
     requires { ⌜ Ranges (now d) × (length (now table) ≡ 16) ⌝ }
     ensures { λ _. ⌜ now (table .exit) ≡ limitList (now (d .entry)) ⌝ }
 {
@@ -78,7 +79,7 @@ fn down_share(u: u64, l: u64) -> u64
 }
 
 // Both shares of all uses.
-pub fn fill_shares(uses: &[u64], limits: &[u64], shares: &mut [u64], downs: &mut [u64])
+fn fill_shares(uses: &[u64], limits: &[u64], shares: &mut [u64], downs: &mut [u64])
     requires { ⌜ (length (now uses) ≡ 12288) × (length (now limits) ≡ 16) × (length (now shares) ≡ 12288) × (length (now downs) ≡ 12288) ⌝ }
     requires { ⌜ ((k : ℕ) → getD (now uses) k 0 < 2 ^ 41) × ((k : ℕ) → getD (now limits) k 0 < 2 ^ 47) ⌝ }
     ensures up { λ _. ⌜ now (shares .exit) ≡ shareList (now (uses .entry)) (now (limits .entry)) ⌝ }
@@ -96,7 +97,7 @@ pub fn fill_shares(uses: &[u64], limits: &[u64], shares: &mut [u64], downs: &mut
 
 // All of them: what is proved of code over these arrays is what the rules say of the district.
 pub fn fill_all(
-    d: &[usize; 2620],
+    d: &District,
     benefits: &mut [u64],
     uses: &mut [u64],
     limits: &mut [u64],

@@ -12,7 +12,7 @@ use Rattle.base.proofs.Choice.{pick-all}
 use Rattle.base.specs.Bytes.{signed}
 use Rattle.base.specs.Choice.{pick}
 use Rattle.rules.specs.District.{District, valueAt, strategyPlace, pavementPlace, segmentPlace, segmentsOf, strategiesOf, yearsOf, distressesOf, pavementsOf, resourcesOf, limitOf, greatestOf, requirementOf, gainOf, percentOf, overallOf, minimumOf, pavementOf, trafficOf, environmentOf, lengthOf, widthOf, barsOf, ratingOf}
-use Rattle.rules.specs.Format.{number, absent, inside, slot, slotOf, present, limitField, greatestField, rowsField, strategyField, pavementField, segmentField, kindField, fieldAt}
+use Rattle.rules.specs.Format.{number, absent, inside, slot, present, limitField, greatestField, rowsField, strategyField, pavementField, segmentField, kindField, fieldAt}
 use Rattle.rules.specs.File.{inRange}
 use Rattle.rules.specs.declared.Slot.{Slot}
 use Rattle.rules.specs.declared.Field.{Field}

@@ -4,10 +4,10 @@ use Prim.Native.Nat.{ℕ, _≤_, _<_, _^_}
 use mathlib.Core.Path.{_≡_}
 use lib.IntN.{natAbs}
 use lib.ListN.{length}
-use Rattle.rules.specs.District.{District, segmentsOf, strategiesOf, yearsOf, distressesOf, pavementsOf, resourcesOf, limitOf, greatestOf, requirementOf, gainOf, percentOf, overallOf, minimumOf, pavementOf, trafficOf, environmentOf, lengthOf, widthOf, barsOf, ratingOf}
+use Rattle.rules.specs.District.{District, segmentsOf, strategiesOf, yearsOf, distressesOf, pavementsOf, resourcesOf, limitOf, greatestOf, requirementOf, gainOf, percentOf, overallOf, minimumOf, pavementOf, trafficOf, environmentOf, lengthOf, widthOf, barsOf, ratingOf, districtPlaces}
 
 pub record Ranges (d : District) : Type 0 where
-  pub places : length d ≡ 2620
+  pub places : length d ≡ districtPlaces
   pub segments : segmentsOf d ≤ 64
   pub some-strategy : 1 ≤ strategiesOf d
   pub strategies : strategiesOf d ≤ 11

@@ -4,6 +4,7 @@ ghost use mathlib.Core.Path.{_≡_};
 ghost use Prim.Native.Nat.{_<_, _-_, _^_, min};
 ghost use Rattle.base.specs.Choice.{pick};
 ghost use Rattle.rules.specs.Format.{number, absent, inside, slot, slotOf, present, countField, limitField, greatestField, rowsField, strategyField, pavementField, segmentField, kindField, fieldAt};
+use rules::District;
 use rules::Field;
 use rules::Slot;
 
@@ -39,7 +40,7 @@ pub fn slot_at(n: usize) -> Slot
 }
 
 // Whether the district has the record.
-pub fn is_present(d: &[usize; 2620], s: Slot) -> bool
+pub fn is_present(d: &District, s: Slot) -> bool
     ensures { λ r. ⌜ r ≡ present (now (d .entry)) s ⌝ }
 {
     let kind = s.kind;
@@ -85,19 +86,19 @@ fn count_field(n: usize) -> Field
     number_of(1, 0, 0)
 }
 
-pub fn limit_field(d: &[usize; 2620], n: usize) -> Field
+pub fn limit_field(d: &District, n: usize) -> Field
     ensures { λ r. ⌜ r ≡ limitField (now (d .entry)) n ⌝ }
 {
     number_if(n < d[5], 4, 0, 999_999_999)
 }
 
-fn greatest_field(d: &[usize; 2620], n: usize) -> Field
+fn greatest_field(d: &District, n: usize) -> Field
     ensures { λ r. ⌜ r ≡ greatestField (now (d .entry)) n ⌝ }
 {
     number_if(n < d[3], 1, 1, 50)
 }
 
-fn rows_field(d: &[usize; 2620], most: usize, n: usize) -> Field
+fn rows_field(d: &District, most: usize, n: usize) -> Field
     ensures { λ r. ⌜ r ≡ rowsField (now (d .entry)) most n ⌝ }
 {
     if n / 10 < d[3] {
@@ -106,7 +107,7 @@ fn rows_field(d: &[usize; 2620], most: usize, n: usize) -> Field
     number_of(0, 0, 0)
 }
 
-fn strategy_field(d: &[usize; 2620], n: usize) -> Field
+fn strategy_field(d: &District, n: usize) -> Field
     ensures { λ r. ⌜ r ≡ strategyField (now (d .entry)) n ⌝ }
 {
     if n < 16 {
@@ -118,7 +119,7 @@ fn strategy_field(d: &[usize; 2620], n: usize) -> Field
     rows_field(d, 100, n - 25)
 }
 
-fn pavement_field(d: &[usize; 2620], n: usize) -> Field
+fn pavement_field(d: &District, n: usize) -> Field
     ensures { λ r. ⌜ r ≡ pavementField (now (d .entry)) n ⌝ }
 {
     if n == 0 {
@@ -138,7 +139,7 @@ fn largest_mask(bits: usize) -> usize
     }
 }
 
-fn segment_field(d: &[usize; 2620], n: usize) -> Field
+fn segment_field(d: &District, n: usize) -> Field
     requires { ⌜ n < 115 ⌝ }
     ensures { λ r. ⌜ r ≡ segmentField (now (d .entry)) n ⌝ }
 {
@@ -160,7 +161,7 @@ fn segment_field(d: &[usize; 2620], n: usize) -> Field
     number_if(n - 6 < d[3], 1, 0, d[22 + (n - 5 - 1)])
 }
 
-fn kind_field(d: &[usize; 2620], kind: usize, n: usize) -> Field
+fn kind_field(d: &District, kind: usize, n: usize) -> Field
     requires { ⌜ n < 115 ⌝ }
     ensures { λ r. ⌜ r ≡ kindField (now (d .entry)) kind n ⌝ }
 {
@@ -186,7 +187,7 @@ fn kind_field(d: &[usize; 2620], kind: usize, n: usize) -> Field
 }
 
 // The `n`-th number of the record `s`, from 0; no record has more than 115.
-pub fn field_at(d: &[usize; 2620], s: Slot, n: usize) -> Field
+pub fn field_at(d: &District, s: Slot, n: usize) -> Field
     requires { ⌜ n < 115 ⌝ }
     ensures { λ r. ⌜ r ≡ fieldAt (now (d .entry)) s n ⌝ }
 {

@@ -94,13 +94,6 @@ module _ (t : Table) (c : List ℕ) where
   unfolding counts
   change-within e q = and-both (ltb (total t c) (total t e)) (within t e) (change-some e q .counted) .1
 
-  pub changed-length : (e : List ℕ) → Changed e → length e ≡ length c
-  changed-length e (one i a l h s) = length-set c (i - 1) a
-  changed-length e (two i k a b l m h s v) = length-set (give c i a) (k - 1) b ∙ length-set c (i - 1) a
-
-  pub change-length : (e : List ℕ) → change t c ≡ some e → length e ≡ length c
-  change-length e q = changed-length e (change-some e q .changed)
-
   -- strategy numbers stay within the table's
   pub change-numbers : (e : List ℕ) → change t c ≡ some e → ((k : ℕ) → strategyAt c k ≤ t .strategies) → (k : ℕ) → strategyAt e k ≤ t .strategies
   change-numbers e q before = go e (change-some e q .changed)

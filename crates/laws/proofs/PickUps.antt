@@ -1,6 +1,6 @@
 -- What a pick-up of phase 2 does: a segment with nothing gets a candidate, the total rises, and every limit holds. Assumes nothing.
 use Prim.Native.Nat.{ℕ, zero, suc, _≤_, _<_}
-use mathlib.Core.Path.{_≡_, refl, ap, subst}
+use mathlib.Core.Path.{_≡_, refl, subst}
 use mathlib.Core.Bool.{true}
 use mathlib.Core.List.{List}
 use mathlib.Core.Logic.{inr}
@@ -15,8 +15,8 @@ use Rattle.base.proofs.Choice.{and-both, pick-all}
 use Rattle.base.proofs.Sums.{sum-bound}
 use Rattle.base.proofs.Best.{best-le, best-passes}
 use Rattle.rules.specs.Table.{Table}
-use Rattle.rules.specs.Phases.{strategyAt, give, isCandidate, greater, chosenBenefit, total, within, fitting, offer, offerBenefit, vacant, greaterOffer, bestOffer, pickedUp, pickUp}
-use Rattle.laws.proofs.Give.{sum-give, total-give}
+use Rattle.rules.specs.Phases.{strategyAt, give, isCandidate, greater, within, fitting, offer, offerBenefit, vacant, greaterOffer, bestOffer, pickedUp, pickUp}
+use Rattle.laws.proofs.Give.{sum-give}
 use Rattle.laws.proofs.Gives.{Gives, give-gives}
 
 module _ (t : Table) where
@@ -97,13 +97,3 @@ module _ (t : Table) where
           let old : nothingAt i (strategyAt c i) ≡ 1 = rw (eq-eqb (strategyAt c i) 0 (f .vacant)) in
           let new : nothingAt i j ≡ 0 = rw (ne-eqb j 0 (λ z. omega (arith, f .some-strategy))) in
           omega arith
-
-  pub pick-up-rises : ((i : ℕ) → 1 ≤ i → i ≤ t .segments → t .benefit i 0 ≡ 0) → (c e : List ℕ) → pickUp t c ≡ some e → Room c → total t c < total t e
-  unfolding chosenBenefit
-  pick-up-rises nothing c e found room = picked (λ e. total t c < total t e) c more e found
-    where
-      more : (i j : ℕ) → Fitting c i j → total t c < total t (give c i j)
-      more i j f =
-          let moved = total-give t c i j (f .some-segment) (f .segment) room in
-          let old = ap (t .benefit i) (f .vacant) in
-          omega (arith, nothing i (f .some-segment) (f .segment))

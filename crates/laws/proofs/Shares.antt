@@ -69,6 +69,3 @@ module _ (t : Table) where
     pub pull-by-le : (i r : ℕ) → 1 ≤ i → i ≤ t .segments → 1 ≤ r → r ≤ t .resources → pullBy t c i r ≤ 6_400_000_000
     unfolding pullBy
     pull-by-le i r li hi lr hr = mul-le-mul {n₁ = chosenShare t c r i} {m₁ = surplus t c r} {n₂ = 10_000} {m₂ = 640_000} (chosen-share-le i r li hi lr hr) (surplus-le r lr hr)
-
-    pub pulls-le : (n i : ℕ) → n ≤ t .resources → 1 ≤ i → i ≤ t .segments → sum n (pullBy t c i) ≤ n * 6_400_000_000
-    pulls-le n i hn li hi = sum-bound n 6_400_000_000 (pullBy t c i) (λ r l h. pull-by-le i r li hi l (omega arith))

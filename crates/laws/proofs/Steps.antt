@@ -9,7 +9,8 @@ use native.Mathlib.Omega.{arith}
 use borrow.Author.Tests.{ltb-true}
 use Rattle.base.specs.Over.{best}
 use Rattle.base.proofs.Choice.{and-both}
-use Rattle.base.proofs.Best.{best-ind, best-le, listed-at, listed-length}
+use Rattle.base.proofs.Best.{best-ind, best-le}
+use Rattle.base.proofs.Listed.{listed-at, listed-length}
 use Rattle.rules.specs.Table.{Table}
 use Rattle.rules.specs.Phases.{strategyAt, give, isCandidate, greater, topCandidate, start, within, pulls, lesserRatio, weakest, comesAfter, nextCandidate, stepDown, step}
 use Rattle.laws.specs.Tables.{Allowed, OfCandidates}
@@ -41,7 +42,7 @@ module _ (t : Table) where
 
   pub start-allowed : t .segments ≤ 64 → OfCandidates t (start t)
   unfolding start
-  start-allowed few = record { places = listed-length 64 1 (topCandidate t); each = λ i l h. rw (start-at i l (omega arith)) (top-allowed i) }
+  start-allowed few = record { places = listed-length (topCandidate t) 64 1; each = λ i l h. rw (start-at i l (omega arith)) (top-allowed i) }
 
   -- ---- what a step is
 

@@ -1,5 +1,5 @@
 -- The test card's programme, listed. Assumes nothing.
-use mathlib.Core.List.{[], _∷_, _++_}
+use mathlib.Core.List.{_∷_}
 use mathlib.Core.Path.{_≡_, refl}
 use lib.ListN.{replicate}
 use Rattle.base.specs.Text.{text, digitsOf, decimal}

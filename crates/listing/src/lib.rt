@@ -3,7 +3,7 @@
 ghost use mathlib.Core.Path.{_≡_};
 ghost use Prim.Native.Nat.{_+_, _≤_, min};
 ghost use lib.ListN.{length};
-ghost use Rattle.base.specs.Text.{text, decimal, Put};
+ghost use Rattle.base.specs.Text.{decimal, Put};
 ghost use Rattle.listing.specs.Listing.{named, line, segmentLine, segmentLines, stepsLine, results, listing, shown, refusal, done, planned, valued, failed};
 use rules::Answer;
 use rules::Programme;
@@ -43,7 +43,7 @@ fn put_named(out: &mut [u8], word: &[u8], value: usize) -> usize
     at + put_number(&mut out[at..], value)
 }
 
-pub fn put_line(out: &mut [u8], word: &[u8], value: usize) -> usize
+fn put_line(out: &mut [u8], word: &[u8], value: usize) -> usize
     requires { ⌜ length (line (now word) value) ≤ length (now out) ⌝ }
     ensures { λ r. ⌜ Put (line (now (word .entry)) value) (now (out .entry)) (now (out .exit)) r ⌝ }
 {
@@ -94,7 +94,7 @@ fn put_results(out: &mut [u8], p: Programme) -> usize
 }
 
 // The programme of a district of `n` segments.
-pub fn put_listing(out: &mut [u8], p: Programme, n: usize) -> usize
+fn put_listing(out: &mut [u8], p: Programme, n: usize) -> usize
     requires { ⌜ 2815 ≤ length (now out) ⌝ }
     ensures { λ r. ⌜ Put (listing p n) (now (out .entry)) (now (out .exit)) r ⌝ }
 {
@@ -121,7 +121,7 @@ pub fn put_shown(out: &mut [u8], u: Unit) -> usize
 
 // ---- the answer to a call
 
-pub fn put_refusal(out: &mut [u8], n: usize) -> usize
+fn put_refusal(out: &mut [u8], n: usize) -> usize
     requires { ⌜ 29 ≤ length (now out) ⌝ }
     ensures { λ r. ⌜ Put (refusal n) (now (out .entry)) (now (out .exit)) r ⌝ }
 {

@@ -1,7 +1,7 @@
 -- Laws of the searches, shares, pulls and steps of phase 1 over arrays. Assumes nothing.
 use Prim.Native.Nat.{ℕ, zero, suc, _+_, _-_, _*_, _/_, _^_, _≤_, _<_}
 use mathlib.Core.Path.{_≡_, refl, ap, sym, _∙_}
-use mathlib.Core.Bool.{Bool, true, false, _&&_, and-false, true≢false}
+use mathlib.Core.Bool.{Bool, true, false, _&&_, true≢false}
 use mathlib.Core.List.{List}
 use mathlib.Core.Option.{none, some}
 use native.Mathlib.Nat.{zero-div, mul-le-mul}
@@ -10,11 +10,12 @@ use borrow.Author.Tests.{ltb-true, lt-ltb, le-ltb, leb-true, leb-false, le-leb, 
 use lib.Dec.{leb, ltb}
 use lib.ListN.{getD, length, List·getD-eq-default}
 use lib.Seq.{ext-getD}
-use Rattle.base.specs.Over.{sum, best, between}
+use Rattle.base.specs.Over.{sum, best}
 use Rattle.base.proofs.Choice.{and-both}
 use Rattle.base.proofs.Sums.{sum-next, sum-bound, sum-cong}
 use Rattle.base.proofs.All.{all-true, all-fails}
-use Rattle.base.proofs.Best.{best-next, best-le, better-passed, better-first, better-taken, better-worse, listed-length, Leads, leads-none, leads-taken, leads-kept, leads-end}
+use Rattle.base.proofs.Best.{best-next, best-le, better-passed, better-first, better-taken, better-worse, Leads, leads-none, leads-taken, leads-kept, leads-end}
+use Rattle.base.proofs.Listed.{listed-length}
 use Rattle.base.proofs.Runs.{Reached, reached-start, reached-next, reached-end, reached-spent}
 use Rattle.rules.specs.Table.{Table}
 use Rattle.rules.specs.Phases.{strategyAt, chosenBenefit, used, holds, within, isCandidate, greater, comesAfter, topCandidate, nextCandidate, start, chosenShare, surplus, pullBy, pull, pulls, ratio, lesserRatio, weakest, give, step, phase1}
@@ -22,7 +23,7 @@ use Rattle.laws.proofs.Steps.{start-at, weakest-le, stepped, step-within, step-
 use Rattle.laws.proofs.Shares.{chosen-share-le, pull-by-le}
 use Rattle.tables.specs.declared.Size.{Size}
 use Rattle.tables.specs.Arrays.{benefitAt, usageAt, limitAt, tables, Uses, Sound, Chosen, Cell, Ready}
-use Rattle.tables.proofs.Laws.{limit-at, usage-lt, cell-of}
+use Rattle.tables.proofs.Laws.{benefit-nothing, limit-at, usage-lt, cell-of}
 use Rattle.phase1.specs.declared.Weak.{Weak}
 use Rattle.phase1.specs.Reduce.{follows, shareAt, Held, Surpluses, weakAt, weakerOf}
 
@@ -34,15 +35,11 @@ gainful b i k = ltb 0 (benefitAt b i k)
 abbrev pub later : List ℕ → ℕ → ℕ → ℕ → Bool
 later b i a k = gainful b i k && follows (benefitAt b i k) (benefitAt b i a) a k
 
-pub benefit-none : (b : List ℕ) (i : ℕ) → benefitAt b i 0 ≡ 0
-unfolding benefitAt
-benefit-none b i = rw (and-false (between 1 64 i))
-
 pub top-none : (b : List ℕ) (i : ℕ) → Leads (gainful b i) (benefitAt b i) 0 0 0
-top-none b i = leads-none (gainful b i) (benefitAt b i) (benefit-none b i) (λ k e. ltb-true 0 (benefitAt b i k) e)
+top-none b i = leads-none (gainful b i) (benefitAt b i) (benefit-nothing b i) (λ k e. ltb-true 0 (benefitAt b i k) e)
 
 pub next-none : (b : List ℕ) (i a : ℕ) → Leads (later b i a) (benefitAt b i) 0 0 0
-next-none b i a = leads-none (later b i a) (benefitAt b i) (benefit-none b i) (λ k e. ltb-true 0 (benefitAt b i k) (and-both (gainful b i k) _ e .0))
+next-none b i a = leads-none (later b i a) (benefitAt b i) (benefit-nothing b i) (λ k e. ltb-true 0 (benefitAt b i k) (and-both (gainful b i k) _ e .0))
 
 -- a turn: strategy n + 1 has the benefit `value`
 module _ (b : List ℕ) (i n : ℕ) {value : ℕ} (is : value ≡ benefitAt b i (n + 1)) where
@@ -82,14 +79,14 @@ module _ (z : Size) (b u l : List ℕ) (i : ℕ) where
 pub start-is : (t : Table) (c : List ℕ) → length c ≡ 64 → ((k : ℕ) → 1 ≤ k → k ≤ 64 → strategyAt c k ≡ topCandidate t k) → c ≡ start t
 unfolding start
 start-is t c places tops =
-    ext-getD 0 c (start t) (places ∙ sym (listed-length 64 1 (topCandidate t)))
+    ext-getD 0 c (start t) (places ∙ sym (listed-length (topCandidate t) 64 1))
     (λ k h.
     let e : k + 1 - 1 ≡ k = omega arith in
     rw e at (tops (k + 1) (omega arith) (omega arith) ∙ sym (start-at t (k + 1) (omega arith) (omega arith))))
 
 pub start-chosen : (z : Size) (b u l : List ℕ) {c : List ℕ} → c ≡ start (tables z b u l) → Chosen z c
 unfolding start topCandidate
-start-chosen z b u l is = rw is (record { places = listed-length 64 1 (topCandidate t); numbers = λ i. known i (leb i 64) refl })
+start-chosen z b u l is = rw is (record { places = listed-length (topCandidate t) 64 1; numbers = λ i. known i (leb i 64) refl })
   where
     t : Table
     t = tables z b u l
@@ -100,7 +97,7 @@ start-chosen z b u l is = rw is (record { places = listed-length 64 1 (topCandid
     known : (i : ℕ) (v : Bool) → leb i 64 ≡ v → strategyAt (start t) i ≤ z .strategies
     known zero v e = rw (start-at t 1 (omega arith) (omega arith)) (small 1)
     known (suc i) true e = rw (start-at t (suc i) (omega arith) (leb-true (suc i) 64 e)) (small (suc i))
-    known (suc i) false e = rw (List·getD-eq-default (start t) 0 {n = suc i - 1} (omega (arith, listed-length 64 1 (topCandidate t), leb-false (suc i) 64 e))) (omega arith)
+    known (suc i) false e = rw (List·getD-eq-default (start t) 0 {n = suc i - 1} (omega (arith, listed-length (topCandidate t) 64 1, leb-false (suc i) 64 e))) (omega arith)
 
 -- what the first segments use
 pub used-le : (u : List ℕ) → Uses u → (c : List ℕ) (r n : ℕ) → n ≤ 64 → sum n (λ k. usageAt u k (strategyAt c k) r) ≤ 2 ^ 47

@@ -43,7 +43,7 @@ use Rattle.laws.proofs.Changes.{change-rises, change-numbers, total-most}
 use Rattle.laws.proofs.Give.{kept, total-give, used-give, within-less}
 use Rattle.tables.specs.declared.Size.{Size}
 use Rattle.tables.specs.Arrays.{benefitAt, tables, Gains, Ready}
-use Rattle.tables.proofs.Laws.{benefit-nothing, benefit-lt, gains-of, total-le}
+use Rattle.tables.proofs.Laws.{benefit-nothing, benefit-lt, total-le}
 use Rattle.phase3.specs.Improve.{after, isNothing, made, Found, countsOne, countsTwo, top, Compared, present, pairMayRise, withMayCount}
 use Rattle.phase3.specs.declared.Change.{Change}
 use Rattle.phase3.specs.declared.Change.the-variants.{Nothing, One, Two}
@@ -250,7 +250,7 @@ compared-of z b u l c sums ready =
     record {
       segments = ready .sound .segments;
       strategies = ready .sound .strategies;
-      gains = gains-of z b u l (ready .sound);
+      gains = ready .sound .gains;
       chosen = ready .chosen;
     }
 

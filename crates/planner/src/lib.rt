@@ -2,7 +2,6 @@
 ghost use mathlib.Core.Bool.{true};
 ghost use mathlib.Core.Path.{_≡_};
 ghost use Prim.Native.Nat.{_≤_};
-ghost use Rattle.fill.specs.Filled.{Filled};
 ghost use Rattle.phase1.specs.Reduce.{Shares};
 ghost use Rattle.laws.specs.Tables.{FitAlone};
 ghost use Rattle.rules.specs.Ceiling.{ceiling};
@@ -47,7 +46,7 @@ fn phases(
 }
 
 // The programme of a district in the file's ranges.
-fn programme_of(d: &[usize; 2620]) -> Programme
+fn programme_of(d: &District) -> Programme
     requires { ⌜ inRange (now d) ≡ true ⌝ }
     ensures { λ r. ⌜ r ≡ programmeOf (tableOf (now (d .entry))) ⌝ }
 {

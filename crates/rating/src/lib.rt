@@ -5,29 +5,30 @@ ghost use lib.IntN.{natAbs};
 ghost use Rattle.base.specs.Choice.{pick};
 ghost use Rattle.base.specs.Over.{sum, sumZ};
 ghost use Rattle.grammar.specs.Ranges.{Ranges};
-ghost use Rattle.rules.specs.District.{valueAt, limitPlace, greatestPlace, strategyPlace, pavementPlace, segmentPlace, barsPlace, ratingPlace, gainOf, yearsOf, distressesOf, barredIn};
+ghost use Rattle.rules.specs.District.{valueAt, limitPlace, greatestPlace, strategyPlace, pavementPlace, segmentPlace, ratingPlace, gainOf, yearsOf, distressesOf, barredIn};
 ghost use Rattle.rules.specs.Rating.{gain, survival, improvements, rating, effect, area, benefit, usage, scaledLimit, reaches, minimumReached, yearsReached, minimaReached, firstRating, overallReached, permitted, fitsAlone, candidate};
 ghost use Rattle.rules.specs.Table.{has, candidateBenefit, usageIn, limitIn};
 ghost use Rattle.rating.specs.Areas.{areaIn};
 ghost use Rattle.rating.specs.Numbers.{Segment, SegmentOf, Strategy, Distress, Year, Pavement, Resource};
+use rules::District;
 
 // ---- what stands at its places
 
-fn limit_at(d: &[usize; 2620], r: usize) -> usize
+fn limit_at(d: &District, r: usize) -> usize
     requires { ⌜ Resource r ⌝ }
     ensures { λ v. ⌜ v ≡ valueAt (now (d .entry)) (limitPlace r) ⌝ }
 {
     d[6 + (r - 1)]
 }
 
-fn greatest_at(d: &[usize; 2620], k: usize) -> usize
+fn greatest_at(d: &District, k: usize) -> usize
     requires { ⌜ Distress k ⌝ }
     ensures { λ v. ⌜ v ≡ valueAt (now (d .entry)) (greatestPlace k) ⌝ }
 {
     d[22 + (k - 1)]
 }
 
-fn requirement_at(d: &[usize; 2620], j: usize, r: usize) -> usize
+fn requirement_at(d: &District, j: usize, r: usize) -> usize
     requires { ⌜ Strategy j × Resource r ⌝ }
     ensures { λ v. ⌜ v ≡ valueAt (now (d .entry)) (strategyPlace j + (r - 1)) ⌝ }
 {
@@ -35,35 +36,35 @@ fn requirement_at(d: &[usize; 2620], j: usize, r: usize) -> usize
 }
 
 // the byte of a gain, signed
-fn gain_byte(d: &[usize; 2620], j: usize, k: usize) -> usize
+fn gain_byte(d: &District, j: usize, k: usize) -> usize
     requires { ⌜ Strategy j × Distress k ⌝ }
     ensures { λ v. ⌜ v ≡ valueAt (now (d .entry)) (strategyPlace j + 16 + (k - 1)) ⌝ }
 {
     d[31 + 115 * (j - 1) + 16 + (k - 1)]
 }
 
-fn percent_at(d: &[usize; 2620], j: usize, k: usize, t: usize) -> usize
+fn percent_at(d: &District, j: usize, k: usize, t: usize) -> usize
     requires { ⌜ Strategy j × Distress k × Year t ⌝ }
     ensures { λ v. ⌜ v ≡ valueAt (now (d .entry)) (strategyPlace j + 25 + 10 * (k - 1) + (t - 1)) ⌝ }
 {
     d[31 + 115 * (j - 1) + 25 + 10 * (k - 1) + (t - 1)]
 }
 
-fn overall_at(d: &[usize; 2620], y: usize) -> usize
+fn overall_at(d: &District, y: usize) -> usize
     requires { ⌜ Pavement y ⌝ }
     ensures { λ v. ⌜ v ≡ valueAt (now (d .entry)) (pavementPlace y) ⌝ }
 {
     d[1296 + 91 * (y - 1)]
 }
 
-fn minimum_at(d: &[usize; 2620], y: usize, k: usize, t: usize) -> usize
+fn minimum_at(d: &District, y: usize, k: usize, t: usize) -> usize
     requires { ⌜ Pavement y × Distress k × Year t ⌝ }
     ensures { λ v. ⌜ v ≡ valueAt (now (d .entry)) (pavementPlace y + 1 + 10 * (k - 1) + (t - 1)) ⌝ }
 {
     d[1296 + 91 * (y - 1) + 1 + 10 * (k - 1) + (t - 1)]
 }
 
-fn pavement_at(d: &[usize; 2620], i: usize) -> usize
+fn pavement_at(d: &District, i: usize) -> usize
     requires { ⌜ Segment i ⌝ }
     ensures { λ v. ⌜ v ≡ valueAt (now (d .entry)) (segmentPlace i) ⌝ }
 {
@@ -81,14 +82,14 @@ const WIDTH: usize = 4;
 
 const BARS: usize = 5;
 
-fn segment_at(d: &[usize; 2620], i: usize, n: usize) -> usize
+fn segment_at(d: &District, i: usize, n: usize) -> usize
     requires { ⌜ Segment i × (n ≤ 5) ⌝ }
     ensures { λ v. ⌜ v ≡ valueAt (now (d .entry)) (segmentPlace i + n) ⌝ }
 {
     d[1660 + 15 * (i - 1) + n]
 }
 
-fn rating_at(d: &[usize; 2620], i: usize, k: usize) -> usize
+fn rating_at(d: &District, i: usize, k: usize) -> usize
     requires { ⌜ Segment i × Distress k ⌝ }
     ensures { λ v. ⌜ v ≡ valueAt (now (d .entry)) (ratingPlace i k) ⌝ }
 {
@@ -98,7 +99,7 @@ fn rating_at(d: &[usize; 2620], i: usize, k: usize) -> usize
 // ---- gain and survival
 
 // The gain that strategy j has for distress k.
-fn own_gain(d: &[usize; 2620], j: usize, k: usize) -> i64
+fn own_gain(d: &District, j: usize, k: usize) -> i64
     requires { ⌜ Ranges (now d) × Strategy j × Distress k ⌝ }
     ensures { λ g. ⌜ g ≡ gainOf (now (d .entry)) j k ⌝ }
 {
@@ -110,7 +111,7 @@ fn own_gain(d: &[usize; 2620], j: usize, k: usize) -> i64
 }
 
 // The same on segment i, cut to what is left up to the greatest rating.
-pub fn gain(d: &[usize; 2620], i: usize, j: usize, k: usize) -> i64
+fn gain(d: &District, i: usize, j: usize, k: usize) -> i64
     requires { ⌜ Ranges (now d) × Segment i × Strategy j × Distress k ⌝ }
     ensures { λ g. ⌜ g ≡ gain (now (d .entry)) i j k ⌝ }
 {
@@ -120,7 +121,7 @@ pub fn gain(d: &[usize; 2620], i: usize, j: usize, k: usize) -> i64
 }
 
 // What is left of it in year t, in millionths.
-pub fn survival(d: &[usize; 2620], i: usize, j: usize, k: usize, t: usize) -> usize
+fn survival(d: &District, i: usize, j: usize, k: usize, t: usize) -> usize
     requires { ⌜ Ranges (now d) × Segment i × Strategy j × Distress k × Year t ⌝ }
     ensures { λ s. ⌜ s ≡ survival (now (d .entry)) i j k t ⌝ }
 {
@@ -133,7 +134,7 @@ pub fn survival(d: &[usize; 2620], i: usize, j: usize, k: usize, t: usize) -> us
 // ---- effect, area, benefit
 
 // What is left of a gain in each year, summed over the years.
-fn survivals(d: &[usize; 2620], i: usize, j: usize, k: usize) -> usize
+fn survivals(d: &District, i: usize, j: usize, k: usize) -> usize
     requires { ⌜ Ranges (now d) × Segment i × Strategy j × Distress k ⌝ }
     ensures { λ s. ⌜ s ≡ sum (yearsOf (now (d .entry))) (survival (now (d .entry)) i j k) ⌝ }
 {
@@ -148,7 +149,7 @@ fn survivals(d: &[usize; 2620], i: usize, j: usize, k: usize) -> usize
 }
 
 // What the gain adds over the years: it is a factor that all years share.
-fn improvements(d: &[usize; 2620], i: usize, j: usize, k: usize) -> i64
+fn improvements(d: &District, i: usize, j: usize, k: usize) -> i64
     requires { ⌜ Ranges (now d) × Segment i × Strategy j × Distress k ⌝ }
     ensures { λ z. ⌜ z ≡ improvements (now (d .entry)) i j k ⌝ }
 {
@@ -156,7 +157,7 @@ fn improvements(d: &[usize; 2620], i: usize, j: usize, k: usize) -> i64
 }
 
 // The effect of strategy j on segment i: one division, toward zero, after the whole sum.
-pub fn effect(d: &[usize; 2620], i: usize, j: usize) -> i64
+fn effect(d: &District, i: usize, j: usize) -> i64
     requires { ⌜ Ranges (now d) × Segment i × Strategy j ⌝ }
     ensures { λ e. ⌜ e ≡ effect (now (d .entry)) i j ⌝ }
 {
@@ -170,14 +171,14 @@ pub fn effect(d: &[usize; 2620], i: usize, j: usize) -> i64
     sum / 10000
 }
 
-pub fn area(d: &[usize; 2620], i: usize) -> u64
+fn area(d: &District, i: usize) -> u64
     requires { ⌜ Ranges (now d) × Segment i ⌝ }
     ensures { λ a. ⌜ a ≡ area (now (d .entry)) i ⌝ }
 {
     (segment_at(d, i, LENGTH) * segment_at(d, i, WIDTH)) as u64
 }
 
-pub fn benefit(d: &[usize; 2620], i: usize, j: usize) -> i64
+fn benefit(d: &District, i: usize, j: usize) -> i64
     requires { ⌜ Ranges (now d) × Segment i × Strategy j ⌝ }
     ensures { λ b. ⌜ b ≡ benefit (now (d .entry)) i j ⌝ }
 {
@@ -186,14 +187,14 @@ pub fn benefit(d: &[usize; 2620], i: usize, j: usize) -> i64
 
 // ---- uses and limits
 
-pub fn usage(d: &[usize; 2620], i: usize, j: usize, r: usize) -> u64
+fn usage(d: &District, i: usize, j: usize, r: usize) -> u64
     requires { ⌜ Ranges (now d) × Segment i × Strategy j × Resource r ⌝ }
     ensures { λ u. ⌜ u ≡ usage (now (d .entry)) i j r ⌝ }
 {
     area(d, i) * (requirement_at(d, j, r) as u64)
 }
 
-pub fn scaled_limit(d: &[usize; 2620], r: usize) -> u64
+fn scaled_limit(d: &District, r: usize) -> u64
     requires { ⌜ Ranges (now d) × Resource r ⌝ }
     ensures { λ l. ⌜ l ≡ scaledLimit (now (d .entry)) r ⌝ }
 {
@@ -203,7 +204,7 @@ pub fn scaled_limit(d: &[usize; 2620], r: usize) -> u64
 // ---- permitted
 
 // Bit j − 1 of the segment's bars, by shift and mask.
-pub fn barred(d: &[usize; 2620], i: usize, j: usize) -> bool
+fn barred(d: &District, i: usize, j: usize) -> bool
     requires { ⌜ Segment i × Strategy j ⌝ }
     ensures { λ b. ⌜ b ≡ barredIn (now (d .entry)) i j ⌝ }
 {
@@ -222,14 +223,14 @@ fn reaches(z: i64, required: usize) -> bool
 }
 
 // The rating in year t, in millionths, g being the gain.
-fn rating(d: &[usize; 2620], i: usize, j: usize, k: usize, t: usize, g: i64) -> i64
+fn rating(d: &District, i: usize, j: usize, k: usize, t: usize, g: i64) -> i64
     requires { ⌜ Ranges (now d) × Segment i × Strategy j × Distress k × Year t × (g ≡ gain (now d) i j k) ⌝ }
     ensures { λ z. ⌜ z ≡ rating (now (d .entry)) i j k t ⌝ }
 {
     (1000000 * rating_at(d, i, k)) as i64 + g * (survival(d, i, j, k, t) as i64)
 }
 
-fn minimum_reached(d: &[usize; 2620], i: usize, j: usize, k: usize, t: usize, g: i64) -> bool
+fn minimum_reached(d: &District, i: usize, j: usize, k: usize, t: usize, g: i64) -> bool
     requires { ⌜ Ranges (now d) × SegmentOf (now d) i × Strategy j × Distress k × Year t × (g ≡ gain (now d) i j k) ⌝ }
     ensures { λ b. ⌜ b ≡ minimumReached (now (d .entry)) i j k t ⌝ }
 {
@@ -237,7 +238,7 @@ fn minimum_reached(d: &[usize; 2620], i: usize, j: usize, k: usize, t: usize, g:
     reaches(rating(d, i, j, k, t, g), required)
 }
 
-fn years_reached(d: &[usize; 2620], i: usize, j: usize, k: usize) -> bool
+fn years_reached(d: &District, i: usize, j: usize, k: usize) -> bool
     requires { ⌜ Ranges (now d) × SegmentOf (now d) i × Strategy j × Distress k ⌝ }
     ensures { λ b. ⌜ b ≡ yearsReached (now (d .entry)) i j k ⌝ }
 {
@@ -253,7 +254,7 @@ fn years_reached(d: &[usize; 2620], i: usize, j: usize, k: usize) -> bool
     true
 }
 
-pub fn minima_reached(d: &[usize; 2620], i: usize, j: usize) -> bool
+fn minima_reached(d: &District, i: usize, j: usize) -> bool
     requires { ⌜ Ranges (now d) × SegmentOf (now d) i × Strategy j ⌝ }
     ensures { λ b. ⌜ b ≡ minimaReached (now (d .entry)) i j ⌝ }
 {
@@ -269,7 +270,7 @@ pub fn minima_reached(d: &[usize; 2620], i: usize, j: usize) -> bool
 }
 
 // The ratings of year 1, summed.
-fn first_ratings(d: &[usize; 2620], i: usize, j: usize) -> i64
+fn first_ratings(d: &District, i: usize, j: usize) -> i64
     requires { ⌜ Ranges (now d) × Segment i × Strategy j ⌝ }
     ensures { λ z. ⌜ z ≡ sumZ (distressesOf (now (d .entry))) (firstRating (now (d .entry)) i j) ⌝ }
 {
@@ -284,7 +285,7 @@ fn first_ratings(d: &[usize; 2620], i: usize, j: usize) -> i64
     sum
 }
 
-pub fn overall_reached(d: &[usize; 2620], i: usize, j: usize) -> bool
+fn overall_reached(d: &District, i: usize, j: usize) -> bool
     requires { ⌜ Ranges (now d) × SegmentOf (now d) i × Strategy j ⌝ }
     ensures { λ b. ⌜ b ≡ overallReached (now (d .entry)) i j ⌝ }
 {
@@ -292,7 +293,7 @@ pub fn overall_reached(d: &[usize; 2620], i: usize, j: usize) -> bool
     reaches(first_ratings(d, i, j), required)
 }
 
-pub fn permitted(d: &[usize; 2620], i: usize, j: usize) -> bool
+fn permitted(d: &District, i: usize, j: usize) -> bool
     requires { ⌜ Ranges (now d) × SegmentOf (now d) i × Strategy j ⌝ }
     ensures { λ b. ⌜ b ≡ permitted (now (d .entry)) i j ⌝ }
 {
@@ -308,7 +309,7 @@ pub fn permitted(d: &[usize; 2620], i: usize, j: usize) -> bool
 // ---- candidates
 
 // Whether strategy j on segment i stays within each limit by itself.
-pub fn fits_alone(d: &[usize; 2620], i: usize, j: usize) -> bool
+fn fits_alone(d: &District, i: usize, j: usize) -> bool
     requires { ⌜ Ranges (now d) × Segment i × Strategy j ⌝ }
     ensures { λ b. ⌜ b ≡ fitsAlone (now (d .entry)) i j ⌝ }
 {
@@ -324,7 +325,7 @@ pub fn fits_alone(d: &[usize; 2620], i: usize, j: usize) -> bool
 }
 
 // The benefit of a candidate; 0 for any other strategy. What is cheap to test is tested first.
-fn worth(d: &[usize; 2620], i: usize, j: usize) -> u64
+fn worth(d: &District, i: usize, j: usize) -> u64
     requires { ⌜ Ranges (now d) × SegmentOf (now d) i × Strategy j ⌝ }
     ensures { λ b. ⌜ b ≡ pick (candidate (now (d .entry)) i j) (natAbs (benefit (now (d .entry)) i j)) 0 ⌝ }
 {
@@ -346,7 +347,7 @@ fn worth(d: &[usize; 2620], i: usize, j: usize) -> u64
 
 // ---- the table's entries, 0 for what the district does not have
 
-pub fn has(d: &[usize; 2620], i: usize, j: usize) -> bool
+fn has(d: &District, i: usize, j: usize) -> bool
     requires { ⌜ Segment i ⌝ }
     ensures { λ h. ⌜ h ≡ has (now (d .entry)) i j ⌝ }
 {
@@ -359,7 +360,7 @@ pub fn has(d: &[usize; 2620], i: usize, j: usize) -> bool
     j <= d[1]
 }
 
-pub fn candidate_benefit(d: &[usize; 2620], i: usize, j: usize) -> u64
+pub fn candidate_benefit(d: &District, i: usize, j: usize) -> u64
     requires { ⌜ Ranges (now d) × Segment i ⌝ }
     ensures { λ b. ⌜ b ≡ candidateBenefit (now (d .entry)) i j ⌝ }
 {
@@ -370,7 +371,7 @@ pub fn candidate_benefit(d: &[usize; 2620], i: usize, j: usize) -> u64
 }
 
 // The area that strategy j treats on segment i.
-pub fn area_in(d: &[usize; 2620], i: usize, j: usize) -> u64
+pub fn area_in(d: &District, i: usize, j: usize) -> u64
     requires { ⌜ Ranges (now d) × Segment i ⌝ }
     ensures { λ a. ⌜ a ≡ areaIn (now (d .entry)) i j ⌝ }
 {
@@ -381,7 +382,7 @@ pub fn area_in(d: &[usize; 2620], i: usize, j: usize) -> u64
 }
 
 // The use of resource r, a being that area: segment i is named in the contract alone.
-pub fn usage_in(d: &[usize; 2620], i: usize, j: usize, r: usize, a: u64) -> u64
+pub fn usage_in(d: &District, i: usize, j: usize, r: usize, a: u64) -> u64
     requires { ⌜ Ranges (now d) × Segment i × Resource r × (a ≡ areaIn (now d) i j) ⌝ }
     ensures { λ u. ⌜ u ≡ usageIn (now (d .entry)) i j r ⌝ }
 {
@@ -394,7 +395,7 @@ pub fn usage_in(d: &[usize; 2620], i: usize, j: usize, r: usize, a: u64) -> u64
     a * (requirement_at(d, j, r) as u64)
 }
 
-pub fn limit_in(d: &[usize; 2620], r: usize) -> u64
+pub fn limit_in(d: &District, r: usize) -> u64
     requires { ⌜ Ranges (now d) × Resource r ⌝ }
     ensures { λ l. ⌜ l ≡ limitIn (now (d .entry)) r ⌝ }
 {

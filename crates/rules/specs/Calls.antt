@@ -1,6 +1,5 @@
 -- Document 01, "The calls" and "Where a call is refused": what each call answers, and what unit and buffer then hold.
 use Prim.Native.Nat.{ℕ, _+_, _-_}
-use mathlib.Core.Bool.{Bool, true, false}
 use mathlib.Core.List.{List, [], _++_}
 use lib.Dec.{leb}
 use lib.ListN.{length, drop}

@@ -1,15 +1,14 @@
 -- The three demands, as statements.
 use Prim.Native.Nat.{ℕ, suc, _+_, _-_, _≤_, _<_}
 use mathlib.Core.Path.{_≡_}
-use mathlib.Core.Bool.{Bool, true, false, _&&_, _||_}
+use mathlib.Core.Bool.{Bool, true, _&&_, _||_}
 use mathlib.Core.List.{List, _++_}
 use mathlib.Core.Option.{none}
 use lib.Dec.{leb, eqb}
-use lib.IntN.{ℤ, pos}
+use lib.IntN.{pos}
 use lib.Signed.{_≤ℤ_}
 use lib.ListN.{getD, length, drop}
 use Rattle.base.specs.Over.{all}
-use Rattle.base.specs.Search.{Run}
 use Rattle.rules.specs.District.{District, segmentsOf, strategiesOf}
 use Rattle.rules.specs.File.{encode}
 use Rattle.rules.specs.Rating.{permitted, withinLimits, totalOf}
@@ -18,11 +17,9 @@ use Rattle.rules.specs.Phases.{within, pickUp, change}
 use Rattle.rules.specs.Plan.{reduced, filled, improved, programmeOf}
 use Rattle.rules.specs.Survey.{blockOf, pointsOf, surveyRefusal, surveyOf}
 use Rattle.rules.specs.Calls.{loadRefusal, loadOf, Export, exportOf, showOf}
-use Rattle.rules.specs.Lists.{Call, Load, Bar, Unbar, SetLimit, SetRating, ExportTo, Show, refusalOf, altered, lentTo, Outcome, outcomeOf, districtAfter, unitAfter}
+use Rattle.rules.specs.Lists.{Call, Load, Bar, Unbar, SetLimit, SetRating, ExportTo, Show, refusalOf, altered, lentTo, outcomeOf, districtAfter, unitAfter}
 use Rattle.rules.specs.declared.Programme.{Programme}
 use Rattle.rules.specs.declared.Unit.{Unit}
-use Rattle.rules.specs.declared.Reply.{Reply}
-use Rattle.rules.specs.declared.Answer.{Answer}
 use Rattle.rules.specs.declared.Answer.the-variants.{Accepted, Refused}
 
 -- ---- Demand 1, every answer is settled

@@ -16,6 +16,9 @@ use Rattle.base.specs.Bits.{isSet, setBit, clearBit}
 abbrev pub District : Type 0
 District = List ℕ
 
+abbrev pub districtPlaces : ℕ
+districtPlaces = 2620
+
 -- ---- places: 6 counts, 16 limits, 9 greatest ratings, 11 strategies, 4 pavement types, 64 segments
 
 abbrev pub limitPlace : ℕ → ℕ
@@ -135,4 +138,4 @@ withRating d i k rating = set d (ratingPlace i k) rating
 
 -- ---- what a fresh unit holds: no segment, one of everything else, greatest rating 1, and 0 in every other place
 unfoldable pub freshDistrict : District
-freshDistrict = set (set (set (set (set (set (replicate 2620 0) 1 1) 2 1) 3 1) 4 1) 5 1) (greatestPlace 1) 1
+freshDistrict = set (set (set (set (set (set (replicate districtPlaces 0) 1 1) 2 1) 3 1) 4 1) 5 1) (greatestPlace 1) 1

@@ -1,13 +1,12 @@
 -- Document 01, "The district and its file" and the upper half of "Where a call is refused": what any bytes load as, and a district's file.
-use Prim.Native.Nat.{ℕ, zero, suc, _+_, _-_, _^_, _<_}
-use mathlib.Core.Path.{_≡_}
-use mathlib.Core.Bool.{Bool, true, false, _&&_}
+use Prim.Native.Nat.{ℕ, zero, suc, _+_, _-_}
+use mathlib.Core.Bool.{Bool, true, _&&_}
 use mathlib.Core.List.{List, [], _∷_, _++_}
 use lib.Dec.{ltb, eqb}
 use lib.ListN.{length, getD, take, drop}
 use Rattle.base.specs.Choice.{pick}
 use Rattle.base.specs.Bytes.{bytesOf, numberOf}
-use Rattle.rules.specs.District.{District}
+use Rattle.rules.specs.District.{District, districtPlaces}
 use Rattle.rules.specs.Format.{fieldAt, present, slotOf, inside}
 use Rattle.rules.specs.declared.Slot.{Slot}
 use Rattle.rules.specs.declared.Field.{Field}
@@ -101,4 +100,4 @@ recordsInRange (suc m) d n vs =
 
 -- every number of the district is one that the file may hold
 unfoldable pub inRange : District → Bool
-inRange d = eqb (length d) 2620 && recordsInRange 83 d 0 d
+inRange d = eqb (length d) districtPlaces && recordsInRange 83 d 0 d

@@ -1,8 +1,8 @@
 -- Document 01, "The district and its file": the records in order, and how many bytes and what range each of their numbers has.
 -- A number that the district does not have takes no byte of the file, and its place in the district holds 0.
-use Prim.Native.Nat.{ℕ, _+_, _-_, _*_, _/_, _%_, _^_, min}
-use mathlib.Core.Bool.{Bool, true, false, _&&_, _||_}
-use mathlib.Core.List.{List, [], _∷_}
+use Prim.Native.Nat.{ℕ, _-_, _/_, _%_, _^_, min}
+use mathlib.Core.Bool.{Bool, true, _||_}
+use mathlib.Core.List.{[], _∷_}
 use lib.Dec.{leb, ltb, eqb}
 use lib.ListN.{getD}
 use Rattle.base.specs.Choice.{pick}

@@ -7,7 +7,7 @@ use Rattle.rules.specs.Calls.{barRefusal, limitRefusal, ratingRefusal, l
 use Rattle.rules.specs.declared.Unit.{Unit}
 use Rattle.rules.specs.declared.Reply.{Reply}
 use Rattle.rules.specs.declared.Answer.{Answer}
-use Rattle.rules.specs.declared.Answer.the-variants.{Accepted, Refused}
+use Rattle.rules.specs.declared.Answer.the-variants.{Accepted}
 
 -- what a caller may ask, with all that is handed in
 pub data Call : Type 0 where

@@ -2,8 +2,8 @@
 -- A programme is a list with the strategy of each of 64 segments, 0 for nothing. Share, surplus and pull are document 01's own terms.
 -- What a sum or a test runs over is a function's last number: `chosenUsage c r` over the segments, `pullBy c i` over the resources.
 -- `total` and `within` are Rating's, over a table.
-use Prim.Native.Nat.{ℕ, zero, suc, _+_, _-_, _*_, _/_}
-use mathlib.Core.Bool.{Bool, true, false, not, _&&_, _||_}
+use Prim.Native.Nat.{ℕ, zero, suc, _-_, _*_, _/_}
+use mathlib.Core.Bool.{Bool, not, _&&_, _||_}
 use mathlib.Core.List.{List}
 use mathlib.Core.Option.{Option, none, some}
 use lib.Dec.{leb, ltb, eqb}

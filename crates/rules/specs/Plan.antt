@@ -1,5 +1,4 @@
 -- Document 01, "The three phases" and "The ceiling" together: what a show gives.
-use mathlib.Core.Bool.{Bool, true, false}
 use mathlib.Core.List.{List}
 use lib.ListN.{replicate}
 use Prim.Native.Nat.{ℕ}

@@ -1,6 +1,6 @@
 -- Document 01, "Rating and benefit": of segment i, strategy j, distress k and year t of a district d.
 use Prim.Native.Nat.{ℕ, zero, suc, _-_, _*_}
-use mathlib.Core.Bool.{Bool, true, false, not, _&&_, _||_}
+use mathlib.Core.Bool.{Bool, not, _&&_, _||_}
 use lib.Dec.{leb, eqb}
 use lib.IntN.{ℤ, pos, _+ℤ_, _-ℤ_, _*ℤ_}
 use lib.Signed.{leZ, ltZ, quotZ}

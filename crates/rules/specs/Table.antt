@@ -1,6 +1,6 @@
 -- What the phases and the ceiling read of a district: whole numbers, and benefits of candidates alone.
 use Prim.Native.Nat.{ℕ}
-use mathlib.Core.Bool.{Bool, true, false, _&&_}
+use mathlib.Core.Bool.{Bool, _&&_}
 use lib.IntN.{natAbs}
 use Rattle.base.specs.Choice.{pick}
 use Rattle.base.specs.Over.{between}

@@ -1,14 +1,13 @@
 -- What sound tables and running sums give. Assumes nothing.
 use Prim.Native.Nat.{ℕ, zero, suc, _+_, _-_, _*_, _^_, _≤_, _<_}
-use mathlib.Core.Path.{_≡_, refl, sym, _∙_}
-use mathlib.Core.Bool.{Bool, true, false, _&&_, and-false}
+use mathlib.Core.Path.{_≡_}
+use mathlib.Core.Bool.{_&&_, and-false}
 use mathlib.Core.List.{List}
 use native.Mathlib.Omega.{arith}
-use borrow.Author.Tests.{le-leb, lt-leb, leb-true, leb-false}
 use lib.Dec.{leb, lit<}
 use lib.ListN.{getD, length, length-set}
-use Rattle.base.specs.Choice.{pick}
 use Rattle.base.specs.Over.{sum, all, between}
+use Rattle.base.proofs.Choice.{pick-all, between-yes, leb-same}
 use Rattle.base.proofs.Sums.{sum-bound, sum-part}
 use Rattle.base.proofs.All.{all-cong}
 use Rattle.rules.specs.Phases.{strategyAt, give, chosenBenefit, total, chosenUsage, used, holds, within}
@@ -17,25 +16,22 @@ use Rattle.tables.specs.declared.Size.{Size}
 use Rattle.tables.specs.Arrays.{entry, benefitAt, usageAt, limitAt, tables, Sound, Gains, Uses, Cell, Chosen, Ready}
 use Rattle.tables.specs.Moves.{Room, roomFor, Movable, moved}
 
-pub inside : (a b x : ℕ) → a ≤ x → x ≤ b → between a b x ≡ true
-inside a b x l h = rw (le-leb a x l, le-leb x b h)
-
 -- ---- what an array holds is the table's entry
 
 pub benefit-at : (b : List ℕ) → Gains b → (i j : ℕ) → Cell i j → getD b (entry i j) 0 ≡ benefitAt b i j
 unfolding benefitAt
-benefit-at b g i zero cell = rw (inside 1 64 i (cell .low) (cell .high)) (g .nothing i (cell .low) (cell .high))
-benefit-at b g i (suc j) cell = rw (inside 1 64 i (cell .low) (cell .high), inside 1 11 (suc j) (omega arith) (cell .number))
+benefit-at b g i zero cell = rw (between-yes 1 64 i (cell .low) (cell .high)) (g .nothing i (cell .low) (cell .high))
+benefit-at b g i (suc j) cell = rw (between-yes 1 64 i (cell .low) (cell .high), between-yes 1 11 (suc j) (omega arith) (cell .number))
 
 pub usage-at : (u : List ℕ) → Uses u → (i j r : ℕ) → Cell i j → 1 ≤ r → r ≤ 16 → getD u (16 * entry i j + (r - 1)) 0 ≡ usageAt u i j r
 unfolding usageAt
-usage-at u g i zero r cell l h = rw (inside 1 64 i (cell .low) (cell .high)) (g .nothing i r (cell .low) (cell .high) l h)
+usage-at u g i zero r cell l h = rw (between-yes 1 64 i (cell .low) (cell .high)) (g .nothing i r (cell .low) (cell .high) l h)
 usage-at u g i (suc j) r cell l h =
-    rw (inside 1 64 i (cell .low) (cell .high), inside 1 11 (suc j) (omega arith) (cell .number), inside 1 16 r l h)
+    rw (between-yes 1 64 i (cell .low) (cell .high), between-yes 1 11 (suc j) (omega arith) (cell .number), between-yes 1 16 r l h)
 
 pub limit-at : (l : List ℕ) (r : ℕ) → 1 ≤ r → r ≤ 16 → limitAt l r ≡ getD l (r - 1) 0
 unfolding limitAt
-limit-at l r low high = rw (inside 1 16 r low high)
+limit-at l r low high = rw (between-yes 1 16 r low high)
 
 -- nothing gains nothing and uses nothing
 pub benefit-nothing : (b : List ℕ) (i : ℕ) → benefitAt b i 0 ≡ 0
@@ -48,18 +44,14 @@ usage-nothing u i r = rw (and-false (between 1 64 i))
 
 -- ---- bounds
 
-pick-lt : (t : Bool) (x y m : ℕ) → x < m → y < m → pick t x y < m
-pick-lt true x y m p q = p
-pick-lt false x y m p q = q
-
 pub benefit-lt : (b : List ℕ) → Gains b → (i j : ℕ) → benefitAt b i j < 2 ^ 40
 unfolding benefitAt
-benefit-lt b g i j = pick-lt (between 1 64 i && between 1 11 j) (getD b (entry i j) 0) 0 (2 ^ 40) (g .small (entry i j)) (lit< tt)
+benefit-lt b g i j = pick-all (λ (n : ℕ). n < 2 ^ 40) (between 1 64 i && between 1 11 j) (getD b (entry i j) 0) 0 (g .small (entry i j)) (lit< tt)
 
 pub usage-lt : (u : List ℕ) → Uses u → (i j r : ℕ) → usageAt u i j r < 2 ^ 41
 unfolding usageAt
 usage-lt u g i j r =
-    pick-lt (between 1 64 i && (between 1 11 j && between 1 16 r)) (getD u (16 * entry i j + (r - 1)) 0) 0 (2 ^ 41) (g .small (16 * entry i j + (r - 1))) (lit< tt)
+    pick-all (λ (n : ℕ). n < 2 ^ 41) (between 1 64 i && (between 1 11 j && between 1 16 r)) (getD u (16 * entry i j + (r - 1)) 0) 0 (g .small (16 * entry i j + (r - 1))) (lit< tt)
 
 -- what the first n segments gain
 pub gained-le : (b : List ℕ) → Gains b → (n : ℕ) (c : List ℕ) → sum n (λ i. benefitAt b i (strategyAt c i)) ≤ n * 2 ^ 40
@@ -67,34 +59,21 @@ gained-le b g n c =
     sum-bound n (2 ^ 40) (λ i. benefitAt b i (strategyAt c i)) (λ i low high. let h = benefit-lt b g i (strategyAt c i) in omega arith)
 
 module _ (z : Size) (b u l : List ℕ) (sound : Sound z b u l) where
-  pub gains-of : Gains b
-  gains-of = record { places = sound .benefits-length; small = sound .benefit-small; nothing = sound .nothing-gains }
-
-  pub uses-of : Uses u
-  uses-of = record { places = sound .uses-length; small = sound .use-small; nothing = sound .nothing-uses }
-
   pub cell-of : (i j : ℕ) → 1 ≤ i → i ≤ z .segments → j ≤ z .strategies → Cell i j
   cell-of i j low high number =
       record { low = low; high = omega (arith, sound .segments); number = omega (arith, sound .strategies) }
 
   pub total-le : (c : List ℕ) → total (tables z b u l) c ≤ 2 ^ 46
   unfolding total chosenBenefit
-  total-le c = omega (arith, gained-le b gains-of (z .segments) c, sound .segments)
+  total-le c = omega (arith, gained-le b (sound .gains) (z .segments) c, sound .segments)
 
   pub used-le : (c : List ℕ) (r : ℕ) → used (tables z b u l) c r ≤ 2 ^ 47
   unfolding used chosenUsage
   used-le c r =
-      let each = sum-bound (z .segments) (2 ^ 41) (λ i. usageAt u i (strategyAt c i) r) (λ i low high. let h = usage-lt u uses-of i (strategyAt c i) r in omega arith) in
+      let each = sum-bound (z .segments) (2 ^ 41) (λ i. usageAt u i (strategyAt c i) r) (λ i low high. let h = usage-lt u (sound .uses) i (strategyAt c i) r in omega arith) in
       omega (arith, sound .segments)
 
 -- ---- the limits, by the running sums
-
-leb-same : (a b c d : ℕ) → (a ≤ b → c ≤ d) → (b < a → d < c) → leb a b ≡ leb c d
-leb-same a b c d up down = known (leb a b) refl
-  where
-    known : (v : Bool) → leb a b ≡ v → leb a b ≡ leb c d
-    known true e = e ∙ sym (le-leb c d (up (leb-true a b e)))
-    known false e = e ∙ sym (lt-leb c d (down (leb-false a b e)))
 
 -- a resource's limit holds of programme e where its sum with what comes is no more than the limit with what goes
 pub room-law : (z : Size) (b u l sums e : List ℕ) → Sound z b u l → (more less : ℕ → ℕ)
@@ -118,9 +97,8 @@ module _ (z : Size) (b u l c sums : List ℕ) (ready : Ready z b u l c sums) whe
   room-of =
       record {
         few = ready .sound .resources;
-        uses = uses-of z b u l (ready .sound);
-        limits-length = ready .sound .limits-length;
-        limit-small = ready .sound .limit-small;
+        uses = ready .sound .uses;
+        limits = ready .sound .limits;
         sums-length = ready .sums-length;
         sums-small = sums-le;
       }
@@ -169,7 +147,7 @@ module _ (z : Size) (b u l c sums : List ℕ) (ready : Ready z b u l c sums) whe
     movable-of =
         record {
           few = ready .sound .resources;
-          uses = uses-of z b u l (ready .sound);
+          uses = ready .sound .uses;
           from = from-cell i a low high;
           to = cell-of z b u l (ready .sound) i a low high number;
           sums-length = ready .sums-length;
@@ -196,8 +174,7 @@ room-part n m u l sums room h =
     record {
       few = omega (arith, room .few);
       uses = room .uses;
-      limits-length = room .limits-length;
-      limit-small = room .limit-small;
+      limits = room .limits;
       sums-length = room .sums-length;
       sums-small = λ r lr hr. room .sums-small r lr (omega arith);
     }

@@ -34,21 +34,7 @@ tables z b u l =
       limit = limitAt l;
     }
 
--- the sizes, bounds under which no sum wraps, and nothing's entries
-pub record Sound (z : Size) (b u l : List ℕ) : Type 0 where
-  pub segments : z .segments ≤ 64
-  pub strategies : z .strategies ≤ 11
-  pub resources : z .resources ≤ 16
-  pub benefits-length : length b ≡ 768
-  pub uses-length : length u ≡ 12_288
-  pub limits-length : length l ≡ 16
-  pub benefit-small : (k : ℕ) → getD b k 0 < 2 ^ 40
-  pub use-small : (k : ℕ) → getD u k 0 < 2 ^ 41
-  pub limit-small : (k : ℕ) → getD l k 0 < 2 ^ 47
-  pub nothing-gains : (i : ℕ) → 1 ≤ i → i ≤ 64 → getD b (entry i 0) 0 ≡ 0
-  pub nothing-uses : (i r : ℕ) → 1 ≤ i → i ≤ 64 → 1 ≤ r → r ≤ 16 → getD u (16 * entry i 0 + (r - 1)) 0 ≡ 0
-
--- what is read of benefits alone, and of uses alone
+-- benefits, uses and limits: how many, bounds under which no sum wraps, and nothing's entries
 pub record Gains (b : List ℕ) : Type 0 where
   pub places : length b ≡ 768
   pub small : (k : ℕ) → getD b k 0 < 2 ^ 40
@@ -58,6 +44,19 @@ pub record Uses (u : List ℕ) : Type 0 where
   pub places : length u ≡ 12_288
   pub small : (k : ℕ) → getD u k 0 < 2 ^ 41
   pub nothing : (i r : ℕ) → 1 ≤ i → i ≤ 64 → 1 ≤ r → r ≤ 16 → getD u (16 * entry i 0 + (r - 1)) 0 ≡ 0
+
+pub record Limits (l : List ℕ) : Type 0 where
+  pub places : length l ≡ 16
+  pub small : (k : ℕ) → getD l k 0 < 2 ^ 47
+
+-- arrays that hold a table
+pub record Sound (z : Size) (b u l : List ℕ) : Type 0 where
+  pub segments : z .segments ≤ 64
+  pub strategies : z .strategies ≤ 11
+  pub resources : z .resources ≤ 16
+  pub gains : Gains b
+  pub uses : Uses u
+  pub limits : Limits l
 
 -- the arrays have an entry for strategy j on segment i
 pub record Cell (i j : ℕ) : Type 0 where

@@ -1,11 +1,11 @@
 -- Moves of one segment or two from strategy to strategy, by the running sums.
-use Prim.Native.Nat.{ℕ, _+_, _-_, _≤_, _<_, _^_}
+use Prim.Native.Nat.{ℕ, _+_, _-_, _≤_, _^_}
 use mathlib.Core.Path.{_≡_}
 use mathlib.Core.Bool.{Bool}
 use mathlib.Core.List.{List}
 use lib.Dec.{leb}
 use lib.ListN.{getD, length}
-use Rattle.tables.specs.Arrays.{usageAt, Uses, Cell}
+use Rattle.tables.specs.Arrays.{usageAt, Uses, Limits, Cell}
 
 -- segment i goes from x to a, and segment k from y to b
 pub record Moves (i x a k y b : ℕ) : Type 0 where
@@ -18,8 +18,7 @@ pub record Moves (i x a k y b : ℕ) : Type 0 where
 pub record Room (resources : ℕ) (u l sums : List ℕ) : Type 0 where
   pub few : resources ≤ 16
   pub uses : Uses u
-  pub limits-length : length l ≡ 16
-  pub limit-small : (k : ℕ) → getD l k 0 < 2 ^ 47
+  pub limits : Limits l
   pub sums-length : length sums ≡ 16
   pub sums-small : (r : ℕ) → 1 ≤ r → r ≤ resources → getD sums (r - 1) 0 ≤ 2 ^ 47
 

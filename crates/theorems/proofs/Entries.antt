@@ -7,17 +7,12 @@ use borrow.Author.Tests.{leb-true, le-leb, lt-leb}
 use lib.IntN.{ℤ, pos, negsuc, natAbs}
 use lib.Signed.{ltZ}
 use Rattle.base.specs.Choice.{pick}
-use Rattle.base.specs.Over.{between}
-use Rattle.base.proofs.Choice.{and-both}
+use Rattle.base.proofs.Choice.{and-both, between-yes}
 use Rattle.base.proofs.All.{all-at}
 use Rattle.rules.specs.District.{District, segmentsOf, strategiesOf, resourcesOf}
 use Rattle.rules.specs.Rating.{benefit, usage, scaledLimit, permitted, fitsLimit, fitsAlone, candidate}
 use Rattle.rules.specs.Table.{has, candidateBenefit, usageIn, limitIn, tableOf}
 use Rattle.laws.specs.Tables.{FitAlone}
-
--- x is from a to b
-between-yes : (a b x : ℕ) → a ≤ x → x ≤ b → between a b x ≡ true
-between-yes a b x l h = rw (le-leb a x l, le-leb x b h)
 
 module _ (d : District) where
   pub has-both : (i j : ℕ) → 1 ≤ i → i ≤ segmentsOf d → 1 ≤ j → j ≤ strategiesOf d → has d i j ≡ true

@@ -2,9 +2,9 @@
 use Prim.Native.Nat.{ℕ, _≤_}
 use mathlib.Core.Path.{_≡_, refl}
 use mathlib.Core.Bool.{true}
-use mathlib.Core.List.{List, [], _++_}
+use mathlib.Core.List.{List, []}
 use borrow.Author.Tests.{le-leb}
-use lib.ListN.{length, drop}
+use lib.ListN.{length}
 use Rattle.rules.specs.District.{District}
 use Rattle.rules.specs.File.{found, decode, encode, inRange}
 use Rattle.rules.specs.Answers.{answerOf, accepting}

@@ -11,7 +11,7 @@ use Rattle.base.specs.Over.{between}
 use Rattle.rules.specs.District.{District}
 use Rattle.rules.specs.Answers.{unless, answerOf, accepting}
 use Rattle.rules.specs.Calls.{unitOf, answered, loadOf, barOf, unbarOf, setLimitOf, setRatingOf, exported, exportOf}
-use Rattle.rules.specs.Lists.{Call, Load, Bar, Unbar, SetLimit, SetRating, ExportTo, Show, refusalOf, altered, Outcome, outcomeOf, lentTo, replied, written}
+use Rattle.rules.specs.Lists.{Load, Bar, Unbar, SetLimit, SetRating, ExportTo, Show, refusalOf, altered, Outcome, outcomeOf, lentTo, replied, written}
 use Rattle.rules.specs.Demands.{returned, EveryAnswer, EveryPoints}
 use Rattle.rules.specs.Survey.{blockOf, pointsOf, surveyRefusal, surveyOf}
 use Rattle.rules.specs.declared.Unit.{Unit}

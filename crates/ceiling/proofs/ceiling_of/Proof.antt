@@ -16,12 +16,6 @@ Inv-loop z benefits downs prices₀ costs₀ value₀ k₀ prices costs value k 
 abbrev μ-loop : tie.MeasureT-loop
 μ-loop z benefits downs prices₀ costs₀ value₀ k₀ prices costs value k = 41 - k
 
-slice-aggregate-trial : tie.Need-slice-aggregate-trial Inv-loop μ-loop
-slice-aggregate-trial c = search needs
-
-slice-aggregate-trial-2 : tie.Need-slice-aggregate-trial-2 Inv-loop μ-loop
-slice-aggregate-trial-2 c = search needs
-
 trial-requires : tie.Need-trial-requires Inv-loop μ-loop
 trial-requires c κs =
     let a = c .before .before .before .before in
@@ -37,25 +31,10 @@ slice-aggregate-price-all c =
     let l = c .before .before .loop in
     sym (after-places _ (l .k) (l .inv .1) (omega arith))
 
-slice-aggregate-price-all-2 : tie.Need-slice-aggregate-price-all-2 Inv-loop μ-loop
-slice-aggregate-price-all-2 c = search needs
-
-sub-power : tie.Need-sub-power Inv-loop μ-loop
-sub-power c = search needs
-
-power-requires : tie.Need-power-requires Inv-loop μ-loop
-power-requires c κs = omega arith
-
 price-all-requires : tie.Need-price-all-requires Inv-loop μ-loop
 price-all-requires c κs =
     let l = c .before .before .before .before .loop in
     (c .before .before .before .before .before .before .before .before .before .before .pre, after-room _ (l .k) (l .inv .1) (c .power .ensures) (omega arith), l .inv .2)
-
-add-k : tie.Need-add-k Inv-loop μ-loop
-add-k c = search needs
-
-loop-less : tie.Need-loop-less Inv-loop μ-loop
-loop-less c = search needs
 
 loop-again : tie.Need-loop-again Inv-loop μ-loop
 loop-again c =
@@ -75,16 +54,16 @@ ceiling-of-spec =
     (tie.spec
     Inv-loop
     μ-loop
-    slice-aggregate-trial
-    slice-aggregate-trial-2
+    (λ c. search needs)
+    (λ c. search needs)
     trial-requires
     loop-holds
     slice-aggregate-price-all
-    slice-aggregate-price-all-2
-    sub-power
-    power-requires
+    (λ c. search needs)
+    (λ c. search needs)
+    (λ c κs. omega arith)
     price-all-requires
-    add-k
-    loop-less
+    (λ c. search needs)
+    (λ c. search needs)
     loop-again
     returns)

@@ -20,56 +20,8 @@ Inv-loop z benefits downs prices costs r price i old best₀ j₀ best j = (j �
 abbrev μ-loop : tie.MeasureT-loop
 μ-loop z benefits downs prices costs r price i old best₀ j₀ best j = z .strategies - j
 
-sub-old : tie.Need-sub-old Inv-loop μ-loop
-sub-old c = search needs
-
-mul-old : tie.Need-mul-old Inv-loop μ-loop
-mul-old c = search needs
-
-shared-slice-read-old : tie.Need-shared-slice-read-old Inv-loop μ-loop
-shared-slice-read-old c = search needs
-
 loop-holds : tie.Need-loop-holds Inv-loop μ-loop
 loop-holds c = (search needs, most-none _)
-
-sub-at : tie.Need-sub-at Inv-loop μ-loop
-sub-at c = search needs
-
-mul-at : tie.Need-mul-at Inv-loop μ-loop
-mul-at c = search needs
-
-add-at : tie.Need-add-at Inv-loop μ-loop
-add-at c = search needs
-
-add-at-2 : tie.Need-add-at-2 Inv-loop μ-loop
-add-at-2 c = search needs
-
-mul-benefit : tie.Need-mul-benefit Inv-loop μ-loop
-mul-benefit c = search needs
-
-shared-slice-read-benefit : tie.Need-shared-slice-read-benefit Inv-loop μ-loop
-shared-slice-read-benefit c = search needs
-
-mul-moved : tie.Need-mul-moved Inv-loop μ-loop
-mul-moved c = search needs
-
-shared-slice-read-moved : tie.Need-shared-slice-read-moved Inv-loop μ-loop
-shared-slice-read-moved c = search needs
-
-mul-moved-2 : tie.Need-mul-moved-2 Inv-loop μ-loop
-mul-moved-2 c = search needs
-
-sub-moved : tie.Need-sub-moved Inv-loop μ-loop
-sub-moved c = search needs
-
-add-moved : tie.Need-add-moved Inv-loop μ-loop
-add-moved c = search needs
-
-mul-moved-3 : tie.Need-mul-moved-3 Inv-loop μ-loop
-mul-moved-3 c = search needs
-
-shared-slice-read-moved-2 : tie.Need-shared-slice-read-moved-2 Inv-loop μ-loop
-shared-slice-read-moved-2 c = search needs
 
 moved-requires : tie.Need-moved-requires Inv-loop μ-loop
 moved-requires c κs =
@@ -79,18 +31,6 @@ moved-requires c κs =
     let worth : 0 < getD (a .args .benefits .now) (entry (a .args .i) (j + 1)) 0 = omega arith in
     let held = costs-held _ _ _ _ _ _ 0 (a .pre .1) (a .args .i) (j + 1) inside worth (omega arith) in
     move-fits _ _ _ _ _ _ (a .pre .0) (a .args .i) (j + 1) inside worth held
-
-above-requires : tie.Need-above-requires Inv-loop μ-loop
-above-requires c κs = search needs
-
-larger-requires : tie.Need-larger-requires Inv-loop μ-loop
-larger-requires c κs = search needs
-
-add-j : tie.Need-add-j Inv-loop μ-loop
-add-j c = search needs
-
-loop-less : tie.Need-loop-less Inv-loop μ-loop
-loop-less c = search needs
 
 loop-again : tie.Need-loop-again Inv-loop μ-loop
 loop-again c =
@@ -119,27 +59,27 @@ margin-at-spec =
     (tie.spec
     Inv-loop
     μ-loop
-    sub-old
-    mul-old
-    shared-slice-read-old
+    (λ c. search needs)
+    (λ c. search needs)
+    (λ c. search needs)
     loop-holds
-    sub-at
-    mul-at
-    add-at
-    add-at-2
-    mul-benefit
-    shared-slice-read-benefit
-    mul-moved
-    shared-slice-read-moved
-    mul-moved-2
-    sub-moved
-    add-moved
-    mul-moved-3
-    shared-slice-read-moved-2
+    (λ c. search needs)
+    (λ c. search needs)
+    (λ c. search needs)
+    (λ c. search needs)
+    (λ c. search needs)
+    (λ c. search needs)
+    (λ c. search needs)
+    (λ c. search needs)
+    (λ c. search needs)
+    (λ c. search needs)
+    (λ c. search needs)
+    (λ c. search needs)
+    (λ c. search needs)
     moved-requires
-    above-requires
-    larger-requires
-    add-j
-    loop-less
+    (λ c κs. search needs)
+    (λ c κs. search needs)
+    (λ c. search needs)
+    (λ c. search needs)
     loop-again
     returns)

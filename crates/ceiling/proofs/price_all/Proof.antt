@@ -18,20 +18,11 @@ abbrev μ-loop : tie.MeasureT-loop
 loop-holds : tie.Need-loop-holds Inv-loop μ-loop
 loop-holds c = (omega arith, all-none _ _ _, c .before .before .before .before .pre .2)
 
-add-price-one : tie.Need-add-price-one Inv-loop μ-loop
-add-price-one c = search needs
-
 price-one-requires : tie.Need-price-one-requires Inv-loop μ-loop
 price-one-requires c κs =
     let a = c .before .before .before .before .before .before .before .before .before in
     let l = c .before .before .before .before .loop in
     (ready-trial _ _ _ _ _ (l .r) (a .pre .0) (room-at _ _ _ (l .r) (a .pre .1) (l .inv .1)) (omega arith), l .inv .2)
-
-add-r : tie.Need-add-r Inv-loop μ-loop
-add-r c = search needs
-
-loop-less : tie.Need-loop-less Inv-loop μ-loop
-loop-less c = search needs
 
 loop-again : tie.Need-loop-again Inv-loop μ-loop
 loop-again c =
@@ -59,10 +50,10 @@ price-all-spec =
     Inv-loop
     μ-loop
     loop-holds
-    add-price-one
+    (λ c. search needs)
     price-one-requires
-    add-r
-    loop-less
+    (λ c. search needs)
+    (λ c. search needs)
     loop-again
     same-length
     same-length-2

@@ -11,21 +11,6 @@ use Rattle.ceiling.proofs.Costs.{ceiling-small}
 use Rattle.ceiling.proofs.price_one.Statement.{statement}
 use Rattle.ceiling.proofs.price_one.Tie as tie
 
-sub-old : tie.Need-sub-old
-sub-old c = search needs
-
-mul-old : tie.Need-mul-old
-mul-old c = search needs
-
-slice-read-old : tie.Need-slice-read-old
-slice-read-old c = search needs
-
-add-raised : tie.Need-add-raised
-add-raised c = search needs
-
-above-requires : tie.Need-above-requires
-above-requires c κs = search needs
-
 trial-requires : tie.Need-trial-requires
 trial-requires c κs =
     let a = c .before .before .before .before .before .before .before .before in
@@ -36,12 +21,6 @@ reprice-requires c κs =
     let a = c .before .before .before .before .before .before .before .before .before .before .before .before in
     (a .pre .0, a .pre .1 .costs)
 
-same-length : tie.Need-same-length
-same-length c = search needs
-
-same-length-2 : tie.Need-same-length-2
-same-length-2 c = search needs
-
 returns : tie.Need-returns
 returns c =
     let a = c .before .before .before .before .before .before .before .before .before .before .before .before .before .before .before .before .before in
@@ -51,12 +30,6 @@ returns c =
     let new = c .before .before .before .before .reprice .ensures in
     let low = min-lower (c .before .before .before .before .before .before .before .before .trial .ensures) (c .before .before .before .before .before .before .before .if1 .taken) in
     (new .0 ∙ priced-up t (a .args .step) p (a .args .r) (omega (arith, low .1, present)), record { costs = new .1; value = low .0 ∙ sym (ap (ceilingAt t) (new .0)) })
-
-same-length-3 : tie.Need-same-length-3
-same-length-3 c = search needs
-
-same-length-4 : tie.Need-same-length-4
-same-length-4 c = search needs
 
 returns-2 : tie.Need-returns-2
 returns-2 c =
@@ -77,12 +50,6 @@ reprice-requires-2 c κs =
     let a = c .before .before .before .before .before .before .before .before .before .before .before .before .before .before .before .before .before in
     (trial-lower _ _ _ _ (a .pre .0) (omega arith), a .pre .1 .costs)
 
-same-length-5 : tie.Need-same-length-5
-same-length-5 c = search needs
-
-same-length-6 : tie.Need-same-length-6
-same-length-6 c = search needs
-
 returns-3 : tie.Need-returns-3
 returns-3 c =
     let a = c .before .before .before .before .before .before .before .before .before .before .before .before .before .before .before .before .before .before .before .before .before .before in
@@ -95,12 +62,6 @@ returns-3 c =
     let high = min-higher (c .before .before .before .before .before .before .before .before .before .before .before .before .before .trial .ensures) (c .before .before .before .before .before .before .before .before .before .before .before .before .if1 .left) in
     let low = min-lower (c .before .before .before .before .before .before .before .before .trial2 .ensures) (c .before .before .before .before .before .before .before .if3 .taken) in
     (new .0 ∙ down ∙ priced-down t (a .args .step) p (a .args .r) (omega (arith, present)) (c .before .before .before .before .before .before .before .before .before .before .before .if2 .left) (omega (arith, low .1, present)), record { costs = new .1; value = low .0 ∙ sym (ap (ceilingAt t) (new .0)) })
-
-same-length-7 : tie.Need-same-length-7
-same-length-7 c = search needs
-
-same-length-8 : tie.Need-same-length-8
-same-length-8 c = search needs
 
 returns-4 : tie.Need-returns-4
 returns-4 c =
@@ -118,24 +79,24 @@ pub price-one-spec : {M : Type 1} → statement M
 price-one-spec =
     tie.close
     (tie.spec
-    sub-old
-    mul-old
-    slice-read-old
-    add-raised
-    above-requires
+    (λ c. search needs)
+    (λ c. search needs)
+    (λ c. search needs)
+    (λ c. search needs)
+    (λ c κs. search needs)
     trial-requires
     reprice-requires
-    same-length
-    same-length-2
+    (λ c. search needs)
+    (λ c. search needs)
     returns
-    same-length-3
-    same-length-4
+    (λ c. search needs)
+    (λ c. search needs)
     returns-2
     trial-requires-2
     reprice-requires-2
-    same-length-5
-    same-length-6
+    (λ c. search needs)
+    (λ c. search needs)
     returns-3
-    same-length-7
-    same-length-8
+    (λ c. search needs)
+    (λ c. search needs)
     returns-4)

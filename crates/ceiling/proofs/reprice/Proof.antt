@@ -18,29 +18,11 @@ abbrev μ-loop : tie.MeasureT-loop
 loop-holds : tie.Need-loop-holds Inv-loop μ-loop
 loop-holds c = (omega arith, costs-start _ _ _ _ _ _ (c .before .before .before .before .pre .1))
 
-add-reprice-segment : tie.Need-add-reprice-segment Inv-loop μ-loop
-add-reprice-segment c = search needs
-
 reprice-segment-requires : tie.Need-reprice-segment-requires Inv-loop μ-loop
 reprice-segment-requires c κs = (c .before .before .before .before .before .before .before .before .before .pre .0, costs-past _ _ _ _ _ _ (c .before .before .before .before .loop .inv .1) (λ k n inside lt. omega arith) (λ k n inside lt. omega arith), omega arith, omega arith)
 
-add-i : tie.Need-add-i Inv-loop μ-loop
-add-i c = search needs
-
-loop-less : tie.Need-loop-less Inv-loop μ-loop
-loop-less c = search needs
-
 loop-again : tie.Need-loop-again Inv-loop μ-loop
 loop-again c = (omega arith, c .before .before .reprice-segment .ensures)
-
-sub-prices : tie.Need-sub-prices Inv-loop μ-loop
-sub-prices c = search needs
-
-mul-prices : tie.Need-mul-prices Inv-loop μ-loop
-mul-prices c = search needs
-
-slice-write-prices : tie.Need-slice-write-prices Inv-loop μ-loop
-slice-write-prices c = search needs
 
 same-length : tie.Need-same-length Inv-loop μ-loop
 same-length c = simp length-set
@@ -60,14 +42,14 @@ reprice-spec =
     Inv-loop
     μ-loop
     loop-holds
-    add-reprice-segment
+    (λ c. search needs)
     reprice-segment-requires
-    add-i
-    loop-less
+    (λ c. search needs)
+    (λ c. search needs)
     loop-again
-    sub-prices
-    mul-prices
-    slice-write-prices
+    (λ c. search needs)
+    (λ c. search needs)
+    (λ c. search needs)
     same-length
     same-length-2
     returns)

@@ -19,15 +19,6 @@ abbrev μ-loop : tie.MeasureT-loop
 whole-requires : tie.Need-whole-requires Inv-loop μ-loop
 whole-requires c κs = (omega arith, c .before .before .before .before .pre .0 .prices)
 
-sub-moved : tie.Need-sub-moved Inv-loop μ-loop
-sub-moved c = search needs
-
-mul-moved : tie.Need-mul-moved Inv-loop μ-loop
-mul-moved c = search needs
-
-shared-slice-read-moved : tie.Need-shared-slice-read-moved Inv-loop μ-loop
-shared-slice-read-moved c = search needs
-
 moved-requires : tie.Need-moved-requires Inv-loop μ-loop
 moved-requires c κs = whole-fits _ _ _ _ _ _ (c .before .before .before .before .before .before .pre .0) (c .before .whole .ensures)
 
@@ -39,9 +30,6 @@ returns c =
     let l = c .before .before .before .loop in
     summed-early _ _ _ _ _ _ (c .before .before .before .before .before .before .before .before .before .before .before .pre .0) (l .i) (l .inv .1) (l .inv .0) (c .if2 .taken)
 
-add-margin-at : tie.Need-add-margin-at Inv-loop μ-loop
-add-margin-at c = search needs
-
 margin-at-requires : tie.Need-margin-at-requires Inv-loop μ-loop
 margin-at-requires c κs =
     let a = c .before .before .before .before .before .before .before .before .before .before .before in
@@ -51,12 +39,6 @@ add-total : tie.Need-add-total Inv-loop μ-loop
 add-total c =
     let a = c .before .before .before .before .before .before .before .before .before .before .before .before in
     omega (arith, c .margin-at .ensures, margin-small _ _ _ (a .pre .0 .sized) (set (a .args .prices .now) (a .args .r - 1) (a .args .price)) (c .before .before .before .before .loop .i + 1))
-
-add-i : tie.Need-add-i Inv-loop μ-loop
-add-i c = search needs
-
-loop-less : tie.Need-loop-less Inv-loop μ-loop
-loop-less c = search needs
 
 loop-again : tie.Need-loop-again Inv-loop μ-loop
 loop-again c =
@@ -80,17 +62,17 @@ trial-spec =
     Inv-loop
     μ-loop
     whole-requires
-    sub-moved
-    mul-moved
-    shared-slice-read-moved
+    (λ c. search needs)
+    (λ c. search needs)
+    (λ c. search needs)
     moved-requires
     loop-holds
     returns
-    add-margin-at
+    (λ c. search needs)
     margin-at-requires
     add-total
-    add-i
-    loop-less
+    (λ c. search needs)
+    (λ c. search needs)
     loop-again
     returns-2
     returns-3)

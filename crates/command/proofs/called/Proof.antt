@@ -10,12 +10,6 @@ use borrow.Author.Needs.{needs}
 use Rattle.command.proofs.called.Statement.{statement}
 use Rattle.command.proofs.called.Tie as tie
 
-slice-aggregate-begins : tie.Need-slice-aggregate-begins
-slice-aggregate-begins c = search needs
-
-begins-requires : tie.Need-begins-requires
-begins-requires c κs = search needs
-
 -- the test for "show"
 no-show : (c : tie.Else1) → begins (text "show") (c .before .before .before .before .args .line .now) ≡ false
 unfolding text
@@ -29,18 +23,9 @@ read-arguments-requires : tie.Need-read-arguments-requires
 unfolding text
 read-arguments-requires c κs = (begins-fits (text "show") _ (is-show c), omega arith)
 
-make-requires : tie.Need-make-requires
-make-requires c κs = search needs
-
 returns : tie.Need-returns
 unfolding called
 returns c = rw (is-show (c .before .before)) (c .make .ensures ∙ sym (made-few Show (c .before .read-arguments .result)) ∙ ap (made Show) (c .before .read-arguments .ensures))
-
-slice-aggregate-begins-2 : tie.Need-slice-aggregate-begins-2
-slice-aggregate-begins-2 c = search needs
-
-begins-requires-2 : tie.Need-begins-requires-2
-begins-requires-2 c κs = search needs
 
 -- the test for "bar"
 no-bar : (c : tie.Else2) → begins (text "bar") (c .before .before .before .before .before .before .before .args .line .now) ≡ false
@@ -55,18 +40,9 @@ read-arguments-requires-2 : tie.Need-read-arguments-requires-2
 unfolding text
 read-arguments-requires-2 c κs = (begins-fits (text "bar") _ (is-bar c), omega arith)
 
-make-requires-2 : tie.Need-make-requires-2
-make-requires-2 c κs = search needs
-
 returns-2 : tie.Need-returns-2
 unfolding called
 returns-2 c = rw (no-show (c .before .before .before .before .before), is-bar (c .before .before)) (c .make2 .ensures ∙ sym (made-few Bar (c .before .read-arguments2 .result)) ∙ ap (made Bar) (c .before .read-arguments2 .ensures))
-
-slice-aggregate-begins-3 : tie.Need-slice-aggregate-begins-3
-slice-aggregate-begins-3 c = search needs
-
-begins-requires-3 : tie.Need-begins-requires-3
-begins-requires-3 c κs = search needs
 
 -- the test for "unbar"
 no-unbar : (c : tie.Else3) → begins (text "unbar") (c .before .before .before .before .before .before .before .before .before .before .args .line .now) ≡ false
@@ -81,18 +57,9 @@ read-arguments-requires-3 : tie.Need-read-arguments-requires-3
 unfolding text
 read-arguments-requires-3 c κs = (begins-fits (text "unbar") _ (is-unbar c), omega arith)
 
-make-requires-3 : tie.Need-make-requires-3
-make-requires-3 c κs = search needs
-
 returns-3 : tie.Need-returns-3
 unfolding called
 returns-3 c = rw (no-show (c .before .before .before .before .before .before .before .before), no-bar (c .before .before .before .before .before), is-unbar (c .before .before)) (c .make3 .ensures ∙ sym (made-few Unbar (c .before .read-arguments3 .result)) ∙ ap (made Unbar) (c .before .read-arguments3 .ensures))
-
-slice-aggregate-begins-4 : tie.Need-slice-aggregate-begins-4
-slice-aggregate-begins-4 c = search needs
-
-begins-requires-4 : tie.Need-begins-requires-4
-begins-requires-4 c κs = search needs
 
 -- the test for "limit"
 no-limit : (c : tie.Else4) → begins (text "limit") (c .before .before .before .before .before .before .before .before .before .before .before .before .before .args .line .now) ≡ false
@@ -107,18 +74,9 @@ read-arguments-requires-4 : tie.Need-read-arguments-requires-4
 unfolding text
 read-arguments-requires-4 c κs = (begins-fits (text "limit") _ (is-limit c), omega arith)
 
-make-requires-4 : tie.Need-make-requires-4
-make-requires-4 c κs = search needs
-
 returns-4 : tie.Need-returns-4
 unfolding called
 returns-4 c = rw (no-show (c .before .before .before .before .before .before .before .before .before .before .before), no-bar (c .before .before .before .before .before .before .before .before), no-unbar (c .before .before .before .before .before), is-limit (c .before .before)) (c .make4 .ensures ∙ sym (made-few Limit (c .before .read-arguments4 .result)) ∙ ap (made Limit) (c .before .read-arguments4 .ensures))
-
-slice-aggregate-begins-5 : tie.Need-slice-aggregate-begins-5
-slice-aggregate-begins-5 c = search needs
-
-begins-requires-5 : tie.Need-begins-requires-5
-begins-requires-5 c κs = search needs
 
 -- the test for "rating"
 no-rating : (c : tie.Else5) → begins (text "rating") (c .before .before .before .before .before .before .before .before .before .before .before .before .before .before .before .before .args .line .now) ≡ false
@@ -133,18 +91,9 @@ read-arguments-requires-5 : tie.Need-read-arguments-requires-5
 unfolding text
 read-arguments-requires-5 c κs = (begins-fits (text "rating") _ (is-rating c), omega arith)
 
-make-requires-5 : tie.Need-make-requires-5
-make-requires-5 c κs = search needs
-
 returns-5 : tie.Need-returns-5
 unfolding called
 returns-5 c = rw (no-show (c .before .before .before .before .before .before .before .before .before .before .before .before .before .before), no-bar (c .before .before .before .before .before .before .before .before .before .before .before), no-unbar (c .before .before .before .before .before .before .before .before), no-limit (c .before .before .before .before .before), is-rating (c .before .before)) (c .make5 .ensures ∙ sym (made-few Rating (c .before .read-arguments5 .result)) ∙ ap (made Rating) (c .before .read-arguments5 .ensures))
-
-slice-aggregate-begins-6 : tie.Need-slice-aggregate-begins-6
-slice-aggregate-begins-6 c = search needs
-
-begins-requires-6 : tie.Need-begins-requires-6
-begins-requires-6 c κs = search needs
 
 -- the test for "points"
 no-points : (c : tie.Else6) → begins (text "points") (c .before .before .before .before .before .before .before .before .before .before .before .before .before .before .before .before .before .before .before .args .line .now) ≡ false
@@ -159,9 +108,6 @@ read-arguments-requires-6 : tie.Need-read-arguments-requires-6
 unfolding text
 read-arguments-requires-6 c κs = (begins-fits (text "points") _ (is-points c), omega arith)
 
-make-requires-6 : tie.Need-make-requires-6
-make-requires-6 c κs = search needs
-
 returns-6 : tie.Need-returns-6
 unfolding called
 returns-6 c = rw (no-show (c .before .before .before .before .before .before .before .before .before .before .before .before .before .before .before .before .before), no-bar (c .before .before .before .before .before .before .before .before .before .before .before .before .before .before), no-unbar (c .before .before .before .before .before .before .before .before .before .before .before), no-limit (c .before .before .before .before .before .before .before .before), no-rating (c .before .before .before .before .before), is-points (c .before .before)) (c .make6 .ensures ∙ sym (made-few Points (c .before .read-arguments6 .result)) ∙ ap (made Points) (c .before .read-arguments6 .ensures))
@@ -174,34 +120,34 @@ pub called-spec : {M : Type 1} → statement M
 called-spec =
     tie.close
     (tie.spec
-    slice-aggregate-begins
-    begins-requires
+    (λ c. search needs)
+    (λ c κs. search needs)
     read-arguments-requires
-    make-requires
+    (λ c κs. search needs)
     returns
-    slice-aggregate-begins-2
-    begins-requires-2
+    (λ c. search needs)
+    (λ c κs. search needs)
     read-arguments-requires-2
-    make-requires-2
+    (λ c κs. search needs)
     returns-2
-    slice-aggregate-begins-3
-    begins-requires-3
+    (λ c. search needs)
+    (λ c κs. search needs)
     read-arguments-requires-3
-    make-requires-3
+    (λ c κs. search needs)
     returns-3
-    slice-aggregate-begins-4
-    begins-requires-4
+    (λ c. search needs)
+    (λ c κs. search needs)
     read-arguments-requires-4
-    make-requires-4
+    (λ c κs. search needs)
     returns-4
-    slice-aggregate-begins-5
-    begins-requires-5
+    (λ c. search needs)
+    (λ c κs. search needs)
     read-arguments-requires-5
-    make-requires-5
+    (λ c κs. search needs)
     returns-5
-    slice-aggregate-begins-6
-    begins-requires-6
+    (λ c. search needs)
+    (λ c κs. search needs)
     read-arguments-requires-6
-    make-requires-6
+    (λ c κs. search needs)
     returns-6
     returns-7)

@@ -19,23 +19,11 @@ abbrev μ-loop : tie.MeasureT-loop
 loop-holds : tie.Need-loop-holds Inv-loop μ-loop
 loop-holds c = (omega arith, refl)
 
-shared-slice-read-is-of : tie.Need-shared-slice-read-is-of Inv-loop μ-loop
-shared-slice-read-is-of c = search needs
-
-is-of-requires : tie.Need-is-of-requires Inv-loop μ-loop
-is-of-requires c κs = search needs
-
 returns : tie.Need-returns Inv-loop μ-loop
 returns c =
     let a = c .before .before .before .before .before .before .args in
     let l = c .before .before .before .before .loop in
     sym (l .inv .1 ∙ every-next (a .kind) (a .bytes .now) (l .i) (omega arith) ∙ rw (sym (c .before .is-of .ensures) ∙ not-true _ (c .if1 .taken)))
-
-add-i : tie.Need-add-i Inv-loop μ-loop
-add-i c = search needs
-
-loop-less : tie.Need-loop-less Inv-loop μ-loop
-loop-less c = search needs
 
 loop-again : tie.Need-loop-again Inv-loop μ-loop
 loop-again c =
@@ -57,10 +45,10 @@ every-spec =
     Inv-loop
     μ-loop
     loop-holds
-    shared-slice-read-is-of
-    is-of-requires
+    (λ c. search needs)
+    (λ c κs. search needs)
     returns
-    add-i
-    loop-less
+    (λ c. search needs)
+    (λ c. search needs)
     loop-again
     returns-2)

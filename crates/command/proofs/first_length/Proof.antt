@@ -1,11 +1,11 @@
 -- `command::first_length` meets its contract. Assumes nothing.
 use Prim.Native.Nat.{ℕ, _+_, _-_, _≤_}
-use mathlib.Core.Path.{_≡_, refl, sym, ap, _∙_}
+use mathlib.Core.Path.{_≡_, sym, ap, _∙_}
 use mathlib.Core.List.{List}
 use native.Mathlib.Omega.{arith}
 use lib.ListN.{length, drop, length-drop}
 use lib.Seq.{drop-drop}
-use Rattle.base.proofs.Lists.{whole-tail}
+use Rattle.base.proofs.Buffers.{whole-tail}
 use Rattle.command.specs.Reading.{wordOf}
 use Rattle.command.proofs.Laws.{after-none, after-some, word-dropped, word-fits}
 use borrow.Author.Needs.{needs}
@@ -14,18 +14,6 @@ use Rattle.command.proofs.first_length.Tie as tie
 
 returns : tie.Need-returns
 returns c = (omega arith, after-none _ (c .if1 .taken))
-
-sub-word-length : tie.Need-sub-word-length
-sub-word-length c = search needs
-
-part-word-length-start : tie.Need-part-word-length-start
-part-word-length-start c = search needs
-
-part-word-length-end : tie.Need-part-word-length-end
-part-word-length-end c = search needs
-
-word-length-requires : tie.Need-word-length-requires
-word-length-requires c κs = search needs
 
 -- the word after the first byte
 size : (c : tie.After-word-length) → c .word-length .result ≡ length (wordOf (drop 1 (c .before .before .before .before .args .bytes .now)))
@@ -50,9 +38,9 @@ first-length-spec =
     tie.close
     (tie.spec
     returns
-    sub-word-length
-    part-word-length-start
-    part-word-length-end
-    word-length-requires
+    (λ c. search needs)
+    (λ c. search needs)
+    (λ c. search needs)
+    (λ c κs. search needs)
     add-result
     returns-2)

@@ -1,10 +1,9 @@
 -- `command::first_number` meets its contract. Assumes nothing.
 use Prim.Native.Nat.{ℕ, _-_}
-use mathlib.Core.List.{List}
-use mathlib.Core.Path.{_≡_, refl, sym, ap, _∙_}
+use mathlib.Core.Path.{_≡_, sym, ap, _∙_}
 use native.Mathlib.Omega.{arith}
 use lib.ListN.{length, take, drop}
-use Rattle.base.proofs.Lists.{whole-tail}
+use Rattle.base.proofs.Buffers.{whole-tail}
 use Rattle.command.specs.Reading.{wordOf, numberIn, numberOf}
 use Rattle.command.proofs.Laws.{first-none, first-other, first-blank, word-taken}
 use borrow.Author.Needs.{needs}
@@ -15,24 +14,9 @@ returns : tie.Need-returns
 unfolding numberOf
 returns c = sym (first-none _ (c .if1 .taken))
 
-shared-slice-read-if2 : tie.Need-shared-slice-read-if2
-shared-slice-read-if2 c = search needs
-
 returns-2 : tie.Need-returns-2
 unfolding numberOf
 returns-2 c = sym (first-other _ (omega arith) (c .if2 .taken))
-
-sub-rest : tie.Need-sub-rest
-sub-rest c = search needs
-
-part-rest-start : tie.Need-part-rest-start
-part-rest-start c = search needs
-
-part-rest-end : tie.Need-part-rest-end
-part-rest-end c = search needs
-
-word-length-requires : tie.Need-word-length-requires
-word-length-requires c κs = search needs
 
 -- the word that was found, in what follows the blank
 word : (c : tie.After-word-length) → let bs = c .before .before .before .before .before .before .args .bytes .now in take (c .word-length .result) (take (length bs - 1) (drop 1 bs)) ≡ wordOf (take (length bs - 1) (drop 1 bs))
@@ -43,9 +27,6 @@ word c =
 
 slice-aggregate-read-number : tie.Need-slice-aggregate-read-number
 slice-aggregate-read-number c = c .before .word-length .ensures ∙ sym (ap length (word (c .before)))
-
-read-number-requires : tie.Need-read-number-requires
-read-number-requires c κs = search needs
 
 returns-3 : tie.Need-returns-3
 returns-3 c =
@@ -58,12 +39,12 @@ first-number-spec =
     tie.close
     (tie.spec
     returns
-    shared-slice-read-if2
+    (λ c. search needs)
     returns-2
-    sub-rest
-    part-rest-start
-    part-rest-end
-    word-length-requires
+    (λ c. search needs)
+    (λ c. search needs)
+    (λ c. search needs)
+    (λ c κs. search needs)
     slice-aggregate-read-number
-    read-number-requires
+    (λ c κs. search needs)
     returns-3)

@@ -1,5 +1,4 @@
 -- `command::is_path` meets its contract. Assumes nothing.
-use native.Mathlib.Omega.{arith}
 use lib.ListN.{length}
 use borrow.Author.Tests.{le-leb, lt-leb}
 use Rattle.command.specs.Reading.{isPath}
@@ -17,9 +16,6 @@ returns-2 c =
     let n = length (c .before .before .before .args .path .now) in
     rw (le-leb 1 n (c .before .if1 .left), lt-leb n 255 (c .if2 .taken))
 
-every-requires : tie.Need-every-requires
-every-requires c κs = search needs
-
 returns-3 : tie.Need-returns-3
 unfolding isPath
 returns-3 c =
@@ -27,4 +23,4 @@ returns-3 c =
     rw (le-leb 1 n (c .before .before .if1 .left), le-leb n 255 (c .before .if2 .left)) (c .every .ensures)
 
 pub is-path-spec : {M : Type 1} → statement M
-is-path-spec = tie.close (tie.spec returns returns-2 every-requires returns-3)
+is-path-spec = tie.close (tie.spec returns returns-2 (λ c κs. search needs) returns-3)

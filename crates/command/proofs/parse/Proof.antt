@@ -1,5 +1,5 @@
 -- `command::parse` meets its contract. Assumes nothing.
-use Prim.Native.Nat.{ℕ, _≤_}
+use Prim.Native.Nat.{ℕ}
 use mathlib.Core.Bool.{true, false}
 use mathlib.Core.List.{List}
 use mathlib.Core.Path.{_≡_, sym, ap, _∙_}
@@ -7,7 +7,7 @@ use native.Mathlib.Omega.{arith}
 use lib.Dec.{ltb}
 use lib.ListN.{length}
 use borrow.Author.Tests.{lt-ltb, le-ltb}
-use Rattle.base.proofs.Lists.{whole-tail}
+use Rattle.base.proofs.Buffers.{whole-tail}
 use Rattle.base.specs.Choice.{pick}
 use Rattle.base.specs.Text.{text}
 use Rattle.command.specs.Reading.{begins, every, isPath, commandIn}
@@ -52,12 +52,6 @@ is-blank c = sym (c .before .every .ensures) ∙ c .if3 .taken
 short : (c : tie.Else2) → ltb 512 (length (c .before .before .before .before .before .args .line .now)) ≡ false
 short c = le-ltb 512 (length (c .before .before .before .before .before .args .line .now)) (c .if2 .left)
 
-slice-aggregate-begins : tie.Need-slice-aggregate-begins
-slice-aggregate-begins c = search needs
-
-begins-requires : tie.Need-begins-requires
-begins-requires c κs = search needs
-
 returns : tie.Need-returns
 unfolding commandIn
 returns c = rw (is-comment c)
@@ -66,18 +60,9 @@ returns-2 : tie.Need-returns-2
 unfolding commandIn
 returns-2 c = rw (no-comment (c .before), lt-ltb 512 (length (c .before .before .before .before .before .args .line .now)) (c .if2 .taken))
 
-every-requires : tie.Need-every-requires
-every-requires c κs = search needs
-
 returns-3 : tie.Need-returns-3
 unfolding commandIn
 returns-3 c = rw (no-comment (c .before .before .before), short (c .before .before), is-blank c)
-
-slice-aggregate-begins-2 : tie.Need-slice-aggregate-begins-2
-slice-aggregate-begins-2 c = search needs
-
-begins-requires-2 : tie.Need-begins-requires-2
-begins-requires-2 c κs = search needs
 
 sub-with-path : tie.Need-sub-with-path
 unfolding text
@@ -87,21 +72,9 @@ part-with-path-start : tie.Need-part-with-path-start
 unfolding text
 part-with-path-start c = omega (arith, begins-fits (text "load ") (c .before .before .before .before .before .before .before .before .before .before .args .line .now) (is-load c))
 
-part-with-path-end : tie.Need-part-with-path-end
-part-with-path-end c = search needs
-
-with-path-requires : tie.Need-with-path-requires
-with-path-requires c κs = search needs
-
 returns-4 : tie.Need-returns-4
 unfolding commandIn
 returns-4 c = rw (no-comment (c .before .before .before .before .before .before .before .before), short (c .before .before .before .before .before .before .before), no-blank (c .before .before .before .before .before), is-load (c .before .before)) (c .with-path .ensures ∙ ap (λ (p : List ℕ). pick (isPath p) Command.Load Command.Unknown) (whole-tail (c .before .before .before .before .before .before .before .before .before .before .before .before .args .line .now) 5))
-
-slice-aggregate-begins-3 : tie.Need-slice-aggregate-begins-3
-slice-aggregate-begins-3 c = search needs
-
-begins-requires-3 : tie.Need-begins-requires-3
-begins-requires-3 c κs = search needs
 
 sub-with-path-2 : tie.Need-sub-with-path-2
 unfolding text
@@ -111,18 +84,9 @@ part-with-path-start-2 : tie.Need-part-with-path-start-2
 unfolding text
 part-with-path-start-2 c = omega (arith, begins-fits (text "export ") (c .before .before .before .before .before .before .before .before .before .before .before .before .before .args .line .now) (is-export c))
 
-part-with-path-end-2 : tie.Need-part-with-path-end-2
-part-with-path-end-2 c = search needs
-
-with-path-requires-2 : tie.Need-with-path-requires-2
-with-path-requires-2 c κs = search needs
-
 returns-5 : tie.Need-returns-5
 unfolding commandIn
 returns-5 c = rw (no-comment (c .before .before .before .before .before .before .before .before .before .before .before), short (c .before .before .before .before .before .before .before .before .before .before), no-blank (c .before .before .before .before .before .before .before .before), no-load (c .before .before .before .before .before), is-export (c .before .before)) (c .with-path2 .ensures ∙ ap (λ (p : List ℕ). pick (isPath p) Command.Export Command.Unknown) (whole-tail (c .before .before .before .before .before .before .before .before .before .before .before .before .before .before .before .args .line .now) 7))
-
-called-requires : tie.Need-called-requires
-called-requires c κs = search needs
 
 returns-6 : tie.Need-returns-6
 unfolding commandIn
@@ -132,25 +96,25 @@ pub parse-spec : {M : Type 1} → statement M
 parse-spec =
     tie.close
     (tie.spec
-    slice-aggregate-begins
-    begins-requires
+    (λ c. search needs)
+    (λ c κs. search needs)
     returns
     returns-2
-    every-requires
+    (λ c κs. search needs)
     returns-3
-    slice-aggregate-begins-2
-    begins-requires-2
+    (λ c. search needs)
+    (λ c κs. search needs)
     sub-with-path
     part-with-path-start
-    part-with-path-end
-    with-path-requires
+    (λ c. search needs)
+    (λ c κs. search needs)
     returns-4
-    slice-aggregate-begins-3
-    begins-requires-3
+    (λ c. search needs)
+    (λ c κs. search needs)
     sub-with-path-2
     part-with-path-start-2
-    part-with-path-end-2
-    with-path-requires-2
+    (λ c. search needs)
+    (λ c κs. search needs)
     returns-5
-    called-requires
+    (λ c κs. search needs)
     returns-6)

@@ -1,6 +1,6 @@
 -- `command::read_arguments` meets its contract: the numbers read and those to come are all. Assumes nothing.
-use Prim.Native.Nat.{ℕ, suc, _+_, _-_, _≤_, _<_}
-use mathlib.Core.List.{List, [], _∷_, _++_}
+use Prim.Native.Nat.{suc, _+_, _-_, _≤_}
+use mathlib.Core.List.{[], _∷_, _++_}
 use mathlib.Core.Option.{some}
 use mathlib.Core.Path.{_≡_, refl, sym, ap, _∙_}
 use native.Mathlib.Nat.{sub-zero}
@@ -9,7 +9,7 @@ use native.Mathlib.Omega.{arith}
 use lib.ListN.{length, take, drop, set, length-set, length-drop}
 use lib.Seq.{take-suc-set, drop-drop}
 use borrow.Author.Needs.{needs}
-use Rattle.base.proofs.Lists.{whole-tail}
+use Rattle.base.proofs.Buffers.{whole-tail}
 use Rattle.command.specs.Reading.{firstNumber, afterNumber, arguments, numberOf, numbersOf}
 use Rattle.command.proofs.Laws.{prefixed, prefixed-none, arguments-more, arguments-stop, arguments-end}
 use Rattle.command.proofs.read_arguments.Statement.{statement}
@@ -30,32 +30,11 @@ sub-first-number c = c .before .loop .inv .1
 part-first-number-start : tie.Need-part-first-number-start Inv-loop μ-loop
 part-first-number-start c = omega (arith, c .before .loop .inv .1)
 
-part-first-number-end : tie.Need-part-first-number-end Inv-loop μ-loop
-part-first-number-end c = search needs
-
-first-number-requires : tie.Need-first-number-requires Inv-loop μ-loop
-first-number-requires c κs = tt
-
-enum-known-first : tie.Need-enum-known-first Inv-loop μ-loop
-enum-known-first c = search needs
-
-mul-numbers : tie.Need-mul-numbers Inv-loop μ-loop
-mul-numbers c = search needs
-
-array-write-numbers : tie.Need-array-write-numbers Inv-loop μ-loop
-array-write-numbers c = search needs
-
 sub-first-length : tie.Need-sub-first-length Inv-loop μ-loop
 sub-first-length c = c .before .before .before .before .before .before .loop .inv .1
 
 part-first-length-start : tie.Need-part-first-length-start Inv-loop μ-loop
 part-first-length-start c = omega (arith, c .before .before .before .before .before .before .loop .inv .1)
-
-part-first-length-end : tie.Need-part-first-length-end Inv-loop μ-loop
-part-first-length-end c = search needs
-
-first-length-requires : tie.Need-first-length-requires Inv-loop μ-loop
-first-length-requires c κs = tt
 
 first-at : (c : tie.After-first-number Inv-loop μ-loop) → let l = c .before .before .before .loop in numberOf (c .first-number .result) ≡ firstNumber (drop (l .at) (c .before .before .before .before .before .args .line .now))
 first-at c = c .first-number .ensures ∙ ap firstNumber (whole-tail (c .before .before .before .before .before .args .line .now) (c .before .before .before .loop .at))
@@ -77,12 +56,6 @@ fits c =
 add-at : tie.Need-add-at Inv-loop μ-loop
 add-at c = omega (arith, fits c, c .before .before .before .before .before .before .before .before .before .before .good)
 
-add-i : tie.Need-add-i Inv-loop μ-loop
-add-i c = search needs
-
-loop-less : tie.Need-loop-less Inv-loop μ-loop
-loop-less c = search needs
-
 loop-again : tie.Need-loop-again Inv-loop μ-loop
 unfolding numberOf
 loop-again c =
@@ -96,9 +69,6 @@ loop-again c =
     let kept : take (l .i + 1) (set (l .numbers) (l .i) v) ≡ take (l .i) (l .numbers) ++ (v ∷ []) = rw (add-one (l .i)) (take-suc-set (l .numbers) (l .i) v (omega (arith, l .inv .2))) in
     let more = left (c .before .before .before .before .before .before .before) ∙ arguments-more (n - (l .i + 1)) (drop (l .at) s) v (take (l .i) (l .numbers)) read in
     (omega arith, fits c, length-set (l .numbers) (l .i) v ∙ l .inv .2, rw (kept, sym rest) more)
-
-enum-told : tie.Need-enum-told Inv-loop μ-loop
-enum-told c = search needs
 
 returns : tie.Need-returns Inv-loop μ-loop
 unfolding numberOf numbersOf
@@ -127,19 +97,19 @@ read-arguments-spec =
     loop-holds
     sub-first-number
     part-first-number-start
-    part-first-number-end
-    first-number-requires
-    enum-known-first
-    mul-numbers
-    array-write-numbers
+    (λ c. search needs)
+    (λ c κs. tt)
+    (λ c. search needs)
+    (λ c. search needs)
+    (λ c. search needs)
     sub-first-length
     part-first-length-start
-    part-first-length-end
-    first-length-requires
+    (λ c. search needs)
+    (λ c κs. tt)
     add-at
-    add-i
-    loop-less
+    (λ c. search needs)
+    (λ c. search needs)
     loop-again
-    enum-told
+    (λ c. search needs)
     returns
     returns-2)

@@ -1,8 +1,8 @@
 -- `command::read_number` meets its contract: what is still to be read has the same number. Assumes nothing.
-use Prim.Native.Nat.{_+_, _-_, _*_, _^_, _≤_, _<_}
-use mathlib.Core.Path.{_≡_, refl, sym, ap, _∙_}
+use Prim.Native.Nat.{_-_, _^_, _≤_, _<_}
+use mathlib.Core.Path.{_≡_, sym, _∙_}
 use native.Mathlib.Omega.{arith}
-use lib.ListN.{length, getD, drop, drop-of-length-le}
+use lib.ListN.{length, drop, drop-of-length-le}
 use borrow.Author.Needs.{needs}
 use borrow.Author.Tests.{le-leb, lt-leb}
 use Rattle.command.specs.Reading.{numberIn, numberFrom, numberOf}
@@ -32,9 +32,6 @@ loop-holds c =
     let n = length (c .before .before .args .word .now) in
     (omega arith, rw (le-leb 1 n (omega arith), le-leb n 20 (omega arith)), omega arith)
 
-shared-slice-read-byte : tie.Need-shared-slice-read-byte Inv-loop μ-loop
-shared-slice-read-byte c = search needs
-
 cast-byte : tie.Need-cast-byte Inv-loop μ-loop
 cast-byte c = omega (arith, c .shared-slice-known .given (c .before .before .loop .i))
 
@@ -52,27 +49,12 @@ returns-4 c =
     let l = c .before .before .before .before .loop in
     sym (l .inv .1 ∙ number-high (l .value) w (l .i) (omega arith) (omega arith) (c .if4 .taken))
 
-sub-if5 : tie.Need-sub-if5 Inv-loop μ-loop
-sub-if5 c = search needs
-
 returns-5 : tie.Need-returns-5 Inv-loop μ-loop
 unfolding numberOf
 returns-5 c =
     let w = c .before .before .before .before .before .before .before .before .args .word .now in
     let l = c .before .before .before .before .before .loop in
     sym (l .inv .1 ∙ number-over (l .value) w (l .i) (omega arith) (omega arith) (omega arith) (omega arith))
-
-mul-value : tie.Need-mul-value Inv-loop μ-loop
-mul-value c = omega arith
-
-add-value : tie.Need-add-value Inv-loop μ-loop
-add-value c = omega arith
-
-add-i : tie.Need-add-i Inv-loop μ-loop
-add-i c = search needs
-
-loop-less : tie.Need-loop-less Inv-loop μ-loop
-loop-less c = search needs
 
 loop-again : tie.Need-loop-again Inv-loop μ-loop
 loop-again c =
@@ -95,15 +77,15 @@ read-number-spec =
     returns
     returns-2
     loop-holds
-    shared-slice-read-byte
+    (λ c. search needs)
     cast-byte
     returns-3
     returns-4
-    sub-if5
+    (λ c. search needs)
     returns-5
-    mul-value
-    add-value
-    add-i
-    loop-less
+    (λ c. omega arith)
+    (λ c. omega arith)
+    (λ c. search needs)
+    (λ c. search needs)
     loop-again
     returns-6)

@@ -4,9 +4,6 @@ use borrow.Author.Needs.{needs}
 use Rattle.command.proofs.with_path.Statement.{statement}
 use Rattle.command.proofs.with_path.Tie as tie
 
-is-path-requires : tie.Need-is-path-requires
-is-path-requires c κs = search needs
-
 returns : tie.Need-returns
 returns c = rw (sym (c .before .is-path .ensures) ∙ c .if1 .taken)
 
@@ -14,4 +11,4 @@ returns-2 : tie.Need-returns-2
 returns-2 c = rw (sym (c .before .is-path .ensures) ∙ c .if1 .left)
 
 pub with-path-spec : {M : Type 1} → statement M
-with-path-spec = tie.close (tie.spec is-path-requires returns returns-2)
+with-path-spec = tie.close (tie.spec (λ c κs. search needs) returns returns-2)

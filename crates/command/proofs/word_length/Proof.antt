@@ -1,7 +1,7 @@
 -- `command::word_length` meets its contract. Assumes nothing.
-use Prim.Native.Nat.{ℕ, _+_, _-_, _≤_}
+use Prim.Native.Nat.{_+_, _-_, _≤_}
 use mathlib.Core.List.{[], _∷_}
-use mathlib.Core.Path.{_≡_, refl, sym, ap, _∙_}
+use mathlib.Core.Path.{_≡_, ap, _∙_}
 use native.Mathlib.Omega.{arith}
 use lib.ListN.{length, getD, drop, drop-of-length-le}
 use borrow.Author.Needs.{needs}
@@ -20,21 +20,12 @@ abbrev μ-loop : tie.MeasureT-loop
 loop-holds : tie.Need-loop-holds Inv-loop μ-loop
 loop-holds c = (omega arith, omega arith)
 
-shared-slice-read-if1 : tie.Need-shared-slice-read-if1 Inv-loop μ-loop
-shared-slice-read-if1 c = search needs
-
 returns : tie.Need-returns Inv-loop μ-loop
 returns c =
     let bs = c .before .before .before .before .args .bytes .now in
     let l = c .before .before .before .loop in
     let e : wordOf (drop (l .i) bs) ≡ [] = word-next bs (l .i) (omega arith) ∙ rw (eq-eqb (getD bs (l .i) 0) 32 (c .if1 .taken)) in
     omega (arith, ap length e)
-
-add-i : tie.Need-add-i Inv-loop μ-loop
-add-i c = search needs
-
-loop-less : tie.Need-loop-less Inv-loop μ-loop
-loop-less c = search needs
 
 loop-again : tie.Need-loop-again Inv-loop μ-loop
 loop-again c =
@@ -58,9 +49,9 @@ word-length-spec =
     Inv-loop
     μ-loop
     loop-holds
-    shared-slice-read-if1
+    (λ c. search needs)
     returns
-    add-i
-    loop-less
+    (λ c. search needs)
+    (λ c. search needs)
     loop-again
     returns-2)

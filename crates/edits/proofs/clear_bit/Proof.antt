@@ -6,9 +6,6 @@ use borrow.Author.Needs.{needs}
 use Rattle.edits.proofs.clear_bit.Statement.{statement}
 use Rattle.edits.proofs.clear_bit.Tie as tie
 
-shl-result : tie.Need-shl-result
-shl-result c = search needs
-
 returns : tie.Need-returns
 returns c = cleared-by-and _ _ (c .if1 .taken) (search needs)
 
@@ -16,4 +13,4 @@ returns-2 : tie.Need-returns-2
 returns-2 c = sym (not-cleared _ _ (c .if1 .left))
 
 pub clear-bit-spec : {M : Type 1} → statement M
-clear-bit-spec = tie.close (tie.spec shl-result returns returns-2)
+clear-bit-spec = tie.close (tie.spec (λ c. search needs) returns returns-2)

@@ -11,19 +11,10 @@ returns : tie.Need-returns
 unfolding greatestOf
 returns c = past (c .before .args .d) (22 + (c .before .args .distress - 1)) (omega arith)
 
-place-requires : tie.Need-place-requires
-place-requires c κs = search needs
-
-add-value-at : tie.Need-add-value-at
-add-value-at c = search needs
-
-value-at-requires : tie.Need-value-at-requires
-value-at-requires c κs = search needs
-
 returns-2 : tie.Need-returns-2
 unfolding greatestOf
 returns-2 c = cc
 
 pub greatest-of-spec : {M : Type 1} → statement M
 greatest-of-spec =
-    tie.close (tie.spec returns place-requires add-value-at value-at-requires returns-2)
+    tie.close (tie.spec returns (λ c κs. search needs) (λ c. search needs) (λ c κs. search needs) returns-2)

@@ -5,9 +5,6 @@ use Rattle.base.proofs.Bits.{set-by-or, not-set}
 use Rattle.edits.proofs.set_bit.Statement.{statement}
 use Rattle.edits.proofs.set_bit.Tie as tie
 
-shl-result : tie.Need-shl-result
-shl-result c = search needs
-
 returns : tie.Need-returns
 returns c = set-by-or _ _ (c .if1 .taken)
 
@@ -15,4 +12,4 @@ returns-2 : tie.Need-returns-2
 returns-2 c = sym (not-set _ _ (c .if1 .left))
 
 pub set-bit-spec : {M : Type 1} → statement M
-set-bit-spec = tie.close (tie.spec shl-result returns returns-2)
+set-bit-spec = tie.close (tie.spec (λ c. search needs) returns returns-2)

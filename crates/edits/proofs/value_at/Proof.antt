@@ -5,17 +5,8 @@ use native.Mathlib.Omega.{arith}
 use Rattle.edits.proofs.value_at.Statement.{statement}
 use Rattle.edits.proofs.value_at.Tie as tie
 
-mul-result : tie.Need-mul-result
-mul-result c = search needs
-
-array-read-result : tie.Need-array-read-result
-array-read-result c = search needs
-
-returns : tie.Need-returns
-returns c = search needs
-
 returns-2 : tie.Need-returns-2
 returns-2 c = past (c .before .args .t1) (c .before .args .at) (omega arith)
 
 pub value-at-spec : {M : Type 1} → statement M
-value-at-spec = tie.close (tie.spec mul-result array-read-result returns returns-2)
+value-at-spec = tie.close (tie.spec (λ c. search needs) (λ c. search needs) (λ c. search needs) returns-2)

@@ -15,27 +15,6 @@ returns-2 : tie.Need-returns-2
 unfolding withRating
 returns-2 c = sym (set-out _ _ _ (omega arith))
 
-place-requires : tie.Need-place-requires
-place-requires c κs = search needs
-
-mul-with-value : tie.Need-mul-with-value
-mul-with-value c = search needs
-
-add-with-value : tie.Need-add-with-value
-add-with-value c = search needs
-
-add-with-value-2 : tie.Need-add-with-value-2
-add-with-value-2 c = search needs
-
-place-requires-2 : tie.Need-place-requires-2
-place-requires-2 c κs = search needs
-
-add-with-value-3 : tie.Need-add-with-value-3
-add-with-value-3 c = search needs
-
-with-value-requires : tie.Need-with-value-requires
-with-value-requires c κs = search needs
-
 returns-3 : tie.Need-returns-3
 unfolding withRating
 returns-3 c = cc
@@ -46,11 +25,11 @@ with-rating-spec =
     (tie.spec
     returns
     returns-2
-    place-requires
-    mul-with-value
-    add-with-value
-    add-with-value-2
-    place-requires-2
-    add-with-value-3
-    with-value-requires
+    (λ c κs. search needs)
+    (λ c. search needs)
+    (λ c. search needs)
+    (λ c. search needs)
+    (λ c κs. search needs)
+    (λ c. search needs)
+    (λ c κs. search needs)
     returns-3)

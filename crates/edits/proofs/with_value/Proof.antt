@@ -9,14 +9,5 @@ use Rattle.edits.proofs.with_value.Tie as tie
 returns : tie.Need-returns
 returns c = sym (set-out _ _ _ (omega arith))
 
-mul-e : tie.Need-mul-e
-mul-e c = search needs
-
-array-write-e : tie.Need-array-write-e
-array-write-e c = search needs
-
-returns-2 : tie.Need-returns-2
-returns-2 c = search needs
-
 pub with-value-spec : {M : Type 1} → statement M
-with-value-spec = tie.close (tie.spec returns mul-e array-write-e returns-2)
+with-value-spec = tie.close (tie.spec returns (λ c. search needs) (λ c. search needs) (λ c. search needs))

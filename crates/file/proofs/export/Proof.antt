@@ -5,19 +5,10 @@ use borrow.Author.Needs.{needs}
 use Rattle.file.proofs.export.Statement.{statement}
 use Rattle.file.proofs.export.Tie as tie
 
-file-length-requires : tie.Need-file-length-requires
-file-length-requires c κs = search needs
-
 returns : tie.Need-returns
 returns c =
     let a = c .before .before .before .before .args in
     export-short (a .t1) (a .buffer .now) (omega (arith, c .before .file-length .ensures))
-
-write-file-requires : tie.Need-write-file-requires
-write-file-requires c κs = search needs
-
-same-length : tie.Need-same-length
-same-length c = search needs
 
 returns-2 : tie.Need-returns-2
 returns-2 c =
@@ -28,4 +19,4 @@ returns-2 c =
 
 pub export-spec : {M : Type 1} → statement M
 export-spec =
-    tie.close (tie.spec file-length-requires returns write-file-requires same-length returns-2)
+    tie.close (tie.spec (λ c κs. search needs) returns (λ c κs. search needs) (λ c. search needs) returns-2)

@@ -7,16 +7,14 @@ use Rattle.rules.specs.File.{inRange}
 use borrow.Author.Needs.{needs}
 use Rattle.file.proofs.in_range.Statement.{statement}
 use Rattle.file.proofs.in_range.Tie as tie
-
-records-in-range-requires : tie.Need-records-in-range-requires
-records-in-range-requires c κs = search needs
+use Rattle.rules.specs.District.{districtPlaces}
 
 returns : tie.Need-returns
 unfolding inRange
 returns c =
     let d = c .before .before .args .t1 in
-    let n : length d ≡ 2620 = search needs in
-    and-yes _ _ _ (eq-eqb (length d) 2620 n) (c .records-in-range .ensures)
+    let n : length d ≡ districtPlaces = search needs in
+    and-yes _ _ _ (eq-eqb (length d) districtPlaces n) (c .records-in-range .ensures)
 
 pub in-range-spec : {M : Type 1} → statement M
-in-range-spec = tie.close (tie.spec records-in-range-requires returns)
+in-range-spec = tie.close (tie.spec (λ c κs. search needs) returns)

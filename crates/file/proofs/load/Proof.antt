@@ -19,6 +19,7 @@ use Rattle.file.proofs.Steps.{less, records-found, records-refused, rec
 use borrow.Author.Needs.{needs}
 use Rattle.file.proofs.load.Statement.{statement}
 use Rattle.file.proofs.load.Tie as tie
+use Rattle.rules.specs.District.{districtPlaces}
 
 abbrev Inv-loop : tie.InvT-loop
 Inv-loop file d₀ at₀ place₀ n₀ d at place n =
@@ -26,7 +27,7 @@ Inv-loop file d₀ at₀ place₀ n₀ d at place n =
     × (decode file ≡ readRecords (83 - n) n (take place d) (drop at file))
     × (place ≡ startOf n)
     × (at ≤ length file)
-    × (length d ≡ 2620)
+    × (length d ≡ districtPlaces)
 
 abbrev μ-loop : tie.MeasureT-loop
 μ-loop file d₀ at₀ place₀ n₀ d at place n = 83 - n
@@ -61,29 +62,17 @@ ended c =
 
 loop-holds : tie.Need-loop-holds Inv-loop μ-loop
 unfolding decode
-loop-holds c = (omega arith, refl, refl, omega arith, length-replicate {A = ℕ} 2620 0)
-
-slot-at-requires : tie.Need-slot-at-requires Inv-loop μ-loop
-slot-at-requires c κs = search needs
+loop-holds c = (omega arith, refl, refl, omega arith, length-replicate {A = ℕ} districtPlaces 0)
 
 read-record-requires : tie.Need-read-record-requires Inv-loop μ-loop
 read-record-requires c κs =
     let l = c .before .before .before .loop in
     (rw (c .before .slot-at .ensures, l .inv .2) (ready (l .n) (omega arith)), (l .inv .3, l .inv .4))
 
-enum-known-step : tie.Need-enum-known-step Inv-loop μ-loop
-enum-known-step c = search needs
-
 add-place : tie.Need-add-place Inv-loop μ-loop
 add-place c =
     let l = c .before .before .before .before .before .before .before .before .loop in
     omega (arith, ap (λ (s : Slot). s .places) (c .before .before .before .before .before .before .slot-at .ensures), ready (l .n) (omega arith) .room)
-
-add-n : tie.Need-add-n Inv-loop μ-loop
-add-n c = search needs
-
-loop-less : tie.Need-loop-less Inv-loop μ-loop
-loop-less c = search needs
 
 loop-again : tie.Need-loop-again Inv-loop μ-loop
 loop-again c =
@@ -99,12 +88,6 @@ loop-again c =
       r .ensures .all,
     )
 
-enum-known-step-2 : tie.Need-enum-known-step-2 Inv-loop μ-loop
-enum-known-step-2 c = search needs
-
-refused-requires : tie.Need-refused-requires Inv-loop μ-loop
-refused-requires c κs = search needs
-
 returns : tie.Need-returns Inv-loop μ-loop
 returns c =
     let l = c .before .before .before .before .before .before .before .before .loop in
@@ -113,9 +96,6 @@ returns c =
     let r = c .before .before .before .before .read-record in
     let g = c .before .before .step2 .given in
     loaded-ranged file (c .refused .ensures ∙ loaded-refused file (g .0 .0) (l .inv .1 ∙ refuses (l .n) (l .place) (l .at) (s .result) (l .d) (r .last .0) file (r .result) (omega arith) (s .ensures) (r .ensures) (g .0 .0) (g .1)))
-
-refused-requires-2 : tie.Need-refused-requires-2 Inv-loop μ-loop
-refused-requires-2 c κs = search needs
 
 returns-2 : tie.Need-returns-2 Inv-loop μ-loop
 returns-2 c =
@@ -137,16 +117,16 @@ load-spec =
     Inv-loop
     μ-loop
     loop-holds
-    slot-at-requires
+    (λ c κs. search needs)
     read-record-requires
-    enum-known-step
+    (λ c. search needs)
     add-place
-    add-n
-    loop-less
+    (λ c. search needs)
+    (λ c. search needs)
     loop-again
-    enum-known-step-2
-    refused-requires
+    (λ c. search needs)
+    (λ c κs. search needs)
     returns
-    refused-requires-2
+    (λ c κs. search needs)
     returns-2
     returns-3)

@@ -20,23 +20,8 @@ abbrev μ-loop : tie.MeasureT-loop
 loop-holds : tie.Need-loop-holds Inv-loop μ-loop
 loop-holds c = (omega arith, c .before .pre .1, fill-none _ _ _)
 
-add-candidate-benefit : tie.Need-add-candidate-benefit Inv-loop μ-loop
-add-candidate-benefit c = omega arith
-
 candidate-benefit-requires : tie.Need-candidate-benefit-requires Inv-loop μ-loop
 candidate-benefit-requires c κs = (c .before .before .before .pre .0, (omega arith, omega arith))
-
-mul-table : tie.Need-mul-table Inv-loop μ-loop
-mul-table c = omega arith
-
-slice-write-table : tie.Need-slice-write-table Inv-loop μ-loop
-slice-write-table c = omega arith
-
-add-n : tie.Need-add-n Inv-loop μ-loop
-add-n c = omega arith
-
-loop-less : tie.Need-loop-less Inv-loop μ-loop
-loop-less c = omega arith
 
 loop-again : tie.Need-loop-again Inv-loop μ-loop
 unfolding benefitEntry
@@ -46,9 +31,6 @@ loop-again c =
       simp length-set (l .inv .1),
       rw (l .inv .2) (fill-next (benefitEntry _) (l .n) 0 _ (omega arith) (c .candidate-benefit .ensures ∙ ap (benefitEntry _) (sym (zero-add (l .n))))),
     )
-
-same-length : tie.Need-same-length Inv-loop μ-loop
-same-length c = omega arith
 
 returns : tie.Need-returns Inv-loop μ-loop
 unfolding benefitList
@@ -63,12 +45,12 @@ fill-benefits-spec =
     Inv-loop
     μ-loop
     loop-holds
-    add-candidate-benefit
+    (λ c. omega arith)
     candidate-benefit-requires
-    mul-table
-    slice-write-table
-    add-n
-    loop-less
+    (λ c. omega arith)
+    (λ c. omega arith)
+    (λ c. omega arith)
+    (λ c. omega arith)
     loop-again
-    same-length
+    (λ c. omega arith)
     returns)

@@ -21,23 +21,8 @@ abbrev μ-loop : tie.MeasureT-loop
 loop-holds : tie.Need-loop-holds Inv-loop μ-loop
 loop-holds c = (omega arith, c .before .pre .1, fill-none _ _ _)
 
-add-limit-in : tie.Need-add-limit-in Inv-loop μ-loop
-add-limit-in c = omega arith
-
 limit-in-requires : tie.Need-limit-in-requires Inv-loop μ-loop
 limit-in-requires c κs = (c .before .before .before .pre .0, (omega arith, omega arith))
-
-mul-table : tie.Need-mul-table Inv-loop μ-loop
-mul-table c = omega arith
-
-slice-write-table : tie.Need-slice-write-table Inv-loop μ-loop
-slice-write-table c = omega arith
-
-add-r : tie.Need-add-r Inv-loop μ-loop
-add-r c = omega arith
-
-loop-less : tie.Need-loop-less Inv-loop μ-loop
-loop-less c = omega arith
 
 loop-again : tie.Need-loop-again Inv-loop μ-loop
 loop-again c =
@@ -46,9 +31,6 @@ loop-again c =
       simp length-set (l .inv .1),
       rw (l .inv .2) (fill-next (limitIn _) (l .r) 1 _ (omega arith) (c .limit-in .ensures ∙ ap (limitIn _) (add-comm (l .r) 1))),
     )
-
-same-length : tie.Need-same-length Inv-loop μ-loop
-same-length c = omega arith
 
 returns : tie.Need-returns Inv-loop μ-loop
 unfolding limitList
@@ -63,12 +45,12 @@ fill-limits-spec =
     Inv-loop
     μ-loop
     loop-holds
-    add-limit-in
+    (λ c. omega arith)
     limit-in-requires
-    mul-table
-    slice-write-table
-    add-r
-    loop-less
+    (λ c. omega arith)
+    (λ c. omega arith)
+    (λ c. omega arith)
+    (λ c. omega arith)
     loop-again
-    same-length
+    (λ c. omega arith)
     returns)

@@ -23,25 +23,10 @@ area-in-requires c κs = (c .before .pre .0, c .before .pre .1)
 loop-holds : tie.Need-loop-holds Inv-loop μ-loop
 loop-holds c = (omega arith, c .before .before .pre .2, fill-none _ _ _)
 
-add-usage-in : tie.Need-add-usage-in Inv-loop μ-loop
-add-usage-in c = omega arith
-
 usage-in-requires : tie.Need-usage-in-requires Inv-loop μ-loop
 usage-in-requires c κs =
     let p = c .before .before .before .before .pre in
     (p .0, p .1, (omega arith, omega arith), c .before .before .area-in .ensures)
-
-mul-row : tie.Need-mul-row Inv-loop μ-loop
-mul-row c = omega arith
-
-slice-write-row : tie.Need-slice-write-row Inv-loop μ-loop
-slice-write-row c = omega arith
-
-add-r : tie.Need-add-r Inv-loop μ-loop
-add-r c = omega arith
-
-loop-less : tie.Need-loop-less Inv-loop μ-loop
-loop-less c = omega arith
 
 loop-again : tie.Need-loop-again Inv-loop μ-loop
 loop-again c =
@@ -50,9 +35,6 @@ loop-again c =
       simp length-set (l .inv .1),
       rw (l .inv .2) (fill-next (usageIn _ _ _) (l .r) 1 _ (omega arith) (c .usage-in .ensures ∙ ap (usageIn _ _ _) (add-comm (l .r) 1))),
     )
-
-same-length : tie.Need-same-length Inv-loop μ-loop
-same-length c = omega arith
 
 returns : tie.Need-returns Inv-loop μ-loop
 returns c =
@@ -67,12 +49,12 @@ fill-row-spec =
     μ-loop
     area-in-requires
     loop-holds
-    add-usage-in
+    (λ c. omega arith)
     usage-in-requires
-    mul-row
-    slice-write-row
-    add-r
-    loop-less
+    (λ c. omega arith)
+    (λ c. omega arith)
+    (λ c. omega arith)
+    (λ c. omega arith)
     loop-again
-    same-length
+    (λ c. omega arith)
     returns)

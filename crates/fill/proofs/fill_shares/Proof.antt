@@ -24,43 +24,13 @@ loop-holds c =
     let p = c .before .before .before .before .pre .0 in
     (omega arith, p .2, fill-none _ _ _, p .3, fill-none _ _ _)
 
-mul-u : tie.Need-mul-u Inv-loop μ-loop
-mul-u c = omega arith
-
-shared-slice-read-u : tie.Need-shared-slice-read-u Inv-loop μ-loop
-shared-slice-read-u c = omega arith
-
-mul-l : tie.Need-mul-l Inv-loop μ-loop
-mul-l c = omega arith
-
-shared-slice-read-l : tie.Need-shared-slice-read-l Inv-loop μ-loop
-shared-slice-read-l c = omega arith
-
 share-requires : tie.Need-share-requires Inv-loop μ-loop
 share-requires c κs =
     let p = c .before .before .before .before .before .before .before .before .pre .1 in
     (p .0 _, p .1 _)
 
-mul-shares : tie.Need-mul-shares Inv-loop μ-loop
-mul-shares c = omega arith
-
-slice-write-shares : tie.Need-slice-write-shares Inv-loop μ-loop
-slice-write-shares c = omega arith
-
 down-share-requires : tie.Need-down-share-requires Inv-loop μ-loop
 down-share-requires c κs = c .before .before .before .before .before .before .before .before .before .pre .1 .0 _
-
-mul-downs : tie.Need-mul-downs Inv-loop μ-loop
-mul-downs c = omega arith
-
-slice-write-downs : tie.Need-slice-write-downs Inv-loop μ-loop
-slice-write-downs c = omega arith
-
-add-n : tie.Need-add-n Inv-loop μ-loop
-add-n c = omega arith
-
-loop-less : tie.Need-loop-less Inv-loop μ-loop
-loop-less c = omega arith
 
 loop-again : tie.Need-loop-again Inv-loop μ-loop
 unfolding shareEntry downShareEntry
@@ -78,12 +48,6 @@ loop-again c =
       rw (l .inv .4) (fill-next (downShareEntry u v) (l .n) 0 (s .args .downs .now) (omega arith) (c .down-share .ensures ∙ ap (downShareEntry u v) z)),
     )
 
-same-length : tie.Need-same-length Inv-loop μ-loop
-same-length c = omega arith
-
-same-length-2 : tie.Need-same-length-2 Inv-loop μ-loop
-same-length-2 c = omega arith
-
 returns : tie.Need-returns Inv-loop μ-loop
 unfolding shareList downShareList
 returns c =
@@ -100,19 +64,19 @@ fill-shares-spec =
     Inv-loop
     μ-loop
     loop-holds
-    mul-u
-    shared-slice-read-u
-    mul-l
-    shared-slice-read-l
+    (λ c. omega arith)
+    (λ c. omega arith)
+    (λ c. omega arith)
+    (λ c. omega arith)
     share-requires
-    mul-shares
-    slice-write-shares
+    (λ c. omega arith)
+    (λ c. omega arith)
     down-share-requires
-    mul-downs
-    slice-write-downs
-    add-n
-    loop-less
+    (λ c. omega arith)
+    (λ c. omega arith)
+    (λ c. omega arith)
+    (λ c. omega arith)
     loop-again
-    same-length
-    same-length-2
+    (λ c. omega arith)
+    (λ c. omega arith)
     returns)

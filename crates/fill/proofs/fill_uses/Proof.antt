@@ -40,38 +40,8 @@ next d table₀ table ys n e y =
 loop-holds : tie.Need-loop-holds Inv-loop μ-loop
 loop-holds c = (omega arith, c .before .pre .1, fill-none _ _ _)
 
-add-fill-row : tie.Need-add-fill-row Inv-loop μ-loop
-add-fill-row c = omega arith
-
-mul-fill-row : tie.Need-mul-fill-row Inv-loop μ-loop
-mul-fill-row c = omega arith
-
-mul-fill-row-2 : tie.Need-mul-fill-row-2 Inv-loop μ-loop
-mul-fill-row-2 c = omega arith
-
-add-fill-row-2 : tie.Need-add-fill-row-2 Inv-loop μ-loop
-add-fill-row-2 c = omega arith
-
-mul-fill-row-3 : tie.Need-mul-fill-row-3 Inv-loop μ-loop
-mul-fill-row-3 c = omega arith
-
-sub-fill-row : tie.Need-sub-fill-row Inv-loop μ-loop
-sub-fill-row c = omega arith
-
-part-fill-row-start : tie.Need-part-fill-row-start Inv-loop μ-loop
-part-fill-row-start c = omega arith
-
-part-fill-row-end : tie.Need-part-fill-row-end Inv-loop μ-loop
-part-fill-row-end c = omega arith
-
 fill-row-requires : tie.Need-fill-row-requires Inv-loop μ-loop
 fill-row-requires c κs = (c .before .before .before .before .pre .0, (omega arith, omega arith), simp (length-take, length-drop) (omega arith))
-
-add-n : tie.Need-add-n Inv-loop μ-loop
-add-n c = omega arith
-
-loop-less : tie.Need-loop-less Inv-loop μ-loop
-loop-less c = omega arith
 
 loop-again : tie.Need-loop-again Inv-loop μ-loop
 loop-again c =
@@ -82,9 +52,6 @@ loop-again c =
       rw e (fill-length (usageEntry (s .args .d .now)) (16 * (l .n + 1)) 0 (s .args .table .now) (omega arith) ∙ s .pre .1),
       e,
     )
-
-same-length : tie.Need-same-length Inv-loop μ-loop
-same-length c = omega arith
 
 returns : tie.Need-returns Inv-loop μ-loop
 unfolding usageList
@@ -99,17 +66,17 @@ fill-uses-spec =
     Inv-loop
     μ-loop
     loop-holds
-    add-fill-row
-    mul-fill-row
-    mul-fill-row-2
-    add-fill-row-2
-    mul-fill-row-3
-    sub-fill-row
-    part-fill-row-start
-    part-fill-row-end
+    (λ c. omega arith)
+    (λ c. omega arith)
+    (λ c. omega arith)
+    (λ c. omega arith)
+    (λ c. omega arith)
+    (λ c. omega arith)
+    (λ c. omega arith)
+    (λ c. omega arith)
     fill-row-requires
-    add-n
-    loop-less
+    (λ c. omega arith)
+    (λ c. omega arith)
     loop-again
-    same-length
+    (λ c. omega arith)
     returns)

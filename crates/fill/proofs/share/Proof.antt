@@ -5,23 +5,8 @@ use borrow.Author.Needs.{needs}
 use Rattle.fill.proofs.share.Statement.{statement}
 use Rattle.fill.proofs.share.Tie as tie
 
-mul-result : tie.Need-mul-result
-mul-result c = search needs
-
-sub-result : tie.Need-sub-result
-sub-result c = search needs
-
-add-result : tie.Need-add-result
-add-result c = search needs
-
-div-result : tie.Need-div-result
-div-result c = search needs
-
 returns : tie.Need-returns
 returns c = rw (c .if1 .taken) (sym (div-zero _))
 
-returns-2 : tie.Need-returns-2
-returns-2 c = search needs
-
 pub share-spec : {M : Type 1} → statement M
-share-spec = tie.close (tie.spec mul-result sub-result add-result div-result returns returns-2)
+share-spec = tie.close (tie.spec (λ c. search needs) (λ c. search needs) (λ c. search needs) (λ c. search needs) returns (λ c. search needs))

@@ -7,27 +7,6 @@ use borrow.Author.Needs.{needs}
 use Rattle.grammar.proofs.count_field.Statement.{statement}
 use Rattle.grammar.proofs.count_field.Tie as tie
 
-mul-number-of : tie.Need-mul-number-of
-mul-number-of c = search needs
-
-array-read-number-of : tie.Need-array-read-number-of
-array-read-number-of c = search needs
-
-mul-number-of-2 : tie.Need-mul-number-of-2
-mul-number-of-2 c = search needs
-
-array-read-number-of-2 : tie.Need-array-read-number-of-2
-array-read-number-of-2 c = search needs
-
-number-of-requires : tie.Need-number-of-requires
-number-of-requires c κs = search needs
-
-returns : tie.Need-returns
-returns c = search needs
-
-number-of-requires-2 : tie.Need-number-of-requires-2
-number-of-requires-2 c κs = search needs
-
 returns-2 : tie.Need-returns-2
 returns-2 c =
     let n = c .before .before .args .n in
@@ -38,11 +17,11 @@ pub count-field-spec : {M : Type 1} → statement M
 count-field-spec =
     tie.close
     (tie.spec
-    mul-number-of
-    array-read-number-of
-    mul-number-of-2
-    array-read-number-of-2
-    number-of-requires
-    returns
-    number-of-requires-2
+    (λ c. search needs)
+    (λ c. search needs)
+    (λ c. search needs)
+    (λ c. search needs)
+    (λ c κs. search needs)
+    (λ c. search needs)
+    (λ c κs. search needs)
     returns-2)

@@ -5,18 +5,9 @@ use borrow.Author.Needs.{needs}
 use Rattle.grammar.proofs.field_at.Statement.{statement}
 use Rattle.grammar.proofs.field_at.Tie as tie
 
-is-present-requires : tie.Need-is-present-requires
-is-present-requires c κs = search needs
-
-kind-field-requires : tie.Need-kind-field-requires
-kind-field-requires c κs = search needs
-
 returns : tie.Need-returns
 unfolding fieldAt
 returns c = pick-yes _ _ _ _ (sym (c .before .before .is-present .ensures) ∙ c .before .if1 .taken) (c .kind-field .ensures)
-
-number-of-requires : tie.Need-number-of-requires
-number-of-requires c κs = search needs
 
 returns-2 : tie.Need-returns-2
 unfolding fieldAt
@@ -25,4 +16,4 @@ returns-2 c = pick-no _ _ _ _ (sym (c .before .before .is-present .ensures) ∙ 
 pub field-at-spec : {M : Type 1} → statement M
 field-at-spec =
     tie.close
-    (tie.spec is-present-requires kind-field-requires returns number-of-requires returns-2)
+    (tie.spec (λ c κs. search needs) (λ c κs. search needs) returns (λ c κs. search needs) returns-2)

@@ -7,9 +7,6 @@ use borrow.Author.Needs.{needs}
 use Rattle.grammar.proofs.largest_mask.Statement.{statement}
 use Rattle.grammar.proofs.largest_mask.Tie as tie
 
-shl-result : tie.Need-shl-result
-shl-result c = search needs
-
 exact : (n : ℕ) → n < 16 → (1 * 2 ^ n) % 2 ^ 64 ≡ 2 ^ n
 exact n h = shl-exact 1 n 64 (omega arith) (omega arith) ∙ one-mul _
 
@@ -26,4 +23,4 @@ returns-2 : tie.Need-returns-2
 returns-2 c = let l : 16 ≤ c .before .args .bits = omega arith in rw (min-eq-right l)
 
 pub largest-mask-spec : {M : Type 1} → statement M
-largest-mask-spec = tie.close (tie.spec shl-result sub-result returns returns-2)
+largest-mask-spec = tie.close (tie.spec (λ c. search needs) sub-result returns returns-2)

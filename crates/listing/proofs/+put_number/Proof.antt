@@ -1,14 +1,13 @@
 -- `listing::put_number` meets its contract; the number falls at each call of itself. Assumes nothing.
 use Prim.Native.Nat.{ℕ, _+_, _/_, _%_, _≤_, _<_}
-use mathlib.Core.Path.{_≡_, refl, ap, _∙_}
+use mathlib.Core.Path.{_≡_, ap, _∙_}
 use mathlib.Core.List.{[], _∷_, _++_}
 use native.Mathlib.Omega.{arith}
 use lib.ListN.{length, length-set, length-append}
 use borrow.Fn.Kinds.{In}
 use borrow.Fn.PlainCycle.{Measures, is, falls, and}
-use borrow.Author.Needs.{needs}
 use Rattle.base.specs.Text.{decimal}
-use Rattle.base.proofs.Lists.{written-none, written-one}
+use Rattle.base.proofs.Buffers.{written-none, written-one}
 use Rattle.base.proofs.Text.{decimal-small, decimal-large, put-front, put-all}
 use Rattle.listing.proofs.put_number.Reads as put-number
 use Rattle.listing.proofs.put_number.Kinds as put-number-kinds

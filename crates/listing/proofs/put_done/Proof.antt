@@ -5,30 +5,9 @@ use borrow.Author.Needs.{needs}
 use Rattle.listing.proofs.put_done.Statement.{statement}
 use Rattle.listing.proofs.put_done.Tie as tie
 
-enum-told : tie.Need-enum-told
-enum-told c = search needs
-
-slice-aggregate-put : tie.Need-slice-aggregate-put
-slice-aggregate-put c = search needs
-
-put-requires : tie.Need-put-requires
-put-requires c κs = search needs
-
-enum-known-answer : tie.Need-enum-known-answer
-enum-known-answer c = search needs
-
-put-refusal-requires : tie.Need-put-refusal-requires
-put-refusal-requires c κs = search needs
-
-same-length : tie.Need-same-length
-same-length c = search needs
-
 returns : tie.Need-returns
 unfolding done text
 returns c = rw (c .before .before .before .before .before .enum-told .given .1) (c .before .before .put .ensures)
-
-same-length-2 : tie.Need-same-length-2
-same-length-2 c = search needs
 
 returns-2 : tie.Need-returns-2
 unfolding done
@@ -38,12 +17,12 @@ pub put-done-spec : {M : Type 1} → statement M
 put-done-spec =
     tie.close
     (tie.spec
-    enum-told
-    slice-aggregate-put
-    put-requires
-    enum-known-answer
-    put-refusal-requires
-    same-length
+    (λ c. search needs)
+    (λ c. search needs)
+    (λ c κs. search needs)
+    (λ c. search needs)
+    (λ c κs. search needs)
+    (λ c. search needs)
     returns
-    same-length-2
+    (λ c. search needs)
     returns-2)

@@ -1,5 +1,5 @@
 -- `listing::put_failed` meets its contract: three pieces, one after another. Assumes nothing.
-use Prim.Native.Nat.{_+_, _-_, _≤_}
+use Prim.Native.Nat.{_+_, _-_}
 use mathlib.Core.List.{_++_}
 use native.Mathlib.Omega.{arith}
 use lib.ListN.{length}
@@ -7,7 +7,7 @@ use borrow.Author.Needs.{needs}
 use borrow.Rule.Slice.PartMut.{putMid}
 use Rattle.base.specs.Text.{text}
 use Rattle.listing.specs.Listing.{failed}
-use Rattle.base.proofs.Lists.{Written}
+use Rattle.base.proofs.Buffers.{Written}
 use Rattle.base.proofs.Text.{put-front, put-more, put-last, tail-fits, last-fits, front-fits}
 use Rattle.listing.proofs.put_failed.Statement.{statement}
 use Rattle.listing.proofs.put_failed.Tie as tie
@@ -32,9 +32,6 @@ sub-put c = after-first (c .before .before) .room
 part-put-start : tie.Need-part-put-start
 part-put-start c = omega (arith, after-first (c .before .before) .room)
 
-part-put-end : tie.Need-part-put-end
-part-put-end c = search needs
-
 put-requires-2 : tie.Need-put-requires-2
 unfolding text
 put-requires-2 c κs =
@@ -58,18 +55,9 @@ sub-put-2 c = after-second (c .before .before) .room
 part-put-start-2 : tie.Need-part-put-start-2
 part-put-start-2 c = omega (arith, after-second (c .before .before) .room)
 
-part-put-end-2 : tie.Need-part-put-end-2
-part-put-end-2 c = search needs
-
-slice-aggregate-put : tie.Need-slice-aggregate-put
-slice-aggregate-put c = search needs
-
 put-requires-3 : tie.Need-put-requires-3
 unfolding text
 put-requires-3 c κs = last-fits (after-second (c .before .before .before .before)) (c .before .before .before .before .before .before .before .before .before .before .before .before .before .pre)
-
-same-length : tie.Need-same-length
-same-length c = search needs
 
 returns : tie.Need-returns
 unfolding text
@@ -87,14 +75,14 @@ put-failed-spec =
     put-requires
     sub-put
     part-put-start
-    part-put-end
+    (λ c. search needs)
     put-requires-2
     add-at
     sub-put-2
     part-put-start-2
-    part-put-end-2
-    slice-aggregate-put
+    (λ c. search needs)
+    (λ c. search needs)
     put-requires-3
     add-result
-    same-length
+    (λ c. search needs)
     returns)

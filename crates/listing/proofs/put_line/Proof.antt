@@ -1,9 +1,8 @@
 -- `listing::put_line` meets its contract. Assumes nothing.
-use mathlib.Core.List.{_++_}
 use native.Mathlib.Omega.{arith}
 use borrow.Author.Needs.{needs}
 use Rattle.base.specs.Text.{text}
-use Rattle.base.proofs.Lists.{Written}
+use Rattle.base.proofs.Buffers.{Written}
 use Rattle.base.proofs.Text.{put-front, put-last, last-fits, front-fits}
 use Rattle.listing.specs.Listing.{named, line}
 use Rattle.listing.proofs.put_line.Statement.{statement}
@@ -28,18 +27,9 @@ sub-put c = after-named (c .before .before) .room
 part-put-start : tie.Need-part-put-start
 part-put-start c = omega (arith, after-named (c .before .before) .room)
 
-part-put-end : tie.Need-part-put-end
-part-put-end c = search needs
-
-slice-aggregate-put : tie.Need-slice-aggregate-put
-slice-aggregate-put c = search needs
-
 put-requires : tie.Need-put-requires
 unfolding text
 put-requires c κs = last-fits (after-named (c .before .before .before .before)) (c .before .before .before .before .before .before .before .before .pre)
-
-same-length : tie.Need-same-length
-same-length c = search needs
 
 returns : tie.Need-returns
 unfolding text
@@ -57,9 +47,9 @@ put-line-spec =
     put-named-requires
     sub-put
     part-put-start
-    part-put-end
-    slice-aggregate-put
+    (λ c. search needs)
+    (λ c. search needs)
     put-requires
     add-result
-    same-length
+    (λ c. search needs)
     returns)

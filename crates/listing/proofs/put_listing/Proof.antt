@@ -1,11 +1,9 @@
 -- `listing::put_listing` meets its contract: the lines of the segments, then the results. Assumes nothing.
 use Prim.Native.Nat.{_≤_, min}
-use mathlib.Core.List.{_++_}
-use mathlib.Core.Path.{_≡_, sym}
 use native.Mathlib.Omega.{arith}
 use lib.ListN.{length}
 use borrow.Author.Needs.{needs}
-use Rattle.base.proofs.Lists.{Written}
+use Rattle.base.proofs.Buffers.{Written}
 use Rattle.base.proofs.Text.{put-front, put-last, last-fits, front-fits}
 use Rattle.listing.specs.Listing.{segmentLines, results, listing}
 use Rattle.listing.proofs.Laws.{listing-few}
@@ -18,9 +16,6 @@ fits s = omega (arith, listing-few (s .args .p) (s .args .n))
 front : (s : tie.Start) → length (segmentLines (min (s .args .n) 64) 1 (s .args .p .strategies)) ≤ length (s .args .out .now)
 unfolding listing
 front s = front-fits (segmentLines (min (s .args .n) 64) 1 (s .args .p .strategies)) (results (s .args .p)) (fits s)
-
-at-most-64-requires : tie.Need-at-most-64-requires
-at-most-64-requires c κs = search needs
 
 put-segment-lines-requires : tie.Need-put-segment-lines-requires
 put-segment-lines-requires c κs = (omega arith, rw (c .at-most-64 .ensures) (front (c .before .before .before .before)))
@@ -38,14 +33,8 @@ sub-put-results c = after-segments (c .before .before) .room
 part-put-results-start : tie.Need-part-put-results-start
 part-put-results-start c = omega (arith, after-segments (c .before .before) .room)
 
-part-put-results-end : tie.Need-part-put-results-end
-part-put-results-end c = search needs
-
 put-results-requires : tie.Need-put-results-requires
 put-results-requires c κs = last-fits (after-segments (c .before .before .before)) (fits (c .before .before .before .before .before .before .before .before))
-
-same-length : tie.Need-same-length
-same-length c = search needs
 
 returns : tie.Need-returns
 returns c = put-last (after-segments (c .before .before .before .before .before .before)) (fits (c .before .before .before .before .before .before .before .before .before .before .before)) (c .before .before .put-results .ensures)
@@ -59,12 +48,12 @@ pub put-listing-spec : {M : Type 1} → statement M
 put-listing-spec =
     tie.close
     (tie.spec
-    at-most-64-requires
+    (λ c κs. search needs)
     put-segment-lines-requires
     sub-put-results
     part-put-results-start
-    part-put-results-end
+    (λ c. search needs)
     put-results-requires
     add-result
-    same-length
+    (λ c. search needs)
     returns)

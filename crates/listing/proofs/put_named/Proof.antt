@@ -1,9 +1,8 @@
 -- `listing::put_named` meets its contract. Assumes nothing.
-use mathlib.Core.List.{_++_}
 use native.Mathlib.Omega.{arith}
 use borrow.Author.Needs.{needs}
 use Rattle.base.specs.Text.{decimal}
-use Rattle.base.proofs.Lists.{Written}
+use Rattle.base.proofs.Buffers.{Written}
 use Rattle.base.proofs.Text.{put-front, put-last, last-fits, front-fits}
 use Rattle.listing.specs.Listing.{named}
 use Rattle.listing.proofs.put_named.Statement.{statement}
@@ -27,14 +26,8 @@ sub-put-number c = after-word (c .before .before) .room
 part-put-number-start : tie.Need-part-put-number-start
 part-put-number-start c = omega (arith, after-word (c .before .before) .room)
 
-part-put-number-end : tie.Need-part-put-number-end
-part-put-number-end c = search needs
-
 put-number-requires : tie.Need-put-number-requires
 put-number-requires c κs = last-fits (after-word (c .before .before .before)) (c .before .before .before .before .before .before .before .pre)
-
-same-length : tie.Need-same-length
-same-length c = search needs
 
 returns : tie.Need-returns
 returns c = put-last (after-word (c .before .before .before .before .before .before)) (c .before .before .before .before .before .before .before .before .before .before .pre) (c .before .before .put-number .ensures)
@@ -51,8 +44,8 @@ put-named-spec =
     put-requires
     sub-put-number
     part-put-number-start
-    part-put-number-end
+    (λ c. search needs)
     put-number-requires
     add-result
-    same-length
+    (λ c. search needs)
     returns)

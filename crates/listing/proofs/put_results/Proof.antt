@@ -1,5 +1,5 @@
 -- `listing::put_results` meets its contract: three pieces, one after another. Assumes nothing.
-use Prim.Native.Nat.{_+_, _-_, _≤_}
+use Prim.Native.Nat.{_+_, _-_}
 use mathlib.Core.List.{_++_}
 use native.Mathlib.Omega.{arith}
 use lib.ListN.{length}
@@ -7,13 +7,10 @@ use borrow.Author.Needs.{needs}
 use borrow.Rule.Slice.PartMut.{putMid}
 use Rattle.base.specs.Text.{text}
 use Rattle.listing.specs.Listing.{line, stepsLine, results}
-use Rattle.base.proofs.Lists.{Written}
+use Rattle.base.proofs.Buffers.{Written}
 use Rattle.base.proofs.Text.{put-front, put-more, put-last, tail-fits, last-fits, front-fits}
 use Rattle.listing.proofs.put_results.Statement.{statement}
 use Rattle.listing.proofs.put_results.Tie as tie
-
-slice-aggregate-put-line : tie.Need-slice-aggregate-put-line
-slice-aggregate-put-line c = search needs
 
 put-line-requires : tie.Need-put-line-requires
 unfolding results text
@@ -34,12 +31,6 @@ sub-put-line c = after-first (c .before .before) .room
 
 part-put-line-start : tie.Need-part-put-line-start
 part-put-line-start c = omega (arith, after-first (c .before .before) .room)
-
-part-put-line-end : tie.Need-part-put-line-end
-part-put-line-end c = search needs
-
-slice-aggregate-put-line-2 : tie.Need-slice-aggregate-put-line-2
-slice-aggregate-put-line-2 c = search needs
 
 put-line-requires-2 : tie.Need-put-line-requires-2
 unfolding text
@@ -64,15 +55,9 @@ sub-put-steps-line c = after-second (c .before .before) .room
 part-put-steps-line-start : tie.Need-part-put-steps-line-start
 part-put-steps-line-start c = omega (arith, after-second (c .before .before) .room)
 
-part-put-steps-line-end : tie.Need-part-put-steps-line-end
-part-put-steps-line-end c = search needs
-
 put-steps-line-requires : tie.Need-put-steps-line-requires
 unfolding text
 put-steps-line-requires c κs = last-fits (after-second (c .before .before .before)) (c .before .before .before .before .before .before .before .before .before .before .before .before .pre)
-
-same-length : tie.Need-same-length
-same-length c = search needs
 
 returns : tie.Need-returns
 unfolding text
@@ -87,18 +72,18 @@ pub put-results-spec : {M : Type 1} → statement M
 put-results-spec =
     tie.close
     (tie.spec
-    slice-aggregate-put-line
+    (λ c. search needs)
     put-line-requires
     sub-put-line
     part-put-line-start
-    part-put-line-end
-    slice-aggregate-put-line-2
+    (λ c. search needs)
+    (λ c. search needs)
     put-line-requires-2
     add-at
     sub-put-steps-line
     part-put-steps-line-start
-    part-put-steps-line-end
+    (λ c. search needs)
     put-steps-line-requires
     add-result
-    same-length
+    (λ c. search needs)
     returns)

@@ -1,10 +1,9 @@
 -- `listing::put_segment_line` meets its contract: two pieces, one after the other. Assumes nothing.
-use mathlib.Core.List.{_++_}
 use native.Mathlib.Omega.{arith}
 use borrow.Author.Needs.{needs}
 use Rattle.base.specs.Text.{text, decimal}
 use Rattle.listing.specs.Listing.{line, segmentLine}
-use Rattle.base.proofs.Lists.{Written}
+use Rattle.base.proofs.Buffers.{Written}
 use Rattle.base.proofs.Text.{put-front, put-last, last-fits, front-fits}
 use Rattle.listing.proofs.put_segment_line.Statement.{statement}
 use Rattle.listing.proofs.put_segment_line.Tie as tie
@@ -29,18 +28,9 @@ sub-put-line c = after-first (c .before .before) .room
 part-put-line-start : tie.Need-part-put-line-start
 part-put-line-start c = omega (arith, after-first (c .before .before) .room)
 
-part-put-line-end : tie.Need-part-put-line-end
-part-put-line-end c = search needs
-
-slice-aggregate-put-line : tie.Need-slice-aggregate-put-line
-slice-aggregate-put-line c = search needs
-
 put-line-requires : tie.Need-put-line-requires
 unfolding text
 put-line-requires c κs = last-fits (after-first (c .before .before .before .before)) (c .before .before .before .before .before .before .before .pre)
-
-same-length : tie.Need-same-length
-same-length c = search needs
 
 returns : tie.Need-returns
 unfolding text
@@ -58,9 +48,9 @@ put-segment-line-spec =
     put-number-requires
     sub-put-line
     part-put-line-start
-    part-put-line-end
-    slice-aggregate-put-line
+    (λ c. search needs)
+    (λ c. search needs)
     put-line-requires
     add-result
-    same-length
+    (λ c. search needs)
     returns)

@@ -1,13 +1,13 @@
 -- `listing::put_segment_lines` meets its contract: what is written and what is to come is the whole. Assumes nothing.
 use Prim.Native.Nat.{ℕ, suc, _+_, _-_, _≤_, _<_}
 use mathlib.Core.List.{List, _++_}
-use mathlib.Core.Path.{_≡_, ap}
+use mathlib.Core.Path.{_≡_}
 use native.Mathlib.Nat.{sub-zero}
 use native.Mathlib.Omega.{arith}
 use lib.ListN.{length, getD}
 use borrow.Author.Needs.{needs}
 use borrow.Rule.Slice.PartMut.{putMid}
-use Rattle.base.proofs.Lists.{Written, written-none}
+use Rattle.base.proofs.Buffers.{Written, written-none}
 use Rattle.base.proofs.Text.{put-all, put-more, tail-fits}
 use Rattle.listing.specs.Listing.{segmentLine, segmentLines}
 use Rattle.listing.proofs.put_segment_lines.Statement.{statement}
@@ -42,18 +42,6 @@ sub-put-segment-line c = c .before .loop .inv .1 .room
 part-put-segment-line-start : tie.Need-part-put-segment-line-start Inv-loop μ-loop
 part-put-segment-line-start c = omega (arith, c .before .loop .inv .1 .room)
 
-part-put-segment-line-end : tie.Need-part-put-segment-line-end Inv-loop μ-loop
-part-put-segment-line-end c = search needs
-
-add-put-segment-line : tie.Need-add-put-segment-line Inv-loop μ-loop
-add-put-segment-line c = search needs
-
-mul-put-segment-line : tie.Need-mul-put-segment-line Inv-loop μ-loop
-mul-put-segment-line c = search needs
-
-array-read-put-segment-line : tie.Need-array-read-put-segment-line Inv-loop μ-loop
-array-read-put-segment-line c = search needs
-
 put-segment-line-requires : tie.Need-put-segment-line-requires Inv-loop μ-loop
 put-segment-line-requires c κs =
     let l = c .before .before .loop in
@@ -70,12 +58,6 @@ add-at : tie.Need-add-at Inv-loop μ-loop
 add-at c =
     let w = more c in
     omega (arith, w .room, w .same, c .before .before .before .before .before .before .before .good)
-
-add-i : tie.Need-add-i Inv-loop μ-loop
-add-i c = search needs
-
-loop-less : tie.Need-loop-less Inv-loop μ-loop
-loop-less c = search needs
 
 loop-again : tie.Need-loop-again Inv-loop μ-loop
 loop-again c = (omega arith, more c)
@@ -100,14 +82,14 @@ put-segment-lines-spec =
     loop-holds
     sub-put-segment-line
     part-put-segment-line-start
-    part-put-segment-line-end
-    add-put-segment-line
-    mul-put-segment-line
-    array-read-put-segment-line
+    (λ c. search needs)
+    (λ c. search needs)
+    (λ c. search needs)
+    (λ c. search needs)
     put-segment-line-requires
     add-at
-    add-i
-    loop-less
+    (λ c. search needs)
+    (λ c. search needs)
     loop-again
     same-length
     returns)

@@ -1,5 +1,5 @@
 -- `listing::put_steps_line` meets its contract: three pieces, one after another. Assumes nothing.
-use Prim.Native.Nat.{_+_, _-_, _≤_}
+use Prim.Native.Nat.{_+_, _-_}
 use mathlib.Core.List.{_++_}
 use native.Mathlib.Omega.{arith}
 use lib.ListN.{length}
@@ -7,13 +7,10 @@ use borrow.Author.Needs.{needs}
 use borrow.Rule.Slice.PartMut.{putMid}
 use Rattle.base.specs.Text.{text}
 use Rattle.listing.specs.Listing.{named, line, stepsLine}
-use Rattle.base.proofs.Lists.{Written}
+use Rattle.base.proofs.Buffers.{Written}
 use Rattle.base.proofs.Text.{put-front, put-more, put-last, tail-fits, last-fits, front-fits}
 use Rattle.listing.proofs.put_steps_line.Statement.{statement}
 use Rattle.listing.proofs.put_steps_line.Tie as tie
-
-slice-aggregate-put-named : tie.Need-slice-aggregate-put-named
-slice-aggregate-put-named c = search needs
 
 put-named-requires : tie.Need-put-named-requires
 unfolding stepsLine text
@@ -34,12 +31,6 @@ sub-put-named c = after-first (c .before .before) .room
 
 part-put-named-start : tie.Need-part-put-named-start
 part-put-named-start c = omega (arith, after-first (c .before .before) .room)
-
-part-put-named-end : tie.Need-part-put-named-end
-part-put-named-end c = search needs
-
-slice-aggregate-put-named-2 : tie.Need-slice-aggregate-put-named-2
-slice-aggregate-put-named-2 c = search needs
 
 put-named-requires-2 : tie.Need-put-named-requires-2
 unfolding text
@@ -64,18 +55,9 @@ sub-put-line c = after-second (c .before .before) .room
 part-put-line-start : tie.Need-part-put-line-start
 part-put-line-start c = omega (arith, after-second (c .before .before) .room)
 
-part-put-line-end : tie.Need-part-put-line-end
-part-put-line-end c = search needs
-
-slice-aggregate-put-line : tie.Need-slice-aggregate-put-line
-slice-aggregate-put-line c = search needs
-
 put-line-requires : tie.Need-put-line-requires
 unfolding text
 put-line-requires c κs = last-fits (after-second (c .before .before .before .before)) (c .before .before .before .before .before .before .before .before .before .before .before .before .before .pre)
-
-same-length : tie.Need-same-length
-same-length c = search needs
 
 returns : tie.Need-returns
 unfolding text
@@ -90,19 +72,19 @@ pub put-steps-line-spec : {M : Type 1} → statement M
 put-steps-line-spec =
     tie.close
     (tie.spec
-    slice-aggregate-put-named
+    (λ c. search needs)
     put-named-requires
     sub-put-named
     part-put-named-start
-    part-put-named-end
-    slice-aggregate-put-named-2
+    (λ c. search needs)
+    (λ c. search needs)
     put-named-requires-2
     add-at
     sub-put-line
     part-put-line-start
-    part-put-line-end
-    slice-aggregate-put-line
+    (λ c. search needs)
+    (λ c. search needs)
     put-line-requires
     add-result
-    same-length
+    (λ c. search needs)
     returns)

@@ -1,6 +1,6 @@
 -- `panel::export` meets its contract. Assumes nothing.
 use native.Mathlib.Omega.{arith}
-use mathlib.Core.Path.{_≡_, refl, sym, _∙_}
+use mathlib.Core.Path.{refl, sym}
 use lib.ListN.{length}
 use lib.Seq.{length-take-le}
 use Prim.Native.Nat.{_≤_}
@@ -9,15 +9,6 @@ use Rattle.panel.proofs.Laws.{export-fits}
 use borrow.Author.Needs.{needs}
 use Rattle.panel.proofs.export.Statement.{statement}
 use Rattle.panel.proofs.export.Tie as tie
-
-slice-aggregate-export : tie.Need-slice-aggregate-export
-slice-aggregate-export c = search needs
-
-export-requires : tie.Need-export-requires
-export-requires c κs = search needs
-
-enum-known-answer : tie.Need-enum-known-answer
-enum-known-answer c = search needs
 
 fits : (c : tie.After-known-told) → c .before .answer .given .0 .0 ≤ length (c .before .before .before .before .export .last .1 .0)
 fits c =
@@ -30,32 +21,8 @@ array-share-prefix-file c = fits c
 slice-aggregate-save : tie.Need-slice-aggregate-save
 slice-aggregate-save c = sym (length-take-le _ _ (fits (c .before)))
 
-save-requires : tie.Need-save-requires
-save-requires c κs = search needs
-
-slice-aggregate-failed : tie.Need-slice-aggregate-failed
-slice-aggregate-failed c = search needs
-
-failed-requires : tie.Need-failed-requires
-failed-requires c κs = search needs
-
-same-length : tie.Need-same-length
-same-length c = search needs
-
 returns : tie.Need-returns
 returns c = let f = c .before .before .failed .ensures in (f .0, (put-within (f .1), put-part (f .1)))
-
-enum-told : tie.Need-enum-told
-enum-told c = search needs
-
-slice-aggregate-put-valued : tie.Need-slice-aggregate-put-valued
-slice-aggregate-put-valued c = search needs
-
-put-valued-requires : tie.Need-put-valued-requires
-put-valued-requires c κs = search needs
-
-same-length-2 : tie.Need-same-length-2
-same-length-2 c = search needs
 
 returns-2 : tie.Need-returns-2
 returns-2 c = let p = c .before .before .put-valued .ensures in (refl, (put-within p, put-part p))
@@ -64,18 +31,18 @@ pub export-spec : {M : Type 1} → statement M
 export-spec =
     tie.close
     (tie.spec
-    slice-aggregate-export
-    export-requires
-    enum-known-answer
+    (λ c. search needs)
+    (λ c κs. search needs)
+    (λ c. search needs)
     array-share-prefix-file
     slice-aggregate-save
-    save-requires
-    slice-aggregate-failed
-    failed-requires
-    same-length
+    (λ c κs. search needs)
+    (λ c. search needs)
+    (λ c κs. search needs)
+    (λ c. search needs)
     returns
-    enum-told
-    slice-aggregate-put-valued
-    put-valued-requires
-    same-length-2
+    (λ c. search needs)
+    (λ c. search needs)
+    (λ c κs. search needs)
+    (λ c. search needs)
     returns-2)

@@ -8,11 +8,5 @@ use Rattle.panel.proofs.failed.Tie as tie
 put-failed-requires : tie.Need-put-failed-requires
 put-failed-requires c κs = let a = c .before .before .before .before .args in omega (arith, failed-length (a .what .now) (a .path .now))
 
-same-length : tie.Need-same-length
-same-length c = search needs
-
-returns : tie.Need-returns
-returns c = search needs
-
 pub failed-spec : {M : Type 1} → statement M
-failed-spec = tie.close (tie.spec put-failed-requires same-length returns)
+failed-spec = tie.close (tie.spec put-failed-requires (λ c. search needs) (λ c. search needs))

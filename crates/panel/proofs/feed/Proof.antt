@@ -18,9 +18,6 @@ abbrev μ-loop : tie.MeasureT-loop
 loop-holds : tie.Need-loop-holds Inv-loop μ-loop
 loop-holds c = (omega arith, omega (arith, c .before .before .pre), refl)
 
-shared-slice-read-if1 : tie.Need-shared-slice-read-if1 Inv-loop μ-loop
-shared-slice-read-if1 c = search needs
-
 slice-reshare-prefix-answer : tie.Need-slice-reshare-prefix-answer Inv-loop μ-loop
 slice-reshare-prefix-answer c = c .before .before .before .loop .inv .1
 
@@ -30,17 +27,8 @@ slice-aggregate-answer c = sym (length-take-le _ _ (c .before .before .before .b
 answer-requires : tie.Need-answer-requires Inv-loop μ-loop
 answer-requires c κs = let l = c .before .before .before .before .loop in omega (arith, length-take-le (l .length) (l .line) (l .inv .1), l .inv .2, c .before .before .before .before .before .before .before .pre)
 
-shared-slice-read-keep : tie.Need-shared-slice-read-keep Inv-loop μ-loop
-shared-slice-read-keep c = search needs
-
 keep-requires : tie.Need-keep-requires Inv-loop μ-loop
 keep-requires c κs = c .before .before .before .before .before .loop .inv .1
-
-add-i : tie.Need-add-i Inv-loop μ-loop
-add-i c = search needs
-
-loop-less : tie.Need-loop-less Inv-loop μ-loop
-loop-less c = search needs
 
 loop-again : tie.Need-loop-again Inv-loop μ-loop
 loop-again c =
@@ -63,14 +51,14 @@ feed-spec =
     Inv-loop
     μ-loop
     loop-holds
-    shared-slice-read-if1
+    (λ c. search needs)
     slice-reshare-prefix-answer
     slice-aggregate-answer
     answer-requires
-    shared-slice-read-keep
+    (λ c. search needs)
     keep-requires
-    add-i
-    loop-less
+    (λ c. search needs)
+    (λ c. search needs)
     loop-again
     same-length
     returns)

@@ -14,44 +14,14 @@ Inv-loop unit₀ line₀ n₀ turns₀ unit line n turns = (length line ≡ 513)
 abbrev μ-loop : tie.MeasureT-loop
 μ-loop unit₀ line₀ n₀ turns₀ unit line n turns = turns
 
-fresh-requires : tie.Need-fresh-requires Inv-loop μ-loop
-fresh-requires c κs = tt
-
 loop-holds : tie.Need-loop-holds Inv-loop μ-loop
 loop-holds c = (refl, omega arith)
-
-buffer-requires : tie.Need-buffer-requires Inv-loop μ-loop
-buffer-requires c κs = tt
-
-slice-aggregate-read : tie.Need-slice-aggregate-read Inv-loop μ-loop
-slice-aggregate-read c = search needs
-
-read-requires : tie.Need-read-requires Inv-loop μ-loop
-read-requires c κs = tt
-
-slice-aggregate-count : tie.Need-slice-aggregate-count Inv-loop μ-loop
-slice-aggregate-count c = search needs
-
-count-requires : tie.Need-count-requires Inv-loop μ-loop
-count-requires c κs = tt
 
 slice-aggregate-feed : tie.Need-slice-aggregate-feed Inv-loop μ-loop
 slice-aggregate-feed c = sym (c .before .before .before .before .before .before .before .before .before .loop .inv .0)
 
-array-share-prefix-bytes : tie.Need-array-share-prefix-bytes Inv-loop μ-loop
-array-share-prefix-bytes c = search needs
-
-slice-aggregate-feed-2 : tie.Need-slice-aggregate-feed-2 Inv-loop μ-loop
-slice-aggregate-feed-2 c = search needs
-
 feed-requires : tie.Need-feed-requires Inv-loop μ-loop
 feed-requires c κs = omega (arith, c .before .before .before .before .before .before .before .before .before .before .loop .inv .0, c .before .before .before .before .before .before .before .before .before .before .loop .inv .1)
-
-sub-turns : tie.Need-sub-turns Inv-loop μ-loop
-sub-turns c = search needs
-
-loop-less : tie.Need-loop-less Inv-loop μ-loop
-loop-less c = search needs
 
 loop-again : tie.Need-loop-again Inv-loop μ-loop
 loop-again c =
@@ -71,34 +41,28 @@ slice-aggregate-answer c = sym (length-take-le _ _ (last-line (c .before .before
 answer-requires : tie.Need-answer-requires Inv-loop μ-loop
 answer-requires c κs = let l = c .before .before .before .loop in omega (arith, length-take-le (l .length) (l .line) (last-line (c .before .before .before)), l .inv .1)
 
-returns : tie.Need-returns Inv-loop μ-loop
-returns c = tt
-
-returns-2 : tie.Need-returns-2 Inv-loop μ-loop
-returns-2 c = tt
-
 pub main-spec : {M : Type 1} → statement M
 main-spec =
     tie.close
     (tie.spec
     Inv-loop
     μ-loop
-    fresh-requires
+    (λ c κs. tt)
     loop-holds
-    buffer-requires
-    slice-aggregate-read
-    read-requires
-    slice-aggregate-count
-    count-requires
+    (λ c κs. tt)
+    (λ c. search needs)
+    (λ c κs. tt)
+    (λ c. search needs)
+    (λ c κs. tt)
     slice-aggregate-feed
-    array-share-prefix-bytes
-    slice-aggregate-feed-2
+    (λ c. search needs)
+    (λ c. search needs)
     feed-requires
-    sub-turns
-    loop-less
+    (λ c. search needs)
+    (λ c. search needs)
     loop-again
     array-share-prefix-line
     slice-aggregate-answer
     answer-requires
-    returns
-    returns-2)
+    (λ c. tt)
+    (λ c. tt))

@@ -22,24 +22,6 @@ abbrev μ-loop : tie.MeasureT-loop
 loop-holds : tie.Need-loop-holds Inv-loop μ-loop
 loop-holds c = (search needs, search needs, each-none _)
 
-add-top-candidate : tie.Need-add-top-candidate Inv-loop μ-loop
-add-top-candidate c = search needs
-
-top-candidate-requires : tie.Need-top-candidate-requires Inv-loop μ-loop
-top-candidate-requires c κs = search needs
-
-mul-choice : tie.Need-mul-choice Inv-loop μ-loop
-mul-choice c = search needs
-
-slice-write-choice : tie.Need-slice-write-choice Inv-loop μ-loop
-slice-write-choice c = search needs
-
-add-i : tie.Need-add-i Inv-loop μ-loop
-add-i c = search needs
-
-loop-less : tie.Need-loop-less Inv-loop μ-loop
-loop-less c = search needs
-
 loop-again : tie.Need-loop-again Inv-loop μ-loop
 loop-again c = let l = c .before .before .loop in
     let e : l .i + 1 - 1 ≡ l .i = omega arith in (
@@ -52,9 +34,6 @@ loop-again c = let l = c .before .before .loop in
           (λ u m. rw e (getD-set-same (l .choice) (l .i) _ 0 (omega arith) ∙ c .top-candidate .ensures u m)),
     )
 
-same-length : tie.Need-same-length Inv-loop μ-loop
-same-length c = search needs
-
 returns : tie.Need-returns Inv-loop μ-loop
 returns c = λ u l. start-is _ _ (c .before .loop .inv .1) (λ k lk hk. c .before .loop .inv .2 k lk (omega arith) u l)
 
@@ -65,12 +44,12 @@ choose-tops-spec =
     Inv-loop
     μ-loop
     loop-holds
-    add-top-candidate
-    top-candidate-requires
-    mul-choice
-    slice-write-choice
-    add-i
-    loop-less
+    (λ c. search needs)
+    (λ c κs. search needs)
+    (λ c. search needs)
+    (λ c. search needs)
+    (λ c. search needs)
+    (λ c. search needs)
     loop-again
-    same-length
+    (λ c. search needs)
     returns)

@@ -17,32 +17,8 @@ Inv-loop benefits i a next₀ gain₀ strategies old k₀ next gain k =
 abbrev μ-loop : tie.MeasureT-loop
 μ-loop benefits i a next₀ gain₀ strategies old k₀ next gain k = strategies - k
 
-benefit-requires : tie.Need-benefit-requires Inv-loop μ-loop
-benefit-requires c κs = search needs
-
 loop-holds : tie.Need-loop-holds Inv-loop μ-loop
 loop-holds c = (search needs, next-none _ _ _)
-
-add-benefit : tie.Need-add-benefit Inv-loop μ-loop
-add-benefit c = search needs
-
-benefit-requires-2 : tie.Need-benefit-requires-2 Inv-loop μ-loop
-benefit-requires-2 c κs = search needs
-
-add-comes-after : tie.Need-add-comes-after Inv-loop μ-loop
-add-comes-after c = search needs
-
-comes-after-requires : tie.Need-comes-after-requires Inv-loop μ-loop
-comes-after-requires c κs = search needs
-
-add-next : tie.Need-add-next Inv-loop μ-loop
-add-next c = search needs
-
-add-k : tie.Need-add-k Inv-loop μ-loop
-add-k c = search needs
-
-loop-less : tie.Need-loop-less Inv-loop μ-loop
-loop-less c = search needs
 
 loop-again : tie.Need-loop-again Inv-loop μ-loop
 loop-again c =
@@ -67,14 +43,14 @@ next-candidate-spec =
     (tie.spec
     Inv-loop
     μ-loop
-    benefit-requires
+    (λ c κs. search needs)
     loop-holds
-    add-benefit
-    benefit-requires-2
-    add-comes-after
-    comes-after-requires
-    add-next
-    add-k
-    loop-less
+    (λ c. search needs)
+    (λ c κs. search needs)
+    (λ c. search needs)
+    (λ c κs. search needs)
+    (λ c. search needs)
+    (λ c. search needs)
+    (λ c. search needs)
     loop-again
     returns)

@@ -20,15 +20,6 @@ abbrev μ-loop : tie.MeasureT-loop
 loop-holds : tie.Need-loop-holds Inv-loop μ-loop
 loop-holds c = (search needs, sum-none _)
 
-mul-beyond : tie.Need-mul-beyond Inv-loop μ-loop
-mul-beyond c = search needs
-
-element-copy-out-beyond : tie.Need-element-copy-out-beyond Inv-loop μ-loop
-element-copy-out-beyond c = search needs
-
-add-chosen-share : tie.Need-add-chosen-share Inv-loop μ-loop
-add-chosen-share c = search needs
-
 chosen-share-requires : tie.Need-chosen-share-requires Inv-loop μ-loop
 chosen-share-requires c κs = let s = c .before .before .before .before .before .before .before .before .before .before in
     ((s .pre .0 .shares .places, s .pre .0 .ready .chosen .places), (held-cell _ _ _ _ _ _ _ (s .pre .0) (s .args .i) (s .pre .1 .1 .0) (s .pre .1 .1 .1), search needs, omega (arith, s .pre .0 .ready .sound .resources)))
@@ -44,12 +35,6 @@ add-all c = let s = c .before .before .before .before .before .before .before .b
     let l = c .before .before .before .before .loop in
     let more = pull-turn (now (s .args .shares)) (now (s .args .choice)) (now (s .args .over)) (s .args .i) (l .r) (l .inv .1) (c .chosen-share .ensures) in
     omega (arith, pull-le _ _ _ _ _ _ _ (s .pre .0) _ (s .pre .1 .0) (s .args .i) (s .pre .1 .1 .0) (s .pre .1 .1 .1) (l .r + 1) (omega arith))
-
-add-r : tie.Need-add-r Inv-loop μ-loop
-add-r c = search needs
-
-loop-less : tie.Need-loop-less Inv-loop μ-loop
-loop-less c = search needs
 
 loop-again : tie.Need-loop-again Inv-loop μ-loop
 loop-again c = let a = c .before .before .before .before .before .before .before .before .before .before .args in
@@ -73,13 +58,13 @@ pull-of-spec =
     Inv-loop
     μ-loop
     loop-holds
-    mul-beyond
-    element-copy-out-beyond
-    add-chosen-share
+    (λ c. search needs)
+    (λ c. search needs)
+    (λ c. search needs)
     chosen-share-requires
     mul-all
     add-all
-    add-r
-    loop-less
+    (λ c. search needs)
+    (λ c. search needs)
     loop-again
     returns)

@@ -4,7 +4,6 @@ use mathlib.Core.Path.{sym, _∙_}
 use mathlib.Core.List.{[]}
 use native.Mathlib.Omega.{arith}
 use borrow.Author.Needs.{needs}
-use Rattle.tables.proofs.Laws.{gains-of}
 use Rattle.phase1.proofs.Laws.{Down, down-start, down-within, down-nobody, down-spent, down-next, weakest-inside, weakest-cell, next-le, bound-le}
 use Rattle.phase1.proofs.reduce.Statement.{statement}
 use Rattle.phase1.proofs.reduce.Tie as tie
@@ -45,9 +44,6 @@ same-length-4 c = c .before .before .before .before .before .before .before .bef
 returns-2 : tie.Need-returns-2 Inv-loop μ-loop
 returns-2 c = down-nobody _ _ _ _ _ _ _ _ _ (c .before .before .before .before .before .before .before .before .before .loop .inv) (c .before .before .before .before .before .limits-hold .ensures) (c .before .before .before .before .if1 .left) (c .before .weakest-of .ensures) (c .if2 .taken)
 
-sub-next-candidate : tie.Need-sub-next-candidate Inv-loop μ-loop
-sub-next-candidate c = omega arith
-
 mul-next-candidate : tie.Need-mul-next-candidate Inv-loop μ-loop
 mul-next-candidate c = omega (arith, weakest-cell _ _ _ _ _ _ _ _ _ (c .before .before .before .before .before .before .before .before .before .loop .inv) (c .before .before .before .before .before .limits-hold .ensures) (c .before .before .before .before .if1 .left) (c .before .weakest-of .ensures) (c .if2 .left) .high)
 
@@ -56,16 +52,13 @@ slice-read-next-candidate c = omega (arith, c .before .before .before .before .b
 
 next-candidate-requires : tie.Need-next-candidate-requires Inv-loop μ-loop
 next-candidate-requires c κs = let h = c .before .before .before .before .before .before .before .before .before .before .loop .inv .held .ready in
-    (gains-of _ _ _ _ (h .sound), (weakest-cell _ _ _ _ _ _ _ _ _ (c .before .before .before .before .before .before .before .before .before .before .loop .inv) (c .before .before .before .before .before .before .limits-hold .ensures) (c .before .before .before .before .before .if1 .left) (c .before .before .weakest-of .ensures) (c .before .if2 .left), h .chosen .numbers (c .before .before .weakest-of .result)))
+    (h .sound .gains, (weakest-cell _ _ _ _ _ _ _ _ _ (c .before .before .before .before .before .before .before .before .before .before .loop .inv) (c .before .before .before .before .before .before .limits-hold .ensures) (c .before .before .before .before .before .if1 .left) (c .before .before .weakest-of .ensures) (c .before .if2 .left), h .chosen .numbers (c .before .before .weakest-of .result)))
 
 make-one-requires : tie.Need-make-one-requires Inv-loop μ-loop
 make-one-requires c κs = (c .before .before .before .before .before .before .before .before .before .before .before .before .before .loop .inv .held .ready, (omega (arith, c .before .before .before .before .if2 .left), weakest-inside _ _ _ _ _ _ _ _ _ (c .before .before .before .before .before .before .before .before .before .before .before .before .before .loop .inv) (c .before .before .before .before .before .before .before .before .before .limits-hold .ensures) (c .before .before .before .before .before .before .before .before .if1 .left) (c .before .before .before .before .before .weakest-of .ensures), next-le _ _ _ _ _ _ (c .before .before .next-candidate .ensures [] [])))
 
 add-steps : tie.Need-add-steps Inv-loop μ-loop
 add-steps c = omega (arith, c .before .before .before .before .before .before .before .before .before .before .before .before .before .before .before .before .before .loop-test .taken, bound-le _ _ _ _ (c .before .before .before .before .before .before .before .before .before .before .before .before .before .before .before .before .before .before .before .before .before .before .before .before .before .before .pre .ready .sound))
-
-loop-less : tie.Need-loop-less Inv-loop μ-loop
-loop-less c = search needs
 
 loop-again : tie.Need-loop-again Inv-loop μ-loop
 loop-again c = down-next _ _ _ _ _ _ _ _ _ (c .before .before .before .before .before .before .before .before .before .before .before .before .before .before .before .before .before .before .loop .inv) (c .before .before .before .before .before .before .before .before .before .before .before .before .before .before .limits-hold .ensures) (c .before .before .before .before .before .before .before .before .before .before .before .before .before .if1 .left) (c .before .before .before .before .before .before .before .before .before .before .weakest-of .ensures) (c .before .before .before .before .before .before .before .before .before .if2 .left) (c .before .before .before .before .before .before .before .before .before .before .before .before .before .before .before .before .before .loop-test .taken) (c .before .before .before .before .before .before .before .next-candidate .ensures _ _) (c .before .before .before .before .make-one .ensures .0) (c .before .before .before .before .make-one .ensures .1)
@@ -95,13 +88,13 @@ reduce-spec =
     same-length-3
     same-length-4
     returns-2
-    sub-next-candidate
+    (λ c. omega arith)
     mul-next-candidate
     slice-read-next-candidate
     next-candidate-requires
     make-one-requires
     add-steps
-    loop-less
+    (λ c. search needs)
     loop-again
     same-length-5
     same-length-6

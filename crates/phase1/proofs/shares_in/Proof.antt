@@ -19,9 +19,6 @@ abbrev μ-loop : tie.MeasureT-loop
 loop-holds : tie.Need-loop-holds Inv-loop μ-loop
 loop-holds c = (search needs, sum-none _)
 
-add-chosen-share : tie.Need-add-chosen-share Inv-loop μ-loop
-add-chosen-share c = search needs
-
 chosen-share-requires : tie.Need-chosen-share-requires Inv-loop μ-loop
 chosen-share-requires c κs = let s = c .before .before .before .before .before .before .before .before in
     ((s .pre .0 .shares .places, s .pre .0 .ready .chosen .places), (held-cell _ _ _ _ _ _ _ (s .pre .0) (c .before .loop .i + 1) (omega arith) (omega arith), search needs, search needs))
@@ -31,12 +28,6 @@ add-all c = let s = c .before .before .before .before .before .before .before .b
     let l = c .before .before .loop in
     let more = sum-next (l .i) (heldShare (now (s .args .shares)) (now (s .args .choice)) (s .args .r)) (l .inv .1) in
     omega (arith, c .chosen-share .ensures, shares-le _ _ _ _ _ _ _ (s .pre .0) (s .args .r) (s .pre .1 .0) (s .pre .1 .1) (l .i + 1) (omega arith))
-
-add-i : tie.Need-add-i Inv-loop μ-loop
-add-i c = search needs
-
-loop-less : tie.Need-loop-less Inv-loop μ-loop
-loop-less c = search needs
 
 loop-again : tie.Need-loop-again Inv-loop μ-loop
 loop-again c = (search needs, rw (c .chosen-share .ensures) (sum-next _ _ (c .before .before .loop .inv .1)))
@@ -53,10 +44,10 @@ shares-in-spec =
     Inv-loop
     μ-loop
     loop-holds
-    add-chosen-share
+    (λ c. search needs)
     chosen-share-requires
     add-all
-    add-i
-    loop-less
+    (λ c. search needs)
+    (λ c. search needs)
     loop-again
     returns)

@@ -9,7 +9,6 @@ use lib.Seq.{getD-set-same, getD-set-other}
 use Rattle.base.proofs.All.{each-none, each-next}
 use Rattle.rules.specs.Phases.{used}
 use Rattle.tables.specs.Arrays.{tables}
-use Rattle.tables.proofs.Laws.{gains-of, uses-of}
 use Rattle.phase1.proofs.Laws.{start-chosen}
 use Rattle.phase1.proofs.start.Statement.{statement}
 use Rattle.phase1.proofs.start.Tie as tie
@@ -23,30 +22,15 @@ abbrev μ-loop : tie.MeasureT-loop
 
 choose-tops-requires : tie.Need-choose-tops-requires Inv-loop μ-loop
 choose-tops-requires c κs = let s = c .before .before .before .before .before .before in
-    (gains-of _ _ _ _ (s .pre .0), s .pre .0 .strategies, s .pre .1 .0)
+    (s .pre .0 .gains, s .pre .0 .strategies, s .pre .1 .0)
 
 loop-holds : tie.Need-loop-holds Inv-loop μ-loop
 loop-holds c = (search needs, c .before .before .before .before .before .before .before .before .before .pre .1 .1, each-none _)
 
-add-used-of : tie.Need-add-used-of Inv-loop μ-loop
-add-used-of c = search needs
-
 used-of-requires : tie.Need-used-of-requires Inv-loop μ-loop
 used-of-requires c κs = let s = c .before .before .before .before .before .before .before .before .before .before .before .before in
     let t = s .pre .0 in
-    ((t .segments, t .strategies, uses-of _ _ _ _ t, start-chosen _ _ _ _ (c .before .before .before .before .before .choose-tops .ensures (now (s .args .uses)) (now (s .args .limits)))), (search needs, omega (arith, t .resources)))
-
-mul-sums : tie.Need-mul-sums Inv-loop μ-loop
-mul-sums c = search needs
-
-slice-write-sums : tie.Need-slice-write-sums Inv-loop μ-loop
-slice-write-sums c = search needs
-
-add-r : tie.Need-add-r Inv-loop μ-loop
-add-r c = search needs
-
-loop-less : tie.Need-loop-less Inv-loop μ-loop
-loop-less c = search needs
+    ((t .segments, t .strategies, t .uses, start-chosen _ _ _ _ (c .before .before .before .before .before .choose-tops .ensures (now (s .args .uses)) (now (s .args .limits)))), (search needs, omega (arith, t .resources)))
 
 loop-again : tie.Need-loop-again Inv-loop μ-loop
 loop-again c = let s = c .before .before .before .before .before .before .before .before .before .before .before .before .before in
@@ -65,9 +49,6 @@ same-length : tie.Need-same-length Inv-loop μ-loop
 same-length c = let s = c .before .before .before .before .before .before .before .before .before .before .before in
     start-chosen _ _ _ _ (c .before .before .before .before .choose-tops .ensures (now (s .args .uses)) (now (s .args .limits))) .places ∙ sym (s .pre .1 .0)
 
-same-length-2 : tie.Need-same-length-2 Inv-loop μ-loop
-same-length-2 c = search needs
-
 returns : tie.Need-returns Inv-loop μ-loop
 returns c = let s = c .before .before .before .before .before .before .before .before .before .before .before in
     let l = c .before .loop in
@@ -84,13 +65,13 @@ start-spec =
     μ-loop
     choose-tops-requires
     loop-holds
-    add-used-of
+    (λ c. search needs)
     used-of-requires
-    mul-sums
-    slice-write-sums
-    add-r
-    loop-less
+    (λ c. search needs)
+    (λ c. search needs)
+    (λ c. search needs)
+    (λ c. search needs)
     loop-again
     same-length
-    same-length-2
+    (λ c. search needs)
     returns)

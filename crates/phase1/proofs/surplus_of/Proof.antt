@@ -7,24 +7,6 @@ use borrow.Author.Needs.{needs}
 use Rattle.phase1.proofs.surplus_of.Statement.{statement}
 use Rattle.phase1.proofs.surplus_of.Tie as tie
 
-sub-if1 : tie.Need-sub-if1
-sub-if1 c = search needs
-
-mul-if1 : tie.Need-mul-if1
-mul-if1 c = search needs
-
-shared-slice-read-if1 : tie.Need-shared-slice-read-if1
-shared-slice-read-if1 c = search needs
-
-sub-if1-2 : tie.Need-sub-if1-2
-sub-if1-2 c = search needs
-
-mul-if1-2 : tie.Need-mul-if1-2
-mul-if1-2 c = search needs
-
-shared-slice-read-if1-2 : tie.Need-shared-slice-read-if1-2
-shared-slice-read-if1-2 c = search needs
-
 returns : tie.Need-returns
 returns c = let s = c .before .before .before .before .before .before .before .before .before in
     sym (surplus-none _ _ _ _ _ _ _ (s .pre .0) (s .args .r) (s .pre .1 .0) (s .pre .1 .1) (c .if1 .taken))
@@ -37,9 +19,6 @@ returns-2 c = let s = c .before .before .before .before .before .before .before 
     let is = surplus-some _ _ _ _ _ _ _ (s .pre .0) (s .args .r) (s .pre .1 .0) (s .pre .1 .1) (c .before .before .if1 .left) in
     omega (arith, c .before .shares-in .ensures)
 
-sub-result : tie.Need-sub-result
-sub-result c = search needs
-
 returns-3 : tie.Need-returns-3
 returns-3 c = let s = c .before .before .before .before .before .before .before .before .before .before .before in
     rw (c .before .shares-in .ensures) (sym (surplus-some _ _ _ _ _ _ _ (s .pre .0) (s .args .r) (s .pre .1 .0) (s .pre .1 .1) (c .before .before .if1 .left)))
@@ -48,14 +27,14 @@ pub surplus-of-spec : {M : Type 1} → statement M
 surplus-of-spec =
     tie.close
     (tie.spec
-    sub-if1
-    mul-if1
-    shared-slice-read-if1
-    sub-if1-2
-    mul-if1-2
-    shared-slice-read-if1-2
+    (λ c. search needs)
+    (λ c. search needs)
+    (λ c. search needs)
+    (λ c. search needs)
+    (λ c. search needs)
+    (λ c. search needs)
     returns
     shares-in-requires
     returns-2
-    sub-result
+    (λ c. search needs)
     returns-3)

@@ -21,23 +21,8 @@ abbrev μ-loop : tie.MeasureT-loop
 loop-holds : tie.Need-loop-holds Inv-loop μ-loop
 loop-holds c = (search needs, refl, each-none _)
 
-add-surplus-of : tie.Need-add-surplus-of Inv-loop μ-loop
-add-surplus-of c = search needs
-
 surplus-of-requires : tie.Need-surplus-of-requires Inv-loop μ-loop
 surplus-of-requires c κs = (c .before .before .before .before .before .before .before .before .pre, search needs)
-
-mul-over : tie.Need-mul-over Inv-loop μ-loop
-mul-over c = search needs
-
-array-write-over : tie.Need-array-write-over Inv-loop μ-loop
-array-write-over c = search needs
-
-add-r : tie.Need-add-r Inv-loop μ-loop
-add-r c = search needs
-
-loop-less : tie.Need-loop-less Inv-loop μ-loop
-loop-less c = search needs
 
 loop-again : tie.Need-loop-again Inv-loop μ-loop
 loop-again c = let l = c .before .before .loop in
@@ -61,11 +46,11 @@ surpluses-spec =
     Inv-loop
     μ-loop
     loop-holds
-    add-surplus-of
+    (λ c. search needs)
     surplus-of-requires
-    mul-over
-    array-write-over
-    add-r
-    loop-less
+    (λ c. search needs)
+    (λ c. search needs)
+    (λ c. search needs)
+    (λ c. search needs)
     loop-again
     returns)

@@ -18,21 +18,6 @@ abbrev μ-loop : tie.MeasureT-loop
 loop-holds : tie.Need-loop-holds Inv-loop μ-loop
 loop-holds c = (search needs, top-none _ _)
 
-add-benefit : tie.Need-add-benefit Inv-loop μ-loop
-add-benefit c = search needs
-
-benefit-requires : tie.Need-benefit-requires Inv-loop μ-loop
-benefit-requires c κs = search needs
-
-add-top : tie.Need-add-top Inv-loop μ-loop
-add-top c = search needs
-
-add-j : tie.Need-add-j Inv-loop μ-loop
-add-j c = search needs
-
-loop-less : tie.Need-loop-less Inv-loop μ-loop
-loop-less c = search needs
-
 loop-again : tie.Need-loop-again Inv-loop μ-loop
 loop-again c =
     let led = c .before .before .before .loop .inv .1 in
@@ -47,4 +32,4 @@ returns c = λ u l. top-end _ _ u l _ (c .before .loop .inv .1) (omega arith)
 pub top-candidate-spec : {M : Type 1} → statement M
 top-candidate-spec =
     tie.close
-    (tie.spec Inv-loop μ-loop loop-holds add-benefit benefit-requires add-top add-j loop-less loop-again returns)
+    (tie.spec Inv-loop μ-loop loop-holds (λ c. search needs) (λ c κs. search needs) (λ c. search needs) (λ c. search needs) (λ c. search needs) loop-again returns)

@@ -21,9 +21,6 @@ abbrev μ-loop : tie.MeasureT-loop
 loop-holds : tie.Need-loop-holds Inv-loop μ-loop
 loop-holds c = (search needs, sum-none _)
 
-add-chosen-usage : tie.Need-add-chosen-usage Inv-loop μ-loop
-add-chosen-usage c = search needs
-
 chosen-usage-requires : tie.Need-chosen-usage-requires Inv-loop μ-loop
 chosen-usage-requires c κs = let p = c .before .before .before .before .pre .0 in
     let n = p .3 .numbers (c .before .loop .i + 1) in
@@ -34,12 +31,6 @@ add-so-far c = let s = c .before .before .before .before .before in
     let l = c .before .before .loop in
     let more = sum-next (l .i) (λ k. usageAt (now (s .args .uses)) k (strategyAt (now (s .args .choice)) k) (s .args .r)) (l .inv .1) in
     omega (arith, c .chosen-usage .ensures, used-le (now (s .args .uses)) (s .pre .0 .2) (now (s .args .choice)) (s .args .r) (l .i + 1) (omega arith))
-
-add-i : tie.Need-add-i Inv-loop μ-loop
-add-i c = search needs
-
-loop-less : tie.Need-loop-less Inv-loop μ-loop
-loop-less c = search needs
 
 loop-again : tie.Need-loop-again Inv-loop μ-loop
 loop-again c = (search needs, rw (c .chosen-usage .ensures) (sum-next _ _ (c .before .before .loop .inv .1)))
@@ -55,10 +46,10 @@ used-of-spec =
     Inv-loop
     μ-loop
     loop-holds
-    add-chosen-usage
+    (λ c. search needs)
     chosen-usage-requires
     add-so-far
-    add-i
-    loop-less
+    (λ c. search needs)
+    (λ c. search needs)
     loop-again
     returns)

@@ -1,7 +1,7 @@
 -- `phase1::weaker` meets its contract: it goes by cases as the rules do. Assumes nothing.
 use native.Mathlib.Omega.{arith}
 use Rattle.rules.specs.Phases.{chosenBenefit}
-use Rattle.tables.proofs.Laws.{benefit-lt, gains-of}
+use Rattle.tables.proofs.Laws.{benefit-lt}
 use Rattle.phase1.proofs.Laws.{held-cell, weak-idle, weak-first, weak-taken, weak-worse}
 use Rattle.phase1.proofs.weaker.Statement.{statement}
 use Rattle.phase1.proofs.weaker.Tie as tie
@@ -15,11 +15,11 @@ returns c = λ k e. weak-idle _ _ k (c .before .before .before .before .before .
 chosen-benefit-requires : tie.Need-chosen-benefit-requires
 chosen-benefit-requires c κs = let s = c .before .before .before .before .before .before .before .before in
     let h = s .pre .0 .ready in
-    ((gains-of _ _ _ _ (h .sound), h .chosen .places), held-cell _ _ _ _ _ _ _ (s .pre .0) (s .args .i) (s .pre .1 .1 .0) (s .pre .1 .1 .1))
+    ((h .sound .gains, h .chosen .places), held-cell _ _ _ _ _ _ _ (s .pre .0) (s .args .i) (s .pre .1 .1 .0) (s .pre .1 .1 .1))
 
 ratio-of-requires : tie.Need-ratio-of-requires
 ratio-of-requires c κs = let s = c .before .before .before .before .before .before .before .before .before in
-    (rw (c .chosen-benefit .ensures) (benefit-lt _ (gains-of _ _ _ _ (s .pre .0 .ready .sound)) _ _), omega (arith, c .before .if1 .left))
+    (rw (c .chosen-benefit .ensures) (benefit-lt _ (s .pre .0 .ready .sound .gains) _ _), omega (arith, c .before .if1 .left))
 
 returns-2 : tie.Need-returns-2
 unfolding chosenBenefit

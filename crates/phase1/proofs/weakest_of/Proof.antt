@@ -22,17 +22,8 @@ surpluses-requires c κs = c .before .before .before .before .before .before .pr
 loop-holds : tie.Need-loop-holds Inv-loop μ-loop
 loop-holds c = (search needs, weakest-none _ _ _ _ _)
 
-add-weaker : tie.Need-add-weaker Inv-loop μ-loop
-add-weaker c = search needs
-
 weaker-requires : tie.Need-weaker-requires Inv-loop μ-loop
 weaker-requires c κs = (c .before .before .before .before .before .before .before .before .before .before .pre, (c .before .before .before .surpluses .ensures, (search needs, search needs)))
-
-add-k : tie.Need-add-k Inv-loop μ-loop
-add-k c = search needs
-
-loop-less : tie.Need-loop-less Inv-loop μ-loop
-loop-less c = search needs
 
 loop-again : tie.Need-loop-again Inv-loop μ-loop
 loop-again c = (search needs, weakest-next _ _ _ (c .weaker .ensures _ (c .before .before .before .loop .inv .1)))
@@ -48,9 +39,9 @@ weakest-of-spec =
     μ-loop
     surpluses-requires
     loop-holds
-    add-weaker
+    (λ c. search needs)
     weaker-requires
-    add-k
-    loop-less
+    (λ c. search needs)
+    (λ c. search needs)
     loop-again
     returns)

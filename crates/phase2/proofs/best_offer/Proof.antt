@@ -5,7 +5,7 @@ use native.Mathlib.Omega.{arith}
 use borrow.Author.Needs.{needs}
 use Rattle.base.proofs.Best.{Leads}
 use Rattle.rules.specs.Phases.{vacant, offerBenefit}
-use Rattle.tables.proofs.Laws.{gains-of, cell-of}
+use Rattle.tables.proofs.Laws.{cell-of}
 use Rattle.tables.specs.Arrays.{tables}
 use Rattle.phase2.proofs.Laws.{offer-le, best-none, best-taken, best-kept, best-passed, best-end}
 use Rattle.phase2.proofs.best_offer.Statement.{statement}
@@ -20,34 +20,13 @@ abbrev μ-loop : tie.MeasureT-loop
 loop-holds : tie.Need-loop-holds Inv-loop μ-loop
 loop-holds c = (search needs, best-none _ _ _ _ _)
 
-mul-if2 : tie.Need-mul-if2 Inv-loop μ-loop
-mul-if2 c = search needs
-
-shared-slice-read-if2 : tie.Need-shared-slice-read-if2 Inv-loop μ-loop
-shared-slice-read-if2 c = search needs
-
-add-offer-of : tie.Need-add-offer-of Inv-loop μ-loop
-add-offer-of c = search needs
-
 offer-of-requires : tie.Need-offer-of-requires Inv-loop μ-loop
 offer-of-requires c κs = (c .before .before .before .before .before .before .before .before .before .before .pre, omega arith, omega arith)
-
-add-benefit : tie.Need-add-benefit Inv-loop μ-loop
-add-benefit c = search needs
 
 benefit-requires : tie.Need-benefit-requires Inv-loop μ-loop
 benefit-requires c κs =
     let a = c .before .before .before .before .before .before .before .before .before .before .before in
-    (gains-of _ _ _ _ (a .pre .sound), cell-of _ _ _ _ (a .pre .sound) (c .before .before .before .before .before .loop .i + 1) (c .offer-of .result) (omega arith) (omega arith) (rw (c .offer-of .ensures) (offer-le _ _ _ _ _ (c .before .before .before .before .before .loop .i + 1))))
-
-add-top : tie.Need-add-top Inv-loop μ-loop
-add-top c = search needs
-
-add-i : tie.Need-add-i Inv-loop μ-loop
-add-i c = search needs
-
-loop-less : tie.Need-loop-less Inv-loop μ-loop
-loop-less c = search needs
+    (a .pre .sound .gains, cell-of _ _ _ _ (a .pre .sound) (c .before .before .before .before .before .loop .i + 1) (c .offer-of .result) (omega arith) (omega arith) (rw (c .offer-of .ensures) (offer-le _ _ _ _ _ (c .before .before .before .before .before .loop .i + 1))))
 
 loop-again : tie.Need-loop-again Inv-loop μ-loop
 loop-again c =
@@ -72,14 +51,14 @@ best-offer-spec =
     Inv-loop
     μ-loop
     loop-holds
-    mul-if2
-    shared-slice-read-if2
-    add-offer-of
+    (λ c. search needs)
+    (λ c. search needs)
+    (λ c. search needs)
     offer-of-requires
-    add-benefit
+    (λ c. search needs)
     benefit-requires
-    add-top
-    add-i
-    loop-less
+    (λ c. search needs)
+    (λ c. search needs)
+    (λ c. search needs)
     loop-again
     returns)

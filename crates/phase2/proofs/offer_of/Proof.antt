@@ -6,7 +6,7 @@ use native.Mathlib.Omega.{arith}
 use borrow.Author.Needs.{needs}
 use Rattle.base.proofs.Best.{Leads}
 use Rattle.rules.specs.Phases.{fitting}
-use Rattle.tables.proofs.Laws.{gains-of, cell-of}
+use Rattle.tables.proofs.Laws.{cell-of}
 use Rattle.tables.specs.Arrays.{benefitAt, tables}
 use Rattle.phase2.proofs.Laws.{offer-none, offer-taken, offer-passed, offer-kept, offer-end}
 use Rattle.phase2.proofs.offer_of.Statement.{statement}
@@ -21,30 +21,15 @@ abbrev μ-loop : tie.MeasureT-loop
 loop-holds : tie.Need-loop-holds Inv-loop μ-loop
 loop-holds c = (search needs, offer-none _ _ _ _ _ _)
 
-add-benefit : tie.Need-add-benefit Inv-loop μ-loop
-add-benefit c = search needs
-
 benefit-requires : tie.Need-benefit-requires Inv-loop μ-loop
 benefit-requires c κs =
     let a = c .before .before .before .before .before .before .before .before in
-    (gains-of _ _ _ _ (a .pre .0 .sound), cell-of _ _ _ _ (a .pre .0 .sound) (a .args .i) (c .before .before .loop .j + 1) (a .pre .1) (a .pre .2) (omega arith))
-
-add-fits-one : tie.Need-add-fits-one Inv-loop μ-loop
-add-fits-one c = search needs
+    (a .pre .0 .sound .gains, cell-of _ _ _ _ (a .pre .0 .sound) (a .args .i) (c .before .before .loop .j + 1) (a .pre .1) (a .pre .2) (omega arith))
 
 fits-one-requires : tie.Need-fits-one-requires Inv-loop μ-loop
 fits-one-requires c κs =
     let a = c .before .before .before .before .before .before .before .before .before .before in
     (a .pre .0, (a .pre .1, a .pre .2, omega arith))
-
-add-top : tie.Need-add-top Inv-loop μ-loop
-add-top c = search needs
-
-add-j : tie.Need-add-j Inv-loop μ-loop
-add-j c = search needs
-
-loop-less : tie.Need-loop-less Inv-loop μ-loop
-loop-less c = search needs
 
 loop-again : tie.Need-loop-again Inv-loop μ-loop
 loop-again c =
@@ -71,12 +56,12 @@ offer-of-spec =
     Inv-loop
     μ-loop
     loop-holds
-    add-benefit
+    (λ c. search needs)
     benefit-requires
-    add-fits-one
+    (λ c. search needs)
     fits-one-requires
-    add-top
-    add-j
-    loop-less
+    (λ c. search needs)
+    (λ c. search needs)
+    (λ c. search needs)
     loop-again
     returns)

@@ -1,20 +1,17 @@
 -- `phase3::counts_one` meets its contract. Assumes nothing.
 use mathlib.Core.Path.{sym, _∙_}
 use native.Mathlib.Omega.{arith}
-use Rattle.tables.proofs.Laws.{gains-of, from-cell, places}
+use Rattle.tables.proofs.Laws.{from-cell, places}
 use Rattle.phase3.proofs.Laws.{low-one, high-one}
 use borrow.Author.Needs.{needs}
 use Rattle.phase3.proofs.counts_one.Statement.{statement}
 use Rattle.phase3.proofs.counts_one.Tie as tie
 
-benefit-requires : tie.Need-benefit-requires
-benefit-requires c κs = search needs
-
 chosen-benefit-requires : tie.Need-chosen-benefit-requires
 chosen-benefit-requires c κs =
     let s = c .before .before .before .before .before .before in
     let m = s .pre .1 in
-    ((gains-of _ _ _ _ (s .pre .0 .sound), s .pre .0 .chosen .places), from-cell _ _ _ _ _ _ (s .pre .0) _ 0 (m .0) (m .1))
+    ((s .pre .0 .sound .gains, s .pre .0 .chosen .places), from-cell _ _ _ _ _ _ (s .pre .0) _ 0 (m .0) (m .1))
 
 returns : tie.Need-returns
 returns c =
@@ -23,9 +20,6 @@ returns c =
     let m = s .pre .1 in
     let room = places _ _ _ _ _ _ r in
     sym (low-one _ _ _ _ (m .0) (m .1) room (omega (arith, c .before .chosen-benefit .ensures, c .before .before .benefit .ensures)))
-
-fits-one-requires : tie.Need-fits-one-requires
-fits-one-requires c κs = search needs
 
 returns-2 : tie.Need-returns-2
 returns-2 c =
@@ -38,4 +32,4 @@ returns-2 c =
 pub counts-one-spec : {M : Type 1} → statement M
 counts-one-spec =
     tie.close
-    (tie.spec benefit-requires chosen-benefit-requires returns fits-one-requires returns-2)
+    (tie.spec (λ c κs. search needs) chosen-benefit-requires returns (λ c κs. search needs) returns-2)

@@ -3,27 +3,18 @@ use mathlib.Core.Path.{sym, _∙_}
 use borrow.Author.Tests.{not-true, not-false}
 use native.Mathlib.Omega.{arith}
 use denote.Ref.{now}
-use Rattle.tables.proofs.Laws.{gains-of, places, benefit-lt}
+use Rattle.tables.proofs.Laws.{places, benefit-lt}
 use Rattle.phase3.proofs.Laws.{low-two, high-two, not-second}
 use borrow.Author.Needs.{needs}
 use Rattle.phase3.proofs.counts_two.Statement.{statement}
 use Rattle.phase3.proofs.counts_two.Tie as tie
 
-benefit-requires : tie.Need-benefit-requires
-benefit-requires c κs = search needs
-
-benefit-requires-2 : tie.Need-benefit-requires-2
-benefit-requires-2 c κs = search needs
-
 add-new : tie.Need-add-new
 add-new c =
     let s = c .before .before .before .before .before .before .before in
     let a = s .args in
-    let small = benefit-lt (now (a .benefits)) (gains-of _ _ _ _ (s .pre .0 .sound)) in
+    let small = benefit-lt (now (a .benefits)) (s .pre .0 .sound .gains) in
     omega (arith, small (a .i) (a .a), small (a .k) (a .b), c .benefit2 .ensures, c .before .benefit .ensures)
-
-present-benefit-requires : tie.Need-present-benefit-requires
-present-benefit-requires c κs = search needs
 
 returns : tie.Need-returns
 returns c =
@@ -33,14 +24,8 @@ returns c =
     let room = places _ _ _ _ _ _ r in
     sym (low-two _ _ _ _ (m .0) (omega arith) room _ _ (m .1) (m .2) (omega (arith, c .before .present-benefit .ensures (now (s .args .uses)) (now (s .args .limits)), c .before .before .benefit2 .ensures, c .before .before .before .benefit .ensures)))
 
-is-another-requires : tie.Need-is-another-requires
-is-another-requires c κs = search needs
-
 returns-2 : tie.Need-returns-2
 returns-2 c = sym (not-second _ _ _ _ _ _ (sym (c .before .is-another .ensures _ _) ∙ not-true _ (c .if2 .taken)))
-
-fits-two-requires : tie.Need-fits-two-requires
-fits-two-requires c κs = search needs
 
 returns-3 : tie.Need-returns-3
 returns-3 c =
@@ -58,12 +43,12 @@ pub counts-two-spec : {M : Type 1} → statement M
 counts-two-spec =
     tie.close
     (tie.spec
-    benefit-requires
-    benefit-requires-2
+    (λ c κs. search needs)
+    (λ c κs. search needs)
     add-new
-    present-benefit-requires
+    (λ c κs. search needs)
     returns
-    is-another-requires
+    (λ c κs. search needs)
     returns-2
-    fits-two-requires
+    (λ c κs. search needs)
     returns-3)

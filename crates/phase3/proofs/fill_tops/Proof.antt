@@ -20,24 +20,6 @@ abbrev μ-loop : tie.MeasureT-loop
 loop-holds : tie.Need-loop-holds Inv-loop μ-loop
 loop-holds c = (search needs, refl, each-none _)
 
-add-top-of : tie.Need-add-top-of Inv-loop μ-loop
-add-top-of c = search needs
-
-top-of-requires : tie.Need-top-of-requires Inv-loop μ-loop
-top-of-requires c κs = search needs
-
-mul-tops : tie.Need-mul-tops Inv-loop μ-loop
-mul-tops c = search needs
-
-slice-write-tops : tie.Need-slice-write-tops Inv-loop μ-loop
-slice-write-tops c = search needs
-
-add-i : tie.Need-add-i Inv-loop μ-loop
-add-i c = search needs
-
-loop-less : tie.Need-loop-less Inv-loop μ-loop
-loop-less c = search needs
-
 loop-again : tie.Need-loop-again Inv-loop μ-loop
 loop-again c =
     let l = c .before .before .loop in
@@ -52,9 +34,6 @@ loop-again c =
           (rw (here, getD-set-same (l .tops) i _ 0 (omega arith)) (c .top-of .ensures)),
     )
 
-same-length : tie.Need-same-length Inv-loop μ-loop
-same-length c = search needs
-
 returns : tie.Need-returns Inv-loop μ-loop
 returns c = record { places = search needs; each = λ i low high. c .before .loop .inv .2 i low (omega arith) }
 
@@ -65,12 +44,12 @@ fill-tops-spec =
     Inv-loop
     μ-loop
     loop-holds
-    add-top-of
-    top-of-requires
-    mul-tops
-    slice-write-tops
-    add-i
-    loop-less
+    (λ c. search needs)
+    (λ c κs. search needs)
+    (λ c. search needs)
+    (λ c. search needs)
+    (λ c. search needs)
+    (λ c. search needs)
     loop-again
-    same-length
+    (λ c. search needs)
     returns)

@@ -5,15 +5,6 @@ use borrow.Author.Needs.{needs}
 use Rattle.phase3.proofs.first_change.Statement.{statement}
 use Rattle.phase3.proofs.first_change.Tie as tie
 
-first-one-requires : tie.Need-first-one-requires
-first-one-requires c κs = search needs
-
-is-nothing-requires : tie.Need-is-nothing-requires
-is-nothing-requires c κs = search needs
-
-first-two-requires : tie.Need-first-two-requires
-first-two-requires c κs = search needs
-
 returns : tie.Need-returns
 returns c = change-pair _ _ _ _ (c .before .before .before .first-one .ensures) (sym (c .before .before .is-nothing .ensures) ∙ c .before .if1 .taken) _ (c .first-two .ensures)
 
@@ -23,4 +14,4 @@ returns-2 c = change-single _ _ _ _ (c .before .before .first-one .ensures) (sym
 pub first-change-spec : {M : Type 1} → statement M
 first-change-spec =
     tie.close
-    (tie.spec first-one-requires is-nothing-requires first-two-requires returns returns-2)
+    (tie.spec (λ c κs. search needs) (λ c κs. search needs) (λ c κs. search needs) returns returns-2)

@@ -26,12 +26,6 @@ Inv-search z benefits uses limits choice sums found₀ segments-end strategies-e
 abbrev μ-search : tie.MeasureT-search
 μ-search z benefits uses limits choice sums found₀ segments-end strategies-end i₀ found i = segments-end - i
 
-add-segments-end : tie.Need-add-segments-end Inv-loop μ-loop Inv-search μ-search
-add-segments-end c = search needs
-
-add-strategies-end : tie.Need-add-strategies-end Inv-loop μ-loop Inv-search μ-search
-add-strategies-end c = search needs
-
 search-holds : tie.Need-search-holds Inv-loop μ-loop Inv-search μ-search
 search-holds c = (search needs, search needs, (λ p lp l. absurd (omega arith)), refl)
 
@@ -41,24 +35,12 @@ loop-holds c = (search needs, below-none _, c .before .search .inv .3)
 counts-one-requires : tie.Need-counts-one-requires Inv-loop μ-loop Inv-search μ-search
 counts-one-requires c κs = (c .before .before .before .before .before .before .before .before .before .before .before .pre, (omega arith, omega arith, omega arith))
 
-add-a : tie.Need-add-a Inv-loop μ-loop Inv-search μ-search
-add-a c = search needs
-
-loop-less : tie.Need-loop-less Inv-loop μ-loop Inv-search μ-search
-loop-less c = search needs
-
 loop-again : tie.Need-loop-again Inv-loop μ-loop Inv-search μ-search
 loop-again c = (
   search needs,
   below-more _ _ (c .before .before .before .loop .inv .1) (single-none _ _ _ _ (sym (c .before .counts-one .ensures) ∙ c .if1 .left)),
   c .before .before .before .loop .inv .2,
 )
-
-add-i : tie.Need-add-i Inv-loop μ-loop Inv-search μ-search
-add-i c = search needs
-
-search-less : tie.Need-search-less Inv-loop μ-loop Inv-search μ-search
-search-less c = search needs
 
 search-again : tie.Need-search-again Inv-loop μ-loop Inv-search μ-search
 search-again c = (
@@ -87,16 +69,16 @@ first-one-spec =
     μ-loop
     Inv-search
     μ-search
-    add-segments-end
-    add-strategies-end
+    (λ c. search needs)
+    (λ c. search needs)
     search-holds
     loop-holds
     counts-one-requires
-    add-a
-    loop-less
+    (λ c. search needs)
+    (λ c. search needs)
     loop-again
-    add-i
-    search-less
+    (λ c. search needs)
+    (λ c. search needs)
     search-again
     returns
     returns-2)

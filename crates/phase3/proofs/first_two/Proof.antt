@@ -84,9 +84,6 @@ search-holds :
     tie.Need-search-holds Inv-loop3 μ-loop3 Inv-loop2 μ-loop2 Inv-loop μ-loop Inv-search μ-search
 search-holds c = (search needs, search needs, (λ p lp l. absurd (omega arith)), refl)
 
-add-k : tie.Need-add-k Inv-loop3 μ-loop3 Inv-loop2 μ-loop2 Inv-loop μ-loop Inv-search μ-search
-add-k c = search needs
-
 loop-holds :
     tie.Need-loop-holds Inv-loop3 μ-loop3 Inv-loop2 μ-loop2 Inv-loop μ-loop Inv-search μ-search
 loop-holds c = (search needs, search needs, (λ p lp l. of-low _ _ _ _ lp), c .before .search .inv .3)
@@ -155,9 +152,6 @@ loop3-again c = (
   c .before .before .before .loop3 .inv .2,
 )
 
-add-a : tie.Need-add-a Inv-loop3 μ-loop3 Inv-loop2 μ-loop2 Inv-loop μ-loop Inv-search μ-search
-add-a c = search needs
-
 loop2-less :
     tie.Need-loop2-less Inv-loop3 μ-loop3 Inv-loop2 μ-loop2 Inv-loop μ-loop Inv-search μ-search
 loop2-less c = search needs
@@ -179,9 +173,6 @@ loop2-again c =
       w .1 ∙ l .inv .2,
     ))
     (c .if2 .came)
-
-add-k-2 : tie.Need-add-k-2 Inv-loop3 μ-loop3 Inv-loop2 μ-loop2 Inv-loop μ-loop Inv-search μ-search
-add-k-2 c = search needs
 
 loop-less :
     tie.Need-loop-less Inv-loop3 μ-loop3 Inv-loop2 μ-loop2 Inv-loop μ-loop Inv-search μ-search
@@ -207,9 +198,6 @@ loop-again c =
       w .1 ∙ l .inv .3,
     ))
     (c .if1 .came)
-
-add-i : tie.Need-add-i Inv-loop3 μ-loop3 Inv-loop2 μ-loop2 Inv-loop μ-loop Inv-search μ-search
-add-i c = search needs
 
 search-less :
     tie.Need-search-less Inv-loop3 μ-loop3 Inv-loop2 μ-loop2 Inv-loop μ-loop Inv-search μ-search
@@ -254,7 +242,7 @@ first-two-spec =
     add-segments-end
     add-strategies-end
     search-holds
-    add-k
+    (λ c. search needs)
     loop-holds
     pair-may-rise-requires
     loop2-holds
@@ -264,13 +252,13 @@ first-two-spec =
     add-b
     loop3-less
     loop3-again
-    add-a
+    (λ c. search needs)
     loop2-less
     loop2-again
-    add-k-2
+    (λ c. search needs)
     loop-less
     loop-again
-    add-i
+    (λ c. search needs)
     search-less
     search-again
     returns

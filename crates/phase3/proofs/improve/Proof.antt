@@ -2,7 +2,6 @@
 use Prim.Native.Nat.{_-_, _^_}
 use mathlib.Core.Path.{sym, _∙_}
 use native.Mathlib.Omega.{arith}
-use Rattle.tables.proofs.Laws.{gains-of}
 use Rattle.phase3.proofs.Laws.{Under, under-start, under-end, under-small, under-next, turn, no-turn}
 use borrow.Author.Needs.{needs}
 use Rattle.phase3.proofs.improve.Statement.{statement}
@@ -14,25 +13,16 @@ Inv-loop z benefits uses limits choice₀ sums₀ tops changes₀ choice sums ch
 abbrev μ-loop : tie.MeasureT-loop
 μ-loop z benefits uses limits choice₀ sums₀ tops changes₀ choice sums changes = 2 ^ 46 - changes
 
-slice-aggregate-fill-tops : tie.Need-slice-aggregate-fill-tops Inv-loop μ-loop
-slice-aggregate-fill-tops c = search needs
-
 fill-tops-requires : tie.Need-fill-tops-requires Inv-loop μ-loop
 fill-tops-requires c κs =
     let s = c .before .before .before .before .before .before .pre .sound in
-    (gains-of _ _ _ _ s, (s .segments, s .strategies, search needs))
+    (s .gains, (s .segments, s .strategies, search needs))
 
 loop-holds : tie.Need-loop-holds Inv-loop μ-loop
 loop-holds c = under-start _ _ _ _ _ _ (c .before .before .before .before .before .before .before .before .pre)
 
-slice-aggregate-first-change : tie.Need-slice-aggregate-first-change Inv-loop μ-loop
-slice-aggregate-first-change c = search needs
-
 first-change-requires : tie.Need-first-change-requires Inv-loop μ-loop
 first-change-requires c κs = (c .before .before .before .loop .inv .ready, c .before .before .before .before .before .fill-tops .ensures)
-
-is-nothing-requires : tie.Need-is-nothing-requires Inv-loop μ-loop
-is-nothing-requires c κs = search needs
 
 same-length : tie.Need-same-length Inv-loop μ-loop
 same-length c = c .before .before .before .before .before .before .loop .inv .ready .chosen .places ∙ sym (c .before .before .before .before .before .before .before .before .before .before .before .before .before .before .before .pre .chosen .places)
@@ -73,12 +63,12 @@ improve-spec =
     (tie.spec
     Inv-loop
     μ-loop
-    slice-aggregate-fill-tops
+    (λ c. search needs)
     fill-tops-requires
     loop-holds
-    slice-aggregate-first-change
+    (λ c. search needs)
     first-change-requires
-    is-nothing-requires
+    (λ c κs. search needs)
     same-length
     same-length-2
     returns

@@ -10,19 +10,10 @@ use borrow.Author.Needs.{needs}
 use Rattle.phase3.proofs.make_change.Statement.{statement}
 use Rattle.phase3.proofs.make_change.Tie as tie
 
-enum-told : tie.Need-enum-told
-enum-told c = search needs
-
-enum-known-x : tie.Need-enum-known-x
-enum-known-x c = search needs
-
 make-one-requires : tie.Need-make-one-requires
 make-one-requires c κs =
     let s = c .before .before .before .before .before .before .before .before .before .before in
     (s .pre .0, subst (Inside (s .args .z)) (c .before .before .before .x .given .1) (s .pre .1))
-
-enum-known-x-2 : tie.Need-enum-known-x-2
-enum-known-x-2 c = search needs
 
 make-one-requires-2 : tie.Need-make-one-requires-2
 make-one-requires-2 c κs =
@@ -39,22 +30,10 @@ make-one-requires-3 c κs =
 returns : tie.Need-returns
 returns c = (c .before .before .before .before .before .before .before .pre .0, rw (c .enum-told .given .1))
 
-same-length : tie.Need-same-length
-same-length c = search needs
-
-same-length-2 : tie.Need-same-length-2
-same-length-2 c = search needs
-
 returns-2 : tie.Need-returns-2
 returns-2 c =
     let m = c .before .before .before .before .make-one .ensures in
     (m .0, m .1 ∙ sym (ap (after (now (c .before .before .before .before .before .before .before .before .before .before .before .before .before .before .before .args .choice))) (c .before .before .before .before .before .before .before .before .x .given .1)))
-
-same-length-3 : tie.Need-same-length-3
-same-length-3 c = search needs
-
-same-length-4 : tie.Need-same-length-4
-same-length-4 c = search needs
 
 returns-3 : tie.Need-returns-3
 returns-3 c =
@@ -70,16 +49,16 @@ pub make-change-spec : {M : Type 1} → statement M
 make-change-spec =
     tie.close
     (tie.spec
-    enum-told
-    enum-known-x
+    (λ c. search needs)
+    (λ c. search needs)
     make-one-requires
-    enum-known-x-2
+    (λ c. search needs)
     make-one-requires-2
     make-one-requires-3
     returns
-    same-length
-    same-length-2
+    (λ c. search needs)
+    (λ c. search needs)
     returns-2
-    same-length-3
-    same-length-4
+    (λ c. search needs)
+    (λ c. search needs)
     returns-3)

@@ -6,27 +6,6 @@ use borrow.Author.Needs.{needs}
 use Rattle.phase3.proofs.pair_may_rise.Statement.{statement}
 use Rattle.phase3.proofs.pair_may_rise.Tie as tie
 
-present-benefit-requires : tie.Need-present-benefit-requires
-present-benefit-requires c κs = search needs
-
-sub-result : tie.Need-sub-result
-sub-result c = search needs
-
-mul-result : tie.Need-mul-result
-mul-result c = search needs
-
-shared-slice-read-result : tie.Need-shared-slice-read-result
-shared-slice-read-result c = search needs
-
-sub-result-2 : tie.Need-sub-result-2
-sub-result-2 c = search needs
-
-mul-result-2 : tie.Need-mul-result-2
-mul-result-2 c = search needs
-
-shared-slice-read-result-2 : tie.Need-shared-slice-read-result-2
-shared-slice-read-result-2 c = search needs
-
 add-result : tie.Need-add-result
 add-result c =
     let s = c .before .before .before .before .before .before in
@@ -46,12 +25,12 @@ pub pair-may-rise-spec : {M : Type 1} → statement M
 pair-may-rise-spec =
     tie.close
     (tie.spec
-    present-benefit-requires
-    sub-result
-    mul-result
-    shared-slice-read-result
-    sub-result-2
-    mul-result-2
-    shared-slice-read-result-2
+    (λ c κs. search needs)
+    (λ c. search needs)
+    (λ c. search needs)
+    (λ c. search needs)
+    (λ c. search needs)
+    (λ c. search needs)
+    (λ c. search needs)
     add-result
     returns)

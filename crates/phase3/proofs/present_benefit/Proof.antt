@@ -31,9 +31,6 @@ add-result c =
       c .before .chosen-benefit .ensures,
     )
 
-returns : tie.Need-returns
-returns c = search needs
-
 pub present-benefit-spec : {M : Type 1} → statement M
 present-benefit-spec =
-    tie.close (tie.spec chosen-benefit-requires chosen-benefit-requires-2 add-result returns)
+    tie.close (tie.spec chosen-benefit-requires chosen-benefit-requires-2 add-result (λ c. search needs))

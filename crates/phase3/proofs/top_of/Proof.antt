@@ -18,21 +18,6 @@ abbrev μ-loop : tie.MeasureT-loop
 loop-holds : tie.Need-loop-holds Inv-loop μ-loop
 loop-holds c = (search needs, most-none _)
 
-add-benefit : tie.Need-add-benefit Inv-loop μ-loop
-add-benefit c = search needs
-
-benefit-requires : tie.Need-benefit-requires Inv-loop μ-loop
-benefit-requires c κs = search needs
-
-larger-requires : tie.Need-larger-requires Inv-loop μ-loop
-larger-requires c κs = search needs
-
-add-j : tie.Need-add-j Inv-loop μ-loop
-add-j c = search needs
-
-loop-less : tie.Need-loop-less Inv-loop μ-loop
-loop-less c = search needs
-
 loop-again : tie.Need-loop-again Inv-loop μ-loop
 loop-again c = (search needs, rw (c .larger .ensures, c .before .benefit .ensures) (most-next _ _ (c .before .before .before .loop .inv .1)))
 
@@ -46,10 +31,10 @@ top-of-spec =
     Inv-loop
     μ-loop
     loop-holds
-    add-benefit
-    benefit-requires
-    larger-requires
-    add-j
-    loop-less
+    (λ c. search needs)
+    (λ c κs. search needs)
+    (λ c κs. search needs)
+    (λ c. search needs)
+    (λ c. search needs)
     loop-again
     returns)

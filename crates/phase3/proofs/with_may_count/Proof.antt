@@ -3,45 +3,27 @@ use mathlib.Core.Path.{sym, _∙_}
 use borrow.Author.Tests.{not-true, not-false}
 use native.Mathlib.Omega.{arith}
 use denote.Ref.{now}
-use Rattle.tables.proofs.Laws.{gains-of, benefit-lt}
+use Rattle.tables.proofs.Laws.{benefit-lt}
 use Rattle.phase3.proofs.Laws.{top-le, not-another, not-more, more-fits}
 use borrow.Author.Needs.{needs}
 use Rattle.phase3.proofs.with_may_count.Statement.{statement}
 use Rattle.phase3.proofs.with_may_count.Tie as tie
 
-is-another-requires : tie.Need-is-another-requires
-is-another-requires c κs = search needs
-
 returns : tie.Need-returns
 returns c = sym (not-another _ _ _ _ _ (sym (c .before .is-another .ensures _ _) ∙ not-true _ (c .if1 .taken)))
-
-benefit-requires : tie.Need-benefit-requires
-benefit-requires c κs = search needs
-
-sub-if2 : tie.Need-sub-if2
-sub-if2 c = search needs
-
-mul-if2 : tie.Need-mul-if2
-mul-if2 c = search needs
-
-shared-slice-read-if2 : tie.Need-shared-slice-read-if2
-shared-slice-read-if2 c = search needs
 
 add-if2 : tie.Need-add-if2
 add-if2 c =
     let s = c .before .before .before .before .before .before .before .before .before .before in
     let a = s .args in
     let e = s .pre .0 .1 .each in
-    let g = gains-of _ _ _ _ (s .pre .0 .0 .sound) in
+    let g = s .pre .0 .0 .sound .gains in
     omega (
       arith,
       e (a .k) (omega arith) (omega arith),
       top-le (a .z .strategies) (now (a .benefits)) g (a .k),
       benefit-lt (now (a .benefits)) g (a .i) (a .a),
     )
-
-present-benefit-requires : tie.Need-present-benefit-requires
-present-benefit-requires c κs = search needs
 
 returns-2 : tie.Need-returns-2
 returns-2 c =
@@ -50,9 +32,6 @@ returns-2 c =
     let e = s .pre .0 .1 .each in
     let p = c .before .present-benefit .ensures (now (a .uses)) (now (a .limits)) in
     sym (not-more _ _ _ _ _ (omega (arith, p, c .before .before .before .benefit .ensures, e (a .k) (omega arith) (omega arith))))
-
-fits-two-requires : tie.Need-fits-two-requires
-fits-two-requires c κs = search needs
 
 returns-3 : tie.Need-returns-3
 returns-3 c =
@@ -68,14 +47,14 @@ pub with-may-count-spec : {M : Type 1} → statement M
 with-may-count-spec =
     tie.close
     (tie.spec
-    is-another-requires
+    (λ c κs. search needs)
     returns
-    benefit-requires
-    sub-if2
-    mul-if2
-    shared-slice-read-if2
+    (λ c κs. search needs)
+    (λ c. search needs)
+    (λ c. search needs)
+    (λ c. search needs)
     add-if2
-    present-benefit-requires
+    (λ c κs. search needs)
     returns-2
-    fits-two-requires
+    (λ c κs. search needs)
     returns-3)

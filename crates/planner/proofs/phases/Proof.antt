@@ -4,21 +4,6 @@ use Rattle.planner.proofs.Laws.{together, start-held}
 use Rattle.planner.proofs.phases.Statement.{statement}
 use Rattle.planner.proofs.phases.Tie as tie
 
-slice-aggregate-start : tie.Need-slice-aggregate-start
-slice-aggregate-start c = search needs
-
-slice-aggregate-start-2 : tie.Need-slice-aggregate-start-2
-slice-aggregate-start-2 c = search needs
-
-start-requires : tie.Need-start-requires
-start-requires c κs = search needs
-
-slice-aggregate-reduce : tie.Need-slice-aggregate-reduce
-slice-aggregate-reduce c = search needs
-
-slice-aggregate-reduce-2 : tie.Need-slice-aggregate-reduce-2
-slice-aggregate-reduce-2 c = search needs
-
 reduce-requires : tie.Need-reduce-requires
 reduce-requires c κs =
     let given = c .before .before .before .before .before .before .before .before .before .before .before .pre .0 in
@@ -29,36 +14,6 @@ reduce-requires c κs =
       shares = given .2;
       candidates = start-held _ (given .1) (started .1);
     }
-
-slice-aggregate-fill : tie.Need-slice-aggregate-fill
-slice-aggregate-fill c = search needs
-
-slice-aggregate-fill-2 : tie.Need-slice-aggregate-fill-2
-slice-aggregate-fill-2 c = search needs
-
-fill-requires : tie.Need-fill-requires
-fill-requires c κs = search needs
-
-slice-aggregate-total-of : tie.Need-slice-aggregate-total-of
-slice-aggregate-total-of c = search needs
-
-total-of-requires : tie.Need-total-of-requires
-total-of-requires c κs = search needs
-
-slice-aggregate-improve : tie.Need-slice-aggregate-improve
-slice-aggregate-improve c = search needs
-
-slice-aggregate-improve-2 : tie.Need-slice-aggregate-improve-2
-slice-aggregate-improve-2 c = search needs
-
-improve-requires : tie.Need-improve-requires
-improve-requires c κs = search needs
-
-slice-aggregate-total-of-2 : tie.Need-slice-aggregate-total-of-2
-slice-aggregate-total-of-2 c = search needs
-
-total-of-requires-2 : tie.Need-total-of-requires-2
-total-of-requires-2 c κs = search needs
 
 returns : tie.Need-returns
 returns c =
@@ -71,20 +26,20 @@ pub phases-spec : {M : Type 1} → statement M
 phases-spec =
     tie.close
     (tie.spec
-    slice-aggregate-start
-    slice-aggregate-start-2
-    start-requires
-    slice-aggregate-reduce
-    slice-aggregate-reduce-2
+    (λ c. search needs)
+    (λ c. search needs)
+    (λ c κs. search needs)
+    (λ c. search needs)
+    (λ c. search needs)
     reduce-requires
-    slice-aggregate-fill
-    slice-aggregate-fill-2
-    fill-requires
-    slice-aggregate-total-of
-    total-of-requires
-    slice-aggregate-improve
-    slice-aggregate-improve-2
-    improve-requires
-    slice-aggregate-total-of-2
-    total-of-requires-2
+    (λ c. search needs)
+    (λ c. search needs)
+    (λ c κs. search needs)
+    (λ c. search needs)
+    (λ c κs. search needs)
+    (λ c. search needs)
+    (λ c. search needs)
+    (λ c κs. search needs)
+    (λ c. search needs)
+    (λ c κs. search needs)
     returns)

@@ -5,17 +5,11 @@ use Rattle.planner.proofs.Laws.{planned, unplanned}
 use Rattle.planner.proofs.plan.Statement.{statement}
 use Rattle.planner.proofs.plan.Tie as tie
 
-in-range-requires : tie.Need-in-range-requires
-in-range-requires c κs = search needs
-
 programme-of-requires : tie.Need-programme-of-requires
 programme-of-requires c κs = sym (c .before .before .in-range .ensures) ∙ c .before .if1 .taken
 
 returns : tie.Need-returns
 returns c = planned _ (sym (c .before .before .before .in-range .ensures) ∙ c .before .before .if1 .taken) (c .programme-of .ensures)
-
-no-programme-requires : tie.Need-no-programme-requires
-no-programme-requires c κs = search needs
 
 returns-2 : tie.Need-returns-2
 returns-2 c = unplanned _ (sym (c .before .before .in-range .ensures) ∙ c .before .if1 .left) (c .no-programme .ensures)
@@ -23,4 +17,4 @@ returns-2 c = unplanned _ (sym (c .before .before .in-range .ensures) ∙ c .bef
 pub plan-spec : {M : Type 1} → statement M
 plan-spec =
     tie.close
-    (tie.spec in-range-requires programme-of-requires returns no-programme-requires returns-2)
+    (tie.spec (λ c κs. search needs) programme-of-requires returns (λ c κs. search needs) returns-2)

@@ -7,44 +7,11 @@ use Rattle.planner.proofs.Laws.{shares-of, priced, sized}
 use Rattle.planner.proofs.programme_of.Statement.{statement}
 use Rattle.planner.proofs.programme_of.Tie as tie
 
-slice-aggregate-fill-all : tie.Need-slice-aggregate-fill-all
-slice-aggregate-fill-all c = search needs
-
-slice-aggregate-fill-all-2 : tie.Need-slice-aggregate-fill-all-2
-slice-aggregate-fill-all-2 c = search needs
-
-slice-aggregate-fill-all-3 : tie.Need-slice-aggregate-fill-all-3
-slice-aggregate-fill-all-3 c = search needs
-
-slice-aggregate-fill-all-4 : tie.Need-slice-aggregate-fill-all-4
-slice-aggregate-fill-all-4 c = search needs
-
-slice-aggregate-fill-all-5 : tie.Need-slice-aggregate-fill-all-5
-slice-aggregate-fill-all-5 c = search needs
-
 fill-all-requires : tie.Need-fill-all-requires
 fill-all-requires c κs = (in-ranges _ (c .before .before .before .before .before .pre), refl, refl, refl, refl, refl)
 
-slice-aggregate-ceiling-of : tie.Need-slice-aggregate-ceiling-of
-slice-aggregate-ceiling-of c = search needs
-
-slice-aggregate-ceiling-of-2 : tie.Need-slice-aggregate-ceiling-of-2
-slice-aggregate-ceiling-of-2 c = search needs
-
 ceiling-of-requires : tie.Need-ceiling-of-requires
 ceiling-of-requires c κs = sized _ (in-ranges _ (c .before .before .before .before .before .before .before .before .before .before .before .before .before .pre)) _ _ _ _ _ _ (c .before .before .before .before .before .before .before .fill-all .ensures)
-
-slice-aggregate-phases : tie.Need-slice-aggregate-phases
-slice-aggregate-phases c = search needs
-
-slice-aggregate-phases-2 : tie.Need-slice-aggregate-phases-2
-slice-aggregate-phases-2 c = search needs
-
-slice-aggregate-phases-3 : tie.Need-slice-aggregate-phases-3
-slice-aggregate-phases-3 c = search needs
-
-slice-aggregate-phases-4 : tie.Need-slice-aggregate-phases-4
-slice-aggregate-phases-4 c = search needs
 
 phases-requires : tie.Need-phases-requires
 phases-requires c κs =
@@ -59,18 +26,18 @@ pub programme-of-spec : {M : Type 1} → statement M
 programme-of-spec =
     tie.close
     (tie.spec
-    slice-aggregate-fill-all
-    slice-aggregate-fill-all-2
-    slice-aggregate-fill-all-3
-    slice-aggregate-fill-all-4
-    slice-aggregate-fill-all-5
+    (λ c. search needs)
+    (λ c. search needs)
+    (λ c. search needs)
+    (λ c. search needs)
+    (λ c. search needs)
     fill-all-requires
-    slice-aggregate-ceiling-of
-    slice-aggregate-ceiling-of-2
+    (λ c. search needs)
+    (λ c. search needs)
     ceiling-of-requires
-    slice-aggregate-phases
-    slice-aggregate-phases-2
-    slice-aggregate-phases-3
-    slice-aggregate-phases-4
+    (λ c. search needs)
+    (λ c. search needs)
+    (λ c. search needs)
+    (λ c. search needs)
     phases-requires
     returns)

@@ -8,12 +8,6 @@ use borrow.Author.Needs.{needs}
 use Rattle.rating.proofs.area.Statement.{statement}
 use Rattle.rating.proofs.area.Tie as tie
 
-segment-at-requires : tie.Need-segment-at-requires
-segment-at-requires c κs = search needs
-
-segment-at-requires-2 : tie.Need-segment-at-requires-2
-segment-at-requires-2 c κs = search needs
-
 mul-result : tie.Need-mul-result
 unfolding lengthOf widthOf
 mul-result c =
@@ -26,4 +20,4 @@ unfolding area lengthOf widthOf
 returns c = ap₂ _*_ (c .before .segment-at .ensures) (c .segment-at2 .ensures)
 
 pub area-spec : {M : Type 1} → statement M
-area-spec = tie.close (tie.spec segment-at-requires segment-at-requires-2 mul-result returns)
+area-spec = tie.close (tie.spec (λ c κs. search needs) (λ c κs. search needs) mul-result returns)

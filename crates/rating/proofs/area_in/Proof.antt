@@ -5,12 +5,6 @@ use borrow.Author.Needs.{needs}
 use Rattle.rating.proofs.area_in.Statement.{statement}
 use Rattle.rating.proofs.area_in.Tie as tie
 
-has-requires : tie.Need-has-requires
-has-requires c κs = search needs
-
-area-requires : tie.Need-area-requires
-area-requires c κs = search needs
-
 returns : tie.Need-returns
 unfolding areaIn
 returns c = c .area .ensures ∙ rw (sym (c .before .before .has .ensures) ∙ c .before .if1 .taken)
@@ -20,4 +14,4 @@ unfolding areaIn
 returns-2 c = rw (sym (c .before .has .ensures) ∙ c .if1 .left)
 
 pub area-in-spec : {M : Type 1} → statement M
-area-in-spec = tie.close (tie.spec has-requires area-requires returns returns-2)
+area-in-spec = tie.close (tie.spec (λ c κs. search needs) (λ c κs. search needs) returns returns-2)

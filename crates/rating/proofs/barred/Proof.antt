@@ -8,15 +8,6 @@ use borrow.Author.Needs.{needs}
 use Rattle.rating.proofs.barred.Statement.{statement}
 use Rattle.rating.proofs.barred.Tie as tie
 
-segment-at-requires : tie.Need-segment-at-requires
-segment-at-requires c κs = search needs
-
-sub-result : tie.Need-sub-result
-sub-result c = search needs
-
-shr-result : tie.Need-shr-result
-shr-result c = search needs
-
 returns : tie.Need-returns
 unfolding barredIn barsOf
 returns c =
@@ -24,4 +15,4 @@ returns c =
     tested-by-shift (c .segment-at .result) n ∙ ap (λ m. isSet m n) (c .segment-at .ensures)
 
 pub barred-spec : {M : Type 1} → statement M
-barred-spec = tie.close (tie.spec segment-at-requires sub-result shr-result returns)
+barred-spec = tie.close (tie.spec (λ c κs. search needs) (λ c. search needs) (λ c. search needs) returns)

@@ -14,9 +14,6 @@ use borrow.Author.Needs.{needs}
 use Rattle.rating.proofs.benefit.Statement.{statement}
 use Rattle.rating.proofs.benefit.Tie as tie
 
-area-requires : tie.Need-area-requires
-area-requires c κs = search needs
-
 small : (c : tie.After-area) → c .area .result ≤ 1_999_800
 small c = rw (c .area .ensures) (area-le _ (c .before .pre .0) _ (c .before .pre .1))
 
@@ -35,9 +32,6 @@ product c =
 cast-result : tie.Need-cast-result
 cast-result c = sfits-abs (omega (arith, small c))
 
-effect-requires : tie.Need-effect-requires
-effect-requires c κs = search needs
-
 mul-result : tie.Need-mul-result
 mul-result c =
     let s = c .before .before in
@@ -47,4 +41,4 @@ returns : tie.Need-returns
 returns c = toZ-ofZ (mul-result c) ∙ product c
 
 pub benefit-spec : {M : Type 1} → statement M
-benefit-spec = tie.close (tie.spec area-requires cast-result effect-requires mul-result returns)
+benefit-spec = tie.close (tie.spec (λ c κs. search needs) cast-result (λ c κs. search needs) mul-result returns)

@@ -7,9 +7,6 @@ use borrow.Author.Needs.{needs}
 use Rattle.rating.proofs.candidate_benefit.Statement.{statement}
 use Rattle.rating.proofs.candidate_benefit.Tie as tie
 
-has-requires : tie.Need-has-requires
-has-requires c κs = search needs
-
 worth-requires : tie.Need-worth-requires
 worth-requires c κs =
     let s = c .before .before in
@@ -27,4 +24,4 @@ unfolding candidateBenefit
 returns-2 c = rw (sym (c .before .has .ensures) ∙ c .if1 .left)
 
 pub candidate-benefit-spec : {M : Type 1} → statement M
-candidate-benefit-spec = tie.close (tie.spec has-requires worth-requires returns returns-2)
+candidate-benefit-spec = tie.close (tie.spec (λ c κs. search needs) worth-requires returns returns-2)

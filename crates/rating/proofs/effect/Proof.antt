@@ -21,14 +21,8 @@ Inv-loop d i j distresses sum₀ k₀ sum k = (k ≤ distresses) × (toZ w64 sum
 abbrev μ-loop : tie.MeasureT-loop
 μ-loop d i j distresses sum₀ k₀ sum k = distresses - k
 
-element-copy-out-distresses : tie.Need-element-copy-out-distresses Inv-loop μ-loop
-element-copy-out-distresses c = omega arith
-
 loop-holds : tie.Need-loop-holds Inv-loop μ-loop
 loop-holds c = (omega arith, sumZ-none _)
-
-add-improvements : tie.Need-add-improvements Inv-loop μ-loop
-add-improvements c = omega arith
 
 improvements-requires : tie.Need-improvements-requires Inv-loop μ-loop
 improvements-requires c κs =
@@ -42,12 +36,6 @@ add-sum c =
     let n = p .0 .distresses in
     rw (c .before .before .loop .inv .1, told w64 (c .improvements .ok) (c .improvements .ensures))
     (next-fits w64 _ 500_000_000 _ (λ k l h. improvements-abs _ (p .0) _ _ k (p .1) (p .2) (l, omega arith)) (omega arith))
-
-add-k : tie.Need-add-k Inv-loop μ-loop
-add-k c = omega arith
-
-loop-less : tie.Need-loop-less Inv-loop μ-loop
-loop-less c = omega arith
 
 loop-again : tie.Need-loop-again Inv-loop μ-loop
 loop-again c = (
@@ -76,13 +64,13 @@ effect-spec =
     (tie.spec
     Inv-loop
     μ-loop
-    element-copy-out-distresses
+    (λ c. omega arith)
     loop-holds
-    add-improvements
+    (λ c. omega arith)
     improvements-requires
     add-sum
-    add-k
-    loop-less
+    (λ c. omega arith)
+    (λ c. omega arith)
     loop-again
     div-result
     returns)

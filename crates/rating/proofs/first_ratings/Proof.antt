@@ -19,23 +19,14 @@ Inv-loop d i j distresses sum₀ k₀ sum k = (k ≤ distresses) × (toZ w64 sum
 abbrev μ-loop : tie.MeasureT-loop
 μ-loop d i j distresses sum₀ k₀ sum k = distresses - k
 
-element-copy-out-distresses : tie.Need-element-copy-out-distresses Inv-loop μ-loop
-element-copy-out-distresses c = omega arith
-
 loop-holds : tie.Need-loop-holds Inv-loop μ-loop
 loop-holds c = (omega arith, sumZ-none _)
-
-add-gain : tie.Need-add-gain Inv-loop μ-loop
-add-gain c = omega arith
 
 gain-requires : tie.Need-gain-requires Inv-loop μ-loop
 gain-requires c κs =
     let p = c .before .before .before .pre in
     let n = p .0 .distresses in
     (p .0, p .1, p .2, (omega arith, omega arith))
-
-add-rating : tie.Need-add-rating Inv-loop μ-loop
-add-rating c = omega arith
 
 rating-requires : tie.Need-rating-requires Inv-loop μ-loop
 rating-requires c κs =
@@ -50,12 +41,6 @@ add-sum c =
     let n = p .0 .distresses in
     rw (c .before .before .before .loop .inv .1, told w64 (c .rating .ok) (c .rating .ensures))
     (next-fits w64 _ 100_000_000 (firstRating _ _ _) (λ k l h. rating-abs _ (p .0) _ _ k 1 (p .1) (p .2) (l, omega arith)) (omega arith))
-
-add-k : tie.Need-add-k Inv-loop μ-loop
-add-k c = omega arith
-
-loop-less : tie.Need-loop-less Inv-loop μ-loop
-loop-less c = omega arith
 
 loop-again : tie.Need-loop-again Inv-loop μ-loop
 unfolding firstRating
@@ -75,14 +60,14 @@ first-ratings-spec =
     (tie.spec
     Inv-loop
     μ-loop
-    element-copy-out-distresses
+    (λ c. omega arith)
     loop-holds
-    add-gain
+    (λ c. omega arith)
     gain-requires
-    add-rating
+    (λ c. omega arith)
     rating-requires
     add-sum
-    add-k
-    loop-less
+    (λ c. omega arith)
+    (λ c. omega arith)
     loop-again
     returns)

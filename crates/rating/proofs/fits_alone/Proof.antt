@@ -17,23 +17,14 @@ Inv-loop d i j resources r₀ r = (r ≤ resources) × (all r (fitsLimit d i j) 
 abbrev μ-loop : tie.MeasureT-loop
 μ-loop d i j resources r₀ r = resources - r
 
-element-copy-out-resources : tie.Need-element-copy-out-resources Inv-loop μ-loop
-element-copy-out-resources c = omega arith
-
 loop-holds : tie.Need-loop-holds Inv-loop μ-loop
 loop-holds c = (omega arith, all-none _)
-
-add-scaled-limit : tie.Need-add-scaled-limit Inv-loop μ-loop
-add-scaled-limit c = omega arith
 
 scaled-limit-requires : tie.Need-scaled-limit-requires Inv-loop μ-loop
 scaled-limit-requires c κs =
     let p = c .before .before .before .pre in
     let n = p .0 .resources in
     (p .0, (omega arith, omega arith))
-
-add-usage : tie.Need-add-usage Inv-loop μ-loop
-add-usage c = omega arith
 
 usage-requires : tie.Need-usage-requires Inv-loop μ-loop
 usage-requires c κs =
@@ -52,12 +43,6 @@ unfolding fitsAlone
 returns c =
     sym (all-fails _ _ (c .before .before .before .before .loop .r + 1) (omega arith) (omega arith) (sym (tested (c .before)) ∙ lt-leb _ _ (c .if1 .taken)))
 
-add-r : tie.Need-add-r Inv-loop μ-loop
-add-r c = omega arith
-
-loop-less : tie.Need-loop-less Inv-loop μ-loop
-loop-less c = omega arith
-
 loop-again : tie.Need-loop-again Inv-loop μ-loop
 loop-again c =
     (omega arith, all-next _ _ (c .before .before .before .before .loop .inv .1) (sym (tested (c .before)) ∙ le-leb _ _ (c .if1 .left)))
@@ -72,14 +57,14 @@ fits-alone-spec =
     (tie.spec
     Inv-loop
     μ-loop
-    element-copy-out-resources
+    (λ c. omega arith)
     loop-holds
-    add-scaled-limit
+    (λ c. omega arith)
     scaled-limit-requires
-    add-usage
+    (λ c. omega arith)
     usage-requires
     returns
-    add-r
-    loop-less
+    (λ c. omega arith)
+    (λ c. omega arith)
     loop-again
     returns-2)

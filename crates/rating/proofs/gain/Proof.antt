@@ -14,15 +14,6 @@ use borrow.Author.Needs.{needs}
 use Rattle.rating.proofs.gain.Statement.{statement}
 use Rattle.rating.proofs.gain.Tie as tie
 
-own-gain-requires : tie.Need-own-gain-requires
-own-gain-requires c κs = search needs
-
-greatest-at-requires : tie.Need-greatest-at-requires
-greatest-at-requires c κs = search needs
-
-rating-at-requires : tie.Need-rating-at-requires
-rating-at-requires c κs = search needs
-
 sub-left : tie.Need-sub-left
 unfolding greatestOf ratingOf
 sub-left c =
@@ -62,9 +53,9 @@ pub gain-spec : {M : Type 1} → statement M
 gain-spec =
     tie.close
     (tie.spec
-    own-gain-requires
-    greatest-at-requires
-    rating-at-requires
+    (λ c κs. search needs)
+    (λ c κs. search needs)
+    (λ c κs. search needs)
     sub-left
     cast-left
     returns

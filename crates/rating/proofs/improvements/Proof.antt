@@ -15,12 +15,6 @@ use borrow.Author.Needs.{needs}
 use Rattle.rating.proofs.improvements.Statement.{statement}
 use Rattle.rating.proofs.improvements.Tie as tie
 
-gain-requires : tie.Need-gain-requires
-gain-requires c κs = search needs
-
-survivals-requires : tie.Need-survivals-requires
-survivals-requires c κs = search needs
-
 total-le : (c : tie.After-survivals) → c .survivals .result ≤ 10_000_000
 total-le c =
     let s = c .before .before in
@@ -50,4 +44,4 @@ returns c = toZ-ofZ (mul-result c) ∙ product c
 
 pub improvements-spec : {M : Type 1} → statement M
 improvements-spec =
-    tie.close (tie.spec gain-requires survivals-requires cast-result mul-result returns)
+    tie.close (tie.spec (λ c κs. search needs) (λ c κs. search needs) cast-result mul-result returns)

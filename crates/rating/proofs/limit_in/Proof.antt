@@ -7,15 +7,9 @@ use borrow.Author.Needs.{needs}
 use Rattle.rating.proofs.limit_in.Statement.{statement}
 use Rattle.rating.proofs.limit_in.Tie as tie
 
-element-copy-out-if1 : tie.Need-element-copy-out-if1
-element-copy-out-if1 c = search needs
-
 returns : tie.Need-returns
 unfolding limitIn
 returns c = simp (lt-leb _ _ (c .if1 .taken), and-false)
-
-scaled-limit-requires : tie.Need-scaled-limit-requires
-scaled-limit-requires c κs = search needs
 
 returns-2 : tie.Need-returns-2
 unfolding limitIn
@@ -23,4 +17,4 @@ returns-2 c =
     c .scaled-limit .ensures ∙ simp (le-leb 1 _ (c .before .before .before .pre .1 .0), le-leb _ _ (c .before .if1 .left))
 
 pub limit-in-spec : {M : Type 1} → statement M
-limit-in-spec = tie.close (tie.spec element-copy-out-if1 returns scaled-limit-requires returns-2)
+limit-in-spec = tie.close (tie.spec (λ c. search needs) returns (λ c κs. search needs) returns-2)

@@ -16,14 +16,8 @@ Inv-loop d i j distresses k₀ k = (k ≤ distresses) × (all k (yearsReached d 
 abbrev μ-loop : tie.MeasureT-loop
 μ-loop d i j distresses k₀ k = distresses - k
 
-element-copy-out-distresses : tie.Need-element-copy-out-distresses Inv-loop μ-loop
-element-copy-out-distresses c = omega arith
-
 loop-holds : tie.Need-loop-holds Inv-loop μ-loop
 loop-holds c = (omega arith, all-none _)
-
-add-years-reached : tie.Need-add-years-reached Inv-loop μ-loop
-add-years-reached c = omega arith
 
 years-reached-requires : tie.Need-years-reached-requires Inv-loop μ-loop
 years-reached-requires c κs =
@@ -35,12 +29,6 @@ returns : tie.Need-returns Inv-loop μ-loop
 unfolding minimaReached
 returns c =
     sym (all-fails _ _ (c .before .before .before .loop .k + 1) (omega arith) (omega arith) (sym (c .before .years-reached .ensures) ∙ not-true _ (c .if1 .taken)))
-
-add-k : tie.Need-add-k Inv-loop μ-loop
-add-k c = omega arith
-
-loop-less : tie.Need-loop-less Inv-loop μ-loop
-loop-less c = omega arith
 
 loop-again : tie.Need-loop-again Inv-loop μ-loop
 loop-again c =
@@ -56,12 +44,12 @@ minima-reached-spec =
     (tie.spec
     Inv-loop
     μ-loop
-    element-copy-out-distresses
+    (λ c. omega arith)
     loop-holds
-    add-years-reached
+    (λ c. omega arith)
     years-reached-requires
     returns
-    add-k
-    loop-less
+    (λ c. omega arith)
+    (λ c. omega arith)
     loop-again
     returns-2)

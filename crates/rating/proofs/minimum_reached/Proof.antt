@@ -12,9 +12,6 @@ use borrow.Author.Needs.{needs}
 use Rattle.rating.proofs.minimum_reached.Statement.{statement}
 use Rattle.rating.proofs.minimum_reached.Tie as tie
 
-pavement-at-requires : tie.Need-pavement-at-requires
-pavement-at-requires c κs = search needs
-
 type-in : (c : tie.After-pavement-at) → Pavement (c .pavement-at .result)
 type-in c = let p = c .before .pre in rw (c .pavement-at .ensures) (pavement-in _ (p .0) _ (p .1))
 
@@ -44,4 +41,4 @@ returns c =
 pub minimum-reached-spec : {M : Type 1} → statement M
 minimum-reached-spec =
     tie.close
-    (tie.spec pavement-at-requires minimum-at-requires rating-requires reaches-requires returns)
+    (tie.spec (λ c κs. search needs) minimum-at-requires rating-requires reaches-requires returns)

@@ -11,17 +11,11 @@ use borrow.Author.Needs.{needs}
 use Rattle.rating.proofs.overall_reached.Statement.{statement}
 use Rattle.rating.proofs.overall_reached.Tie as tie
 
-pavement-at-requires : tie.Need-pavement-at-requires
-pavement-at-requires c κs = search needs
-
 type-in : (c : tie.After-pavement-at) → Pavement (c .pavement-at .result)
 type-in c = let p = c .before .pre in rw (c .pavement-at .ensures) (pavement-in _ (p .0) _ (p .1))
 
 overall-at-requires : tie.Need-overall-at-requires
 overall-at-requires c κs = type-in c
-
-first-ratings-requires : tie.Need-first-ratings-requires
-first-ratings-requires c κs = search needs
 
 reaches-requires : tie.Need-reaches-requires
 unfolding overallOf
@@ -40,8 +34,8 @@ pub overall-reached-spec : {M : Type 1} → statement M
 overall-reached-spec =
     tie.close
     (tie.spec
-    pavement-at-requires
+    (λ c κs. search needs)
     overall-at-requires
-    first-ratings-requires
+    (λ c κs. search needs)
     reaches-requires
     returns)

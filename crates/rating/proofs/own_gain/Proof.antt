@@ -13,12 +13,6 @@ use borrow.Author.Needs.{needs}
 use Rattle.rating.proofs.own_gain.Statement.{statement}
 use Rattle.rating.proofs.own_gain.Tie as tie
 
-gain-byte-requires : tie.Need-gain-byte-requires
-gain-byte-requires c κs = search needs
-
-cast-result : tie.Need-cast-result
-cast-result c = search needs
-
 returns : tie.Need-returns
 unfolding gainOf
 returns c = toZ-pos w64 {n = c .before .gain-byte .result} (omega arith) ∙ rw (← c .before .gain-byte .ensures, lt-ltb _ _ (c .if1 .taken))
@@ -44,4 +38,4 @@ returns-2 c =
 
 pub own-gain-spec : {M : Type 1} → statement M
 own-gain-spec =
-    tie.close (tie.spec gain-byte-requires cast-result returns cast-result-2 sub-result returns-2)
+    tie.close (tie.spec (λ c κs. search needs) (λ c. search needs) returns cast-result-2 sub-result returns-2)

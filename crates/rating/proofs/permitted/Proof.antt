@@ -8,24 +8,15 @@ use borrow.Author.Needs.{needs}
 use Rattle.rating.proofs.permitted.Statement.{statement}
 use Rattle.rating.proofs.permitted.Tie as tie
 
-barred-requires : tie.Need-barred-requires
-barred-requires c κs = search needs
-
 returns : tie.Need-returns
 unfolding permitted
 returns c = rw (sym (c .before .barred .ensures) ∙ c .if1 .taken)
-
-minima-reached-requires : tie.Need-minima-reached-requires
-minima-reached-requires c κs = search needs
 
 returns-2 : tie.Need-returns-2
 unfolding permitted
 returns-2 c =
     let b = c .before .before in
     and-yes _ _ _ (ap not (sym (b .before .barred .ensures) ∙ b .if1 .left)) (and-no _ _ _ (sym (c .before .minima-reached .ensures) ∙ not-true _ (c .if2 .taken)) refl)
-
-overall-reached-requires : tie.Need-overall-reached-requires
-overall-reached-requires c κs = search needs
 
 returns-3 : tie.Need-returns-3
 unfolding permitted
@@ -38,9 +29,9 @@ pub permitted-spec : {M : Type 1} → statement M
 permitted-spec =
     tie.close
     (tie.spec
-    barred-requires
+    (λ c κs. search needs)
     returns
-    minima-reached-requires
+    (λ c κs. search needs)
     returns-2
-    overall-reached-requires
+    (λ c κs. search needs)
     returns-3)

@@ -14,9 +14,6 @@ use borrow.Author.Needs.{needs}
 use Rattle.rating.proofs.rating.Statement.{statement}
 use Rattle.rating.proofs.rating.Tie as tie
 
-rating-at-requires : tie.Need-rating-at-requires
-rating-at-requires c κs = search needs
-
 standing-le : (c : tie.After-rating-at) → c .rating-at .result ≤ 50
 unfolding ratingOf
 standing-le c =
@@ -40,9 +37,6 @@ mul-result c = omega (arith, standing-le c)
 
 cast-result : tie.Need-cast-result
 cast-result c = sfits-abs (omega (arith, standing-le c))
-
-survival-requires : tie.Need-survival-requires
-survival-requires c κs = search needs
 
 cast-result-2 : tie.Need-cast-result-2
 cast-result-2 c = sfits-abs (omega (arith, left-le c))
@@ -75,10 +69,10 @@ pub rating-spec : {M : Type 1} → statement M
 rating-spec =
     tie.close
     (tie.spec
-    rating-at-requires
+    (λ c κs. search needs)
     mul-result
     cast-result
-    survival-requires
+    (λ c κs. search needs)
     cast-result-2
     mul-result-2
     add-result

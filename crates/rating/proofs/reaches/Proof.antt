@@ -15,12 +15,6 @@ returns : tie.Need-returns
 unfolding reaches
 returns c = rw (eq-eqb _ _ (c .if1 .taken))
 
-mul-result : tie.Need-mul-result
-mul-result c = search needs
-
-cast-result : tie.Need-cast-result
-cast-result c = search needs
-
 returns-2 : tie.Need-returns-2
 unfolding reaches
 returns-2 c =
@@ -28,4 +22,4 @@ returns-2 c =
     rw (ne-eqb _ _ (c .if1 .left)) (ap₂ leZ (toZ-pos w64 {n = 1_000_000 * s .args .required} (omega arith)) (toZ-ofZ (s .fits .z)))
 
 pub reaches-spec : {M : Type 1} → statement M
-reaches-spec = tie.close (tie.spec returns mul-result cast-result returns-2)
+reaches-spec = tie.close (tie.spec returns (λ c. search needs) (λ c. search needs) returns-2)

@@ -8,9 +8,6 @@ use borrow.Author.Needs.{needs}
 use Rattle.rating.proofs.scaled_limit.Statement.{statement}
 use Rattle.rating.proofs.scaled_limit.Tie as tie
 
-limit-at-requires : tie.Need-limit-at-requires
-limit-at-requires c κs = search needs
-
 mul-result : tie.Need-mul-result
 unfolding limitOf
 mul-result c =
@@ -22,4 +19,4 @@ unfolding scaledLimit limitOf
 returns c = ap (λ v. v * 100_000) (c .limit-at .ensures)
 
 pub scaled-limit-spec : {M : Type 1} → statement M
-scaled-limit-spec = tie.close (tie.spec limit-at-requires mul-result returns)
+scaled-limit-spec = tie.close (tie.spec (λ c κs. search needs) mul-result returns)

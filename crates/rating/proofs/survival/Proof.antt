@@ -37,17 +37,8 @@ by-loss c =
     rw (c .before .before .segment-at .ensures, c .before .segment-at2 .ensures, c .percent-at .ensures)
     (later _ _ _ _ _ (c .before .before .before .pre .4 .0))
 
-segment-at-requires : tie.Need-segment-at-requires
-segment-at-requires c κs = search needs
-
-segment-at-requires-2 : tie.Need-segment-at-requires-2
-segment-at-requires-2 c κs = search needs
-
 mul-loss : tie.Need-mul-loss
 mul-loss c = product-fits _ _ 1_000 1_000 (traffic-le (c .before)) (environment-le c) tt
-
-percent-at-requires : tie.Need-percent-at-requires
-percent-at-requires c κs = search needs
 
 sub-loss : tie.Need-sub-loss
 sub-loss c = percent-le c
@@ -55,9 +46,6 @@ sub-loss c = percent-le c
 mul-loss-2 : tie.Need-mul-loss-2
 mul-loss-2 c =
     product-fits _ _ (1_000 * 1_000) 100 (mul-le-mul {n₂ = 1_000} {m₂ = 1_000} (traffic-le (c .before .before)) (environment-le (c .before))) (omega arith) tt
-
-sub-result : tie.Need-sub-result
-sub-result c = search needs
 
 returns : tie.Need-returns
 returns c = by-loss (c .before)
@@ -69,12 +57,12 @@ pub survival-spec : {M : Type 1} → statement M
 survival-spec =
     tie.close
     (tie.spec
-    segment-at-requires
-    segment-at-requires-2
+    (λ c κs. search needs)
+    (λ c κs. search needs)
     mul-loss
-    percent-at-requires
+    (λ c κs. search needs)
     sub-loss
     mul-loss-2
-    sub-result
+    (λ c. search needs)
     returns
     returns-2)

@@ -15,14 +15,8 @@ Inv-loop d i j k years total₀ t₀ total t = (t ≤ years) × (total ≡ sum t
 abbrev μ-loop : tie.MeasureT-loop
 μ-loop d i j k years total₀ t₀ total t = years - t
 
-element-copy-out-years : tie.Need-element-copy-out-years Inv-loop μ-loop
-element-copy-out-years c = omega arith
-
 loop-holds : tie.Need-loop-holds Inv-loop μ-loop
 loop-holds c = (omega arith, sum-none _)
-
-add-survival : tie.Need-add-survival Inv-loop μ-loop
-add-survival c = omega arith
 
 survival-requires : tie.Need-survival-requires Inv-loop μ-loop
 survival-requires c κs =
@@ -42,12 +36,6 @@ next-le c = rw (next c) (sum-bound _ 1_000_000 _ (λ t l h. survival-le _ _ _ _ 
 add-total : tie.Need-add-total Inv-loop μ-loop
 add-total c = let y = c .before .before .before .before .pre .0 .years in omega (arith, next-le c)
 
-add-t : tie.Need-add-t Inv-loop μ-loop
-add-t c = omega arith
-
-loop-less : tie.Need-loop-less Inv-loop μ-loop
-loop-less c = omega arith
-
 loop-again : tie.Need-loop-again Inv-loop μ-loop
 loop-again c = (omega arith, next c)
 
@@ -60,12 +48,12 @@ survivals-spec =
     (tie.spec
     Inv-loop
     μ-loop
-    element-copy-out-years
+    (λ c. omega arith)
     loop-holds
-    add-survival
+    (λ c. omega arith)
     survival-requires
     add-total
-    add-t
-    loop-less
+    (λ c. omega arith)
+    (λ c. omega arith)
     loop-again
     returns)

@@ -10,12 +10,6 @@ use borrow.Author.Needs.{needs}
 use Rattle.rating.proofs.usage.Statement.{statement}
 use Rattle.rating.proofs.usage.Tie as tie
 
-area-requires : tie.Need-area-requires
-area-requires c κs = search needs
-
-requirement-at-requires : tie.Need-requirement-at-requires
-requirement-at-requires c κs = search needs
-
 mul-result : tie.Need-mul-result
 unfolding requirementOf
 mul-result c =
@@ -28,4 +22,4 @@ unfolding requirementOf
 returns c = ap₂ _*_ (c .before .area .ensures) (c .requirement-at .ensures) ∙ usage-of _ _ _ _ (c .before .before .pre .2 .0)
 
 pub usage-spec : {M : Type 1} → statement M
-usage-spec = tie.close (tie.spec area-requires requirement-at-requires mul-result returns)
+usage-spec = tie.close (tie.spec (λ c κs. search needs) (λ c κs. search needs) mul-result returns)

@@ -16,9 +16,6 @@ use Rattle.rating.proofs.usage_in.Tie as tie
 returns : tie.Need-returns
 returns c = usage-none _ _ _ _ (sym (c .before .pre .3) ∙ c .if1 .taken)
 
-element-copy-out-if2 : tie.Need-element-copy-out-if2
-element-copy-out-if2 c = search needs
-
 returns-2 : tie.Need-returns-2
 returns-2 c = usage-past _ _ _ _ (c .if2 .taken)
 
@@ -52,4 +49,4 @@ returns-3 c =
 pub usage-in-spec : {M : Type 1} → statement M
 usage-in-spec =
     tie.close
-    (tie.spec returns element-copy-out-if2 returns-2 requirement-at-requires mul-result returns-3)
+    (tie.spec returns (λ c. search needs) returns-2 requirement-at-requires mul-result returns-3)

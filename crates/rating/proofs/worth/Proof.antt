@@ -37,22 +37,13 @@ module _ (d : District) (i j : ℕ) where
   unfolding candidate worthOf
   if-permitted e l = simp (e, above-zero (benefit d i j) l .0, and-true)
 
-barred-requires : tie.Need-barred-requires
-barred-requires c κs = search needs
-
 returns : tie.Need-returns
 unfolding worthOf
 returns c = of-barred _ _ _ (sym (c .before .barred .ensures) ∙ c .if1 .taken)
 
-fits-alone-requires : tie.Need-fits-alone-requires
-fits-alone-requires c κs = search needs
-
 returns-2 : tie.Need-returns-2
 unfolding worthOf
 returns-2 c = unfit _ _ _ (sym (c .before .fits-alone .ensures) ∙ not-true _ (c .if2 .taken))
-
-benefit-requires : tie.Need-benefit-requires
-benefit-requires c κs = search needs
 
 -- what the local b holds
 held : (c : tie.After-benefit) → let a = c .before .before .before .before .before .args in toZ w64 (ofZ w64 (c .benefit .result)) ≡ benefit (a .d .now) (a .i) (a .j)
@@ -69,9 +60,6 @@ tested c =
 returns-3 : tie.Need-returns-3
 unfolding worthOf
 returns-3 c = no-benefit _ _ _ (rw (held (c .before)) at (c .if3 .taken))
-
-permitted-requires : tie.Need-permitted-requires
-permitted-requires c κs = search needs
 
 returns-4 : tie.Need-returns-4
 unfolding worthOf
@@ -96,13 +84,13 @@ pub worth-spec : {M : Type 1} → statement M
 worth-spec =
     tie.close
     (tie.spec
-    barred-requires
+    (λ c κs. search needs)
     returns
-    fits-alone-requires
+    (λ c κs. search needs)
     returns-2
-    benefit-requires
+    (λ c κs. search needs)
     returns-3
-    permitted-requires
+    (λ c κs. search needs)
     returns-4
     cast-result
     returns-5)

@@ -18,9 +18,6 @@ Inv-loop d i j k years g t₀ t = (t ≤ years) × (all t (minimumReached d i j 
 abbrev μ-loop : tie.MeasureT-loop
 μ-loop d i j k years g t₀ t = years - t
 
-element-copy-out-years : tie.Need-element-copy-out-years Inv-loop μ-loop
-element-copy-out-years c = omega arith
-
 gain-requires : tie.Need-gain-requires Inv-loop μ-loop
 gain-requires c κs =
     let p = c .before .pre in
@@ -29,9 +26,6 @@ gain-requires c κs =
 
 loop-holds : tie.Need-loop-holds Inv-loop μ-loop
 loop-holds c = (omega arith, all-none _)
-
-add-minimum-reached : tie.Need-add-minimum-reached Inv-loop μ-loop
-add-minimum-reached c = omega arith
 
 minimum-reached-requires : tie.Need-minimum-reached-requires Inv-loop μ-loop
 minimum-reached-requires c κs =
@@ -44,12 +38,6 @@ returns : tie.Need-returns Inv-loop μ-loop
 unfolding yearsReached
 returns c =
     sym (all-fails _ _ (c .before .before .before .loop .t + 1) (omega arith) (omega arith) (sym (c .before .minimum-reached .ensures) ∙ not-true _ (c .if1 .taken)))
-
-add-t : tie.Need-add-t Inv-loop μ-loop
-add-t c = omega arith
-
-loop-less : tie.Need-loop-less Inv-loop μ-loop
-loop-less c = omega arith
 
 loop-again : tie.Need-loop-again Inv-loop μ-loop
 loop-again c =
@@ -65,13 +53,13 @@ years-reached-spec =
     (tie.spec
     Inv-loop
     μ-loop
-    element-copy-out-years
+    (λ c. omega arith)
     gain-requires
     loop-holds
-    add-minimum-reached
+    (λ c. omega arith)
     minimum-reached-requires
     returns
-    add-t
-    loop-less
+    (λ c. omega arith)
+    (λ c. omega arith)
     loop-again
     returns-2)

@@ -1,7 +1,8 @@
 -- `survey::block_of` meets its contract. Assumes nothing.
 use borrow.Author.Needs.{needs}
 use Rattle.rules.specs.Survey.{blockOf}
-use Rattle.survey.proofs.Laws.{cases, no-code, no-seal}
+use Rattle.base.proofs.Choice.{cases}
+use Rattle.survey.proofs.Laws.{no-code, no-seal}
 use Rattle.survey.proofs.block_of.Statement.{statement}
 use Rattle.survey.proofs.block_of.Tie as tie
 
@@ -23,15 +24,9 @@ returns-5 : tie.Need-returns-5
 unfolding blockOf
 returns-5 c = (search cases depth 12, search needs)
 
-add-result : tie.Need-add-result
-add-result c = search needs
-
 returns-6 : tie.Need-returns-6
 unfolding blockOf
 returns-6 c = (search cases depth 12, search needs)
-
-add-result-2 : tie.Need-add-result-2
-add-result-2 c = search needs
 
 returns-7 : tie.Need-returns-7
 unfolding blockOf
@@ -50,8 +45,8 @@ block-of-spec =
     returns-3
     returns-4
     returns-5
-    add-result
+    (λ c. search needs)
     returns-6
-    add-result-2
+    (λ c. search needs)
     returns-7
     returns-8)

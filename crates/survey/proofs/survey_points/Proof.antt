@@ -2,12 +2,10 @@
 use borrow.Author.Needs.{needs}
 use borrow.Author.Tests.{ne-eqb}
 use Rattle.rules.specs.Survey.{pointsOf}
-use Rattle.survey.proofs.Laws.{cases, no-entry, points}
+use Rattle.base.proofs.Choice.{cases}
+use Rattle.survey.proofs.Laws.{no-entry, points}
 use Rattle.survey.proofs.survey_points.Statement.{statement}
 use Rattle.survey.proofs.survey_points.Tie as tie
-
-block-of-requires : tie.Need-block-of-requires
-block-of-requires c κs = search needs
 
 returns : tie.Need-returns
 returns c = no-entry _ _ _ _ _ (c .before .block-of .ensures .0) (search cases)
@@ -25,12 +23,6 @@ returns-5 : tie.Need-returns-5
 unfolding pointsOf
 returns-5 c = points _ _ _ _ _ (c .before .before .before .before .before .block-of .ensures .0) _ (search cases) (search cases)
 
-sub-entry : tie.Need-sub-entry
-sub-entry c = search needs
-
-entry-requires : tie.Need-entry-requires
-entry-requires c κs = search needs
-
 returns-6 : tie.Need-returns-6
 unfolding pointsOf
 returns-6 c =
@@ -41,12 +33,12 @@ pub survey-points-spec : {M : Type 1} → statement M
 survey-points-spec =
     tie.close
     (tie.spec
-    block-of-requires
+    (λ c κs. search needs)
     returns
     returns-2
     returns-3
     returns-4
     returns-5
-    sub-entry
-    entry-requires
+    (λ c. search needs)
+    (λ c κs. search needs)
     returns-6)

@@ -6,15 +6,6 @@ use borrow.Author.Needs.{needs}
 use Rattle.tables.proofs.fits_one.Statement.{statement}
 use Rattle.tables.proofs.fits_one.Tie as tie
 
-sub-room : tie.Need-sub-room
-sub-room c = search needs
-
-mul-room : tie.Need-mul-room
-mul-room c = search needs
-
-shared-slice-read-room : tie.Need-shared-slice-read-room
-shared-slice-read-room c = search needs
-
 room-requires : tie.Need-room-requires
 room-requires c κs =
     let s = c .before .before .before .before .before .before in
@@ -28,4 +19,4 @@ returns c =
     c .room .ensures ∙ one-fits _ _ _ _ _ _ (s .pre .0) _ _ (s .pre .1 .0) (s .pre .1 .1)
 
 pub fits-one-spec : {M : Type 1} → statement M
-fits-one-spec = tie.close (tie.spec sub-room mul-room shared-slice-read-room room-requires returns)
+fits-one-spec = tie.close (tie.spec (λ c. search needs) (λ c. search needs) (λ c. search needs) room-requires returns)

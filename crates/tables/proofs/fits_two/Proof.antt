@@ -6,24 +6,6 @@ use borrow.Author.Needs.{needs}
 use Rattle.tables.proofs.fits_two.Statement.{statement}
 use Rattle.tables.proofs.fits_two.Tie as tie
 
-sub-room : tie.Need-sub-room
-sub-room c = search needs
-
-mul-room : tie.Need-mul-room
-mul-room c = search needs
-
-shared-slice-read-room : tie.Need-shared-slice-read-room
-shared-slice-read-room c = search needs
-
-sub-room-2 : tie.Need-sub-room-2
-sub-room-2 c = search needs
-
-mul-room-2 : tie.Need-mul-room-2
-mul-room-2 c = search needs
-
-shared-slice-read-room-2 : tie.Need-shared-slice-read-room-2
-shared-slice-read-room-2 c = search needs
-
 room-requires : tie.Need-room-requires
 room-requires c κs =
     let s = c .before .before .before .before .before .before .before in
@@ -47,11 +29,11 @@ pub fits-two-spec : {M : Type 1} → statement M
 fits-two-spec =
     tie.close
     (tie.spec
-    sub-room
-    mul-room
-    shared-slice-read-room
-    sub-room-2
-    mul-room-2
-    shared-slice-read-room-2
+    (λ c. search needs)
+    (λ c. search needs)
+    (λ c. search needs)
+    (λ c. search needs)
+    (λ c. search needs)
+    (λ c. search needs)
     room-requires
     returns)

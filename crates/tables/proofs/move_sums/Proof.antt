@@ -23,18 +23,6 @@ abbrev μ-loop : tie.MeasureT-loop
 loop-holds : tie.Need-loop-holds Inv-loop μ-loop
 loop-holds c = (search needs, refl, each-none _, (λ p l. refl))
 
-mul-sums : tie.Need-mul-sums Inv-loop μ-loop
-mul-sums c = search needs
-
-slice-read-sums : tie.Need-slice-read-sums Inv-loop μ-loop
-slice-read-sums c = search needs
-
-add-usage : tie.Need-add-usage Inv-loop μ-loop
-add-usage c = search needs
-
-usage-requires : tie.Need-usage-requires Inv-loop μ-loop
-usage-requires c κs = search needs
-
 sub-sums : tie.Need-sub-sums Inv-loop μ-loop
 sub-sums c =
     let s = c .before .before .before .before .before .before in
@@ -42,12 +30,6 @@ sub-sums c =
     let held = s .pre .sums-hold (r + 1) (omega arith) (omega arith) in
     let here : r + 1 - 1 ≡ r = omega arith in
     omega (arith, rw here at held, c .before .before .before .loop .inv .3 r (omega arith))
-
-add-usage-2 : tie.Need-add-usage-2 Inv-loop μ-loop
-add-usage-2 c = search needs
-
-usage-requires-2 : tie.Need-usage-requires-2 Inv-loop μ-loop
-usage-requires-2 c κs = search needs
 
 add-sums : tie.Need-add-sums Inv-loop μ-loop
 add-sums c =
@@ -57,18 +39,6 @@ add-sums c =
     let held = s .pre .sums-small (r + 1) (omega arith) (omega arith) in
     let here : r + 1 - 1 ≡ r = omega arith in
     omega (arith, rw here at held, c .before .before .before .before .loop .inv .3 r (omega arith))
-
-mul-sums-2 : tie.Need-mul-sums-2 Inv-loop μ-loop
-mul-sums-2 c = search needs
-
-slice-write-sums : tie.Need-slice-write-sums Inv-loop μ-loop
-slice-write-sums c = search needs
-
-add-r : tie.Need-add-r Inv-loop μ-loop
-add-r c = search needs
-
-loop-less : tie.Need-loop-less Inv-loop μ-loop
-loop-less c = search needs
 
 loop-again : tie.Need-loop-again Inv-loop μ-loop
 unfolding moved
@@ -93,9 +63,6 @@ loop-again c =
           getD-set-other sums r p _ 0 ne ∙ l .inv .3 p (omega arith),
     )
 
-same-length : tie.Need-same-length Inv-loop μ-loop
-same-length c = search needs
-
 returns : tie.Need-returns Inv-loop μ-loop
 returns c = λ r low high. c .before .loop .inv .2 r low (omega arith)
 
@@ -106,18 +73,18 @@ move-sums-spec =
     Inv-loop
     μ-loop
     loop-holds
-    mul-sums
-    slice-read-sums
-    add-usage
-    usage-requires
+    (λ c. search needs)
+    (λ c. search needs)
+    (λ c. search needs)
+    (λ c κs. search needs)
     sub-sums
-    add-usage-2
-    usage-requires-2
+    (λ c. search needs)
+    (λ c κs. search needs)
     add-sums
-    mul-sums-2
-    slice-write-sums
-    add-r
-    loop-less
+    (λ c. search needs)
+    (λ c. search needs)
+    (λ c. search needs)
+    (λ c. search needs)
     loop-again
-    same-length
+    (λ c. search needs)
     returns)

@@ -21,20 +21,11 @@ abbrev μ-loop : tie.MeasureT-loop
 loop-holds : tie.Need-loop-holds Inv-loop μ-loop
 loop-holds c = (search needs, all-none _)
 
-add-room-in : tie.Need-add-room-in Inv-loop μ-loop
-add-room-in c = search needs
-
 room-in-requires : tie.Need-room-in-requires Inv-loop μ-loop
 room-in-requires c κs = (room-part _ _ _ _ _ (c .before .before .before .before .before .pre .0) (omega arith), (c .before .before .before .before .before .pre .1, omega arith))
 
 returns : tie.Need-returns Inv-loop μ-loop
 returns c = sym (all-fails _ _ (c .before .before .before .loop .r + 1) (omega arith) (omega arith) (sym (c .before .room-in .ensures) ∙ not-true _ (c .if1 .taken)))
-
-add-r : tie.Need-add-r Inv-loop μ-loop
-add-r c = search needs
-
-loop-less : tie.Need-loop-less Inv-loop μ-loop
-loop-less c = search needs
 
 loop-again : tie.Need-loop-again Inv-loop μ-loop
 loop-again c = (search needs, all-next _ _ (c .before .before .before .loop .inv .1) (sym (c .before .room-in .ensures) ∙ not-false _ (c .if1 .left)))
@@ -49,10 +40,10 @@ room-spec =
     Inv-loop
     μ-loop
     loop-holds
-    add-room-in
+    (λ c. search needs)
     room-in-requires
     returns
-    add-r
-    loop-less
+    (λ c. search needs)
+    (λ c. search needs)
     loop-again
     returns-2)

@@ -21,9 +21,6 @@ abbrev μ-loop : tie.MeasureT-loop
 loop-holds : tie.Need-loop-holds Inv-loop μ-loop
 loop-holds c = (search needs, sum-none _)
 
-add-chosen-benefit : tie.Need-add-chosen-benefit Inv-loop μ-loop
-add-chosen-benefit c = search needs
-
 chosen-benefit-requires : tie.Need-chosen-benefit-requires Inv-loop μ-loop
 chosen-benefit-requires c κs =
     let p = c .before .before .before .before .pre in
@@ -37,12 +34,6 @@ add-so-far c =
     let sum = gained-le (now (s .args .benefits)) (s .pre .2) (l .i) (now (s .args .choice)) in
     let more = benefit-lt (now (s .args .benefits)) (s .pre .2) (l .i + 1) (strategyAt (now (s .args .choice)) (l .i + 1)) in
     omega (arith, l .inv .1, c .chosen-benefit .ensures)
-
-add-i : tie.Need-add-i Inv-loop μ-loop
-add-i c = search needs
-
-loop-less : tie.Need-loop-less Inv-loop μ-loop
-loop-less c = search needs
 
 loop-again : tie.Need-loop-again Inv-loop μ-loop
 loop-again c = (search needs, rw (c .chosen-benefit .ensures) (sum-next _ _ (c .before .before .loop .inv .1)))
@@ -58,10 +49,10 @@ total-of-spec =
     Inv-loop
     μ-loop
     loop-holds
-    add-chosen-benefit
+    (λ c. search needs)
     chosen-benefit-requires
     add-so-far
-    add-i
-    loop-less
+    (λ c. search needs)
+    (λ c. search needs)
     loop-again
     returns)

@@ -1,9 +1,8 @@
 -- `unit::conclude` meets its contract. Assumes nothing.
 use borrow.Author.Needs.{needs}
-use mathlib.Core.Path.{_≡_, sym}
 use Rattle.rules.specs.Answers.{answerOf, accepting}
 use Rattle.rules.specs.Calls.{answered}
-use Rattle.answers.proofs.Laws.{answer-refused, old-kept}
+use Rattle.unit.proofs.Laws.{answer-refused, old-kept}
 use Rattle.unit.proofs.conclude.Statement.{statement}
 use Rattle.unit.proofs.conclude.Tie as tie
 
@@ -11,12 +10,9 @@ returns : tie.Need-returns
 unfolding answered
 returns c = rw (answer-refused _ _ (c .if1 .taken), old-kept _ _ _ (c .if1 .taken))
 
-hold-requires : tie.Need-hold-requires
-hold-requires c κs = search needs
-
 returns-2 : tie.Need-returns-2
 unfolding answered answerOf accepting
 returns-2 c = rw (c .before .if1 .left, c .hold .ensures)
 
 pub conclude-spec : {M : Type 1} → statement M
-conclude-spec = tie.close (tie.spec returns hold-requires returns-2)
+conclude-spec = tie.close (tie.spec returns (λ c κs. search needs) returns-2)

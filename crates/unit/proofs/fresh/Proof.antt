@@ -7,15 +7,9 @@ use Rattle.unit.proofs.Demands.{the-rules, one-claim}
 use Rattle.unit.proofs.fresh.Statement.{statement}
 use Rattle.unit.proofs.fresh.Tie as tie
 
-fresh-district-requires : tie.Need-fresh-district-requires
-fresh-district-requires c κs = search needs
-
-hold-requires : tie.Need-hold-requires
-hold-requires c κs = search needs
-
 returns : tie.Need-returns
 unfolding freshUnit
 returns c = (cc, (settled, (points-settled, (the-rules, (byte-for-byte, one-claim)))))
 
 pub fresh-spec : {M : Type 1} → statement M
-fresh-spec = tie.close (tie.spec fresh-district-requires hold-requires returns)
+fresh-spec = tie.close (tie.spec (λ c κs. search needs) (λ c κs. search needs) returns)

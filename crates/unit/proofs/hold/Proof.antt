@@ -4,12 +4,9 @@ use Rattle.rules.specs.Calls.{unitOf}
 use Rattle.unit.proofs.hold.Statement.{statement}
 use Rattle.unit.proofs.hold.Tie as tie
 
-plan-requires : tie.Need-plan-requires
-plan-requires c κs = search needs
-
 returns : tie.Need-returns
 unfolding unitOf
 returns c = cc
 
 pub hold-spec : {M : Type 1} → statement M
-hold-spec = tie.close (tie.spec plan-requires returns)
+hold-spec = tie.close (tie.spec (λ c κs. search needs) returns)

@@ -6,15 +6,9 @@ use Rattle.unit.proofs.Demands.{answered-same}
 use Rattle.unit.proofs.load.Statement.{statement}
 use Rattle.unit.proofs.load.Tie as tie
 
-load-requires : tie.Need-load-requires
-load-requires c κs = search needs
-
-conclude-requires : tie.Need-conclude-requires
-conclude-requires c κs = search needs
-
 returns : tie.Need-returns
 unfolding loadOf
 returns c = c .conclude .ensures ∙ rw (c .before .before .load .ensures .0) (answered-same _ _ _ _)
 
 pub load-spec : {M : Type 1} → statement M
-load-spec = tie.close (tie.spec load-requires conclude-requires returns)
+load-spec = tie.close (tie.spec (λ c κs. search needs) (λ c κs. search needs) returns)

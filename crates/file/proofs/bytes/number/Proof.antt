@@ -37,15 +37,6 @@ module _ (file : List ℕ) (at width left : ℕ) (w : width ≤ 4) (fits : at + 
 loop-holds : tie.Need-loop-holds Inv-loop μ-loop
 loop-holds c = rw sub-self (search needs, refl)
 
-sub-left : tie.Need-sub-left Inv-loop μ-loop
-sub-left c = search needs
-
-add-byte : tie.Need-add-byte Inv-loop μ-loop
-add-byte c = search needs
-
-shared-slice-read-byte : tie.Need-shared-slice-read-byte Inv-loop μ-loop
-shared-slice-read-byte c = search needs
-
 cast-byte : tie.Need-cast-byte Inv-loop μ-loop
 cast-byte c = omega (arith, c .shared-slice-known .given (c .before .before .before .args .at + (c .before .before .loop .left - 1)))
 
@@ -60,9 +51,6 @@ add-value c =
     let l = c .before .before .loop in
     let a = c .before .before .before .args in
     omega (arith, room (a .file .now) (a .at) (a .width) (l .left) (omega arith) (omega arith) (omega arith) (omega arith) (λ n. omega (arith, c .shared-slice-known .given n)), l .inv .1, c .shared-slice-known .given (a .at + (l .left - 1)))
-
-loop-less : tie.Need-loop-less Inv-loop μ-loop
-loop-less c = search needs
 
 loop-again : tie.Need-loop-again Inv-loop μ-loop
 loop-again c =
@@ -83,12 +71,12 @@ number-spec =
     Inv-loop
     μ-loop
     loop-holds
-    sub-left
-    add-byte
-    shared-slice-read-byte
+    (λ c. search needs)
+    (λ c. search needs)
+    (λ c. search needs)
     cast-byte
     mul-value
     add-value
-    loop-less
+    (λ c. search needs)
     loop-again
     returns)

@@ -30,29 +30,8 @@ tested c t e =
 loop-holds : tie.Need-loop-holds Inv-loop μ-loop
 loop-holds c = (omega arith, rw (sub-zero, add-zero))
 
-field-at-requires : tie.Need-field-at-requires Inv-loop μ-loop
-field-at-requires c κs = omega arith
-
-add-is-inside : tie.Need-add-is-inside Inv-loop μ-loop
-add-is-inside c = search needs
-
-mul-is-inside : tie.Need-mul-is-inside Inv-loop μ-loop
-mul-is-inside c = search needs
-
-element-copy-out-is-inside : tie.Need-element-copy-out-is-inside Inv-loop μ-loop
-element-copy-out-is-inside c = search needs
-
-is-inside-requires : tie.Need-is-inside-requires Inv-loop μ-loop
-is-inside-requires c κs = search needs
-
 returns : tie.Need-returns Inv-loop μ-loop
 returns c = sym (tested (c .before) false (not-true _ (c .if1 .taken)))
-
-add-i : tie.Need-add-i Inv-loop μ-loop
-add-i c = search needs
-
-loop-less : tie.Need-loop-less Inv-loop μ-loop
-loop-less c = search needs
 
 loop-again : tie.Need-loop-again Inv-loop μ-loop
 loop-again c = (omega arith, tested (c .before) true (not-false _ (c .if1 .left)))
@@ -72,13 +51,13 @@ numbers-in-range-spec =
     Inv-loop
     μ-loop
     loop-holds
-    field-at-requires
-    add-is-inside
-    mul-is-inside
-    element-copy-out-is-inside
-    is-inside-requires
+    (λ c κs. omega arith)
+    (λ c. search needs)
+    (λ c. search needs)
+    (λ c. search needs)
+    (λ c κs. search needs)
     returns
-    add-i
-    loop-less
+    (λ c. search needs)
+    (λ c. search needs)
     loop-again
     returns-2)

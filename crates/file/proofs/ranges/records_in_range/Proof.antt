@@ -32,9 +32,6 @@ tested c t e =
 loop-holds : tie.Need-loop-holds Inv-loop μ-loop
 loop-holds c = (omega arith, refl, refl)
 
-slot-at-requires : tie.Need-slot-at-requires Inv-loop μ-loop
-slot-at-requires c κs = search needs
-
 numbers-in-range-requires : tie.Need-numbers-in-range-requires Inv-loop μ-loop
 numbers-in-range-requires c κs =
     let l = c .before .before .loop in
@@ -49,12 +46,6 @@ add-place : tie.Need-add-place Inv-loop μ-loop
 add-place c =
     let l = c .before .before .before .before .before .loop in
     omega (arith, ap (λ (s : Slot). s .places) (c .before .before .before .slot-at .ensures), ready (l .n) (omega arith) .room, l .inv .2)
-
-add-n : tie.Need-add-n Inv-loop μ-loop
-add-n c = search needs
-
-loop-less : tie.Need-loop-less Inv-loop μ-loop
-loop-less c = search needs
 
 loop-again : tie.Need-loop-again Inv-loop μ-loop
 loop-again c =
@@ -79,11 +70,11 @@ records-in-range-spec =
     Inv-loop
     μ-loop
     loop-holds
-    slot-at-requires
+    (λ c κs. search needs)
     numbers-in-range-requires
     returns
     add-place
-    add-n
-    loop-less
+    (λ c. search needs)
+    (λ c. search needs)
     loop-again
     returns-2)

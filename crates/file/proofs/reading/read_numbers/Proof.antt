@@ -15,6 +15,7 @@ use Rattle.file.proofs.Steps.{less, widths-step, number-good, number-ba
 use borrow.Author.Needs.{needs}
 use Rattle.file.proofs.reading.read_numbers.Statement.{statement}
 use Rattle.file.proofs.reading.read_numbers.Tie as tie
+use Rattle.rules.specs.District.{districtPlaces}
 
 abbrev Inv-loop : tie.InvT-loop
 Inv-loop d₀ file from slot place places at₀ i₀ d at i =
@@ -22,7 +23,7 @@ Inv-loop d₀ file from slot place places at₀ i₀ d at i =
     × (readNumbers places (take place d₀) slot 0 [] (drop from file) ≡ readNumbers (places - i) (take place d₀) slot i (take i (drop place d)) (drop at file))
     × (at + widths (places - i) (take place d₀) slot i ≤ length file)
     × (take place d ≡ take place d₀)
-    × (length d ≡ 2620)
+    × (length d ≡ districtPlaces)
 
 abbrev μ-loop : tie.MeasureT-loop
 μ-loop d₀ file from slot place places at₀ i₀ d at i = places - i
@@ -52,9 +53,6 @@ number-requires c κs =
     let l = c .before .before .before .loop in
     let a = c .before .before .before .before .before .args in
     (omega (arith, width-small (l .d) (a .slot) (l .i), ap (λ (f : Field). f .width) (c .field-at .ensures)), omega (arith, left c))
-
-is-inside-requires : tie.Need-is-inside-requires Inv-loop μ-loop
-is-inside-requires c κs = search needs
 
 returns : tie.Need-returns Inv-loop μ-loop
 returns c =
@@ -87,9 +85,6 @@ add-at c = omega (arith, left (c .before .before .before), c .before .before .be
 
 add-i : tie.Need-add-i Inv-loop μ-loop
 add-i c = omega (arith, c .before .before .before .before .before .before .before .before .pre .0 .few)
-
-loop-less : tie.Need-loop-less Inv-loop μ-loop
-loop-less c = search needs
 
 loop-again : tie.Need-loop-again Inv-loop μ-loop
 loop-again c =
@@ -128,13 +123,13 @@ read-numbers-spec =
     loop-holds
     field-at-requires
     number-requires
-    is-inside-requires
+    (λ c κs. search needs)
     returns
     add-d
     mul-d
     element-write-d
     add-at
     add-i
-    loop-less
+    (λ c. search needs)
     loop-again
     returns-2)

@@ -43,9 +43,6 @@ kind c =
 len : (c : tie.Else4) → let a = c .before .before .before .before .before .before .before .before .before .before .before .args in numberOf (take 2 (drop (a .at) (a .file .now))) ≡ size (take (a .place) (a .d .now)) (a .slot)
 len c = sym (c .before .before .before .number .ensures) ∙ c .if4 .left ∙ sized (c .before .before .before .before)
 
-is-present-requires : tie.Need-is-present-requires
-is-present-requires c κs = search needs
-
 read-numbers-requires : tie.Need-read-numbers-requires
 read-numbers-requires c κs =
     let st = c .before .before .before .before .before in
@@ -58,9 +55,6 @@ returns c =
     let n = c .read-numbers .ensures in
     record { same = record-none (take (a .place) (a .d .now)) (a .slot) (drop (a .at) (a .file .now)) (none (c .before .before)) ∙ n .same; inside = n .inside; before = n .before; all = n .all }
 
-sub-left : tie.Need-sub-left
-sub-left c = search needs
-
 returns-2 : tie.Need-returns-2
 unfolding readRecord
 returns-2 c =
@@ -69,18 +63,6 @@ returns-2 c =
     let t = there (c .before) in
     let h : length (drop (a .at) (a .file .now)) < 4 = simp length-drop (omega arith) in
     record { same = sym (search picks depth 10); inside = tt; before = refl; all = st .pre .1 .1 }
-
-payload-requires : tie.Need-payload-requires
-payload-requires c κs = search needs
-
-number-requires : tie.Need-number-requires
-number-requires c κs = search needs
-
-add-number : tie.Need-add-number
-add-number c = search needs
-
-number-requires-2 : tie.Need-number-requires-2
-number-requires-2 c κs = search needs
 
 returns-3 : tie.Need-returns-3
 unfolding readRecord
@@ -116,9 +98,6 @@ returns-5 c =
     let h : length (drop (a .at) (a .file .now)) - 4 < size (take (a .place) (a .d .now)) (a .slot) = simp length-drop (omega arith) in
     record { same = sym (search picks depth 10); inside = tt; before = refl; all = st .pre .1 .1 }
 
-add-read-numbers : tie.Need-add-read-numbers
-add-read-numbers c = search needs
-
 read-numbers-requires-2 : tie.Need-read-numbers-requires-2
 read-numbers-requires-2 c κs =
     let st = c .before .before .before .before .before .before .before .before .before .before .before .before .before in
@@ -145,18 +124,18 @@ pub read-record-spec : {M : Type 1} → statement M
 read-record-spec =
     tie.close
     (tie.spec
-    is-present-requires
+    (λ c κs. search needs)
     read-numbers-requires
     returns
-    sub-left
+    (λ c. search needs)
     returns-2
-    payload-requires
-    number-requires
-    add-number
-    number-requires-2
+    (λ c κs. search needs)
+    (λ c κs. search needs)
+    (λ c. search needs)
+    (λ c κs. search needs)
     returns-3
     returns-4
     returns-5
-    add-read-numbers
+    (λ c. search needs)
     read-numbers-requires-2
     returns-6)

@@ -30,9 +30,6 @@ loop-holds : tie.Need-loop-holds Inv-loop μ-loop
 unfolding encode
 loop-holds c = (omega arith, zero-add _, refl)
 
-slot-at-requires : tie.Need-slot-at-requires Inv-loop μ-loop
-slot-at-requires c κs = search needs
-
 record-length-requires : tie.Need-record-length-requires Inv-loop μ-loop
 record-length-requires c κs = omega (arith, few-places (c .before .before .loop .n), ap (λ (s : Slot). s .places) (c .slot-at .ensures))
 
@@ -45,12 +42,6 @@ add-place : tie.Need-add-place Inv-loop μ-loop
 add-place c =
     let l = c .before .before .before .before .loop in
     omega (arith, ap (λ (s : Slot). s .places) (c .before .before .slot-at .ensures), ready (l .n) (omega arith) .room)
-
-add-n : tie.Need-add-n Inv-loop μ-loop
-add-n c = search needs
-
-loop-less : tie.Need-loop-less Inv-loop μ-loop
-loop-less c = search needs
 
 loop-again : tie.Need-loop-again Inv-loop μ-loop
 loop-again c =
@@ -72,11 +63,11 @@ file-length-spec =
     Inv-loop
     μ-loop
     loop-holds
-    slot-at-requires
+    (λ c κs. search needs)
     record-length-requires
     add-sum
     add-place
-    add-n
-    loop-less
+    (λ c. search needs)
+    (λ c. search needs)
     loop-again
     returns)

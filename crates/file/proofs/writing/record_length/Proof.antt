@@ -6,12 +6,6 @@ use borrow.Author.Needs.{needs}
 use Rattle.file.proofs.writing.record_length.Statement.{statement}
 use Rattle.file.proofs.writing.record_length.Tie as tie
 
-is-present-requires : tie.Need-is-present-requires
-is-present-requires c κs = search needs
-
-payload-requires : tie.Need-payload-requires
-payload-requires c κs = search needs
-
 add-result : tie.Need-add-result
 add-result c =
     let a = c .before .before .before .args in
@@ -29,4 +23,4 @@ returns-2 c =
 
 pub record-length-spec : {M : Type 1} → statement M
 record-length-spec =
-    tie.close (tie.spec is-present-requires payload-requires add-result returns returns-2)
+    tie.close (tie.spec (λ c κs. search needs) (λ c κs. search needs) add-result returns returns-2)

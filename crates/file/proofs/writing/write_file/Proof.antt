@@ -4,7 +4,7 @@ use mathlib.Core.Path.{_≡_, refl, sym, ap}
 use mathlib.Core.List.{_++_}
 use native.Mathlib.Omega.{arith}
 use lib.ListN.{length, length-drop}
-use Rattle.base.proofs.Lists.{Written, whole-tail, tail-room, written-none, written-more, written-all}
+use Rattle.base.proofs.Buffers.{Written, whole-tail, tail-room, written-none, written-more, written-all}
 use Rattle.rules.specs.File.{recordBytes, recordsBytes, encode}
 use Rattle.rules.specs.declared.Slot.{Slot}
 use Rattle.grammar.specs.Places.{startOf}
@@ -35,17 +35,11 @@ loop-holds : tie.Need-loop-holds Inv-loop μ-loop
 unfolding encode
 loop-holds c = (omega arith, written-none _ _, refl)
 
-slot-at-requires : tie.Need-slot-at-requires Inv-loop μ-loop
-slot-at-requires c κs = search needs
-
 sub-write-record : tie.Need-sub-write-record Inv-loop μ-loop
 sub-write-record c = omega (arith, c .before .before .loop .inv .1 .room)
 
 part-write-record-start : tie.Need-part-write-record-start Inv-loop μ-loop
 part-write-record-start c = omega (arith, c .before .before .loop .inv .1 .room)
-
-part-write-record-end : tie.Need-part-write-record-end Inv-loop μ-loop
-part-write-record-end c = search needs
 
 write-record-requires : tie.Need-write-record-requires Inv-loop μ-loop
 write-record-requires c κs =
@@ -61,12 +55,6 @@ add-place : tie.Need-add-place Inv-loop μ-loop
 add-place c =
     let l = c .before .before .before .before .before .before .before .loop in
     omega (arith, ap (λ (s : Slot). s .places) (c .before .before .before .before .before .slot-at .ensures), ready (l .n) (omega arith) .room, l .inv .2)
-
-add-n : tie.Need-add-n Inv-loop μ-loop
-add-n c = search needs
-
-loop-less : tie.Need-loop-less Inv-loop μ-loop
-loop-less c = search needs
 
 loop-again : tie.Need-loop-again Inv-loop μ-loop
 loop-again c =
@@ -99,15 +87,15 @@ write-file-spec =
     Inv-loop
     μ-loop
     loop-holds
-    slot-at-requires
+    (λ c κs. search needs)
     sub-write-record
     part-write-record-start
-    part-write-record-end
+    (λ c. search needs)
     write-record-requires
     add-at
     add-place
-    add-n
-    loop-less
+    (λ c. search needs)
+    (λ c. search needs)
     loop-again
     same-length
     returns)

@@ -5,7 +5,7 @@ use mathlib.Core.List.{[], _++_}
 use native.Mathlib.Omega.{arith}
 use lib.ListN.{length, length-drop}
 use borrow.Author.Tests.{not-true, not-false}
-use Rattle.base.proofs.Lists.{whole-tail, written-front, written-more, written-all}
+use Rattle.base.proofs.Buffers.{whole-tail, written-front, written-more, written-all}
 use Rattle.base.specs.Bytes.{bytesOf}
 use Rattle.rules.specs.File.{size, headerBytes}
 use Rattle.file.proofs.Steps.{header-there, header-none}
@@ -21,16 +21,10 @@ there c =
 room : (c : tie.Else1) → 4 ≤ length (c .before .before .before .args .out .now)
 room c = omega (arith, c .before .before .before .pre .1, ap length (there c))
 
-is-present-requires : tie.Need-is-present-requires
-is-present-requires c κs = search needs
-
 returns : tie.Need-returns
 returns c =
     let a = c .before .before .before .args in
     rw (header-none (a .d .now) (a .slot) (sym (c .before .is-present .ensures) ∙ not-true _ (c .if1 .taken))) (refl, refl)
-
-payload-requires : tie.Need-payload-requires
-payload-requires c κs = search needs
 
 put-requires : tie.Need-put-requires
 put-requires c κs = omega (arith, room (c .before .before))
@@ -41,16 +35,10 @@ sub-put c = omega (arith, room (c .before .before .before .before .before), c .b
 part-put-start : tie.Need-part-put-start
 part-put-start c = omega (arith, room (c .before .before .before .before .before), c .before .before .put .kept)
 
-part-put-end : tie.Need-part-put-end
-part-put-end c = search needs
-
 put-requires-2 : tie.Need-put-requires-2
 put-requires-2 c κs =
     let o = c .before .before .before .put .last .0 in
     rw (whole-tail o 2) (simp length-drop (omega (arith, room (c .before .before .before .before .before .before), c .before .before .before .put .kept)))
-
-same-length : tie.Need-same-length
-same-length c = search needs
 
 returns-2 : tie.Need-returns-2
 returns-2 c =
@@ -66,13 +54,13 @@ pub write-header-spec : {M : Type 1} → statement M
 write-header-spec =
     tie.close
     (tie.spec
-    is-present-requires
+    (λ c κs. search needs)
     returns
-    payload-requires
+    (λ c κs. search needs)
     put-requires
     sub-put
     part-put-start
-    part-put-end
+    (λ c. search needs)
     put-requires-2
-    same-length
+    (λ c. search needs)
     returns-2)

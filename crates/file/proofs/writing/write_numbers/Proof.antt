@@ -6,7 +6,7 @@ use native.Mathlib.Nat.{sub-zero, add-zero}
 use native.Mathlib.Omega.{arith}
 use lib.ListN.{length, getD, length-drop}
 use Rattle.base.proofs.Bytes.{length-bytes}
-use Rattle.base.proofs.Lists.{Written, written-none, written-all, written-more, tail-room, whole-tail}
+use Rattle.base.proofs.Buffers.{Written, written-none, written-all, written-more, tail-room, whole-tail}
 use Rattle.base.specs.Bytes.{bytesOf}
 use Rattle.rules.specs.File.{numberBytes}
 use Rattle.file.proofs.Steps.{numbers-step}
@@ -38,26 +38,11 @@ room c =
 loop-holds : tie.Need-loop-holds Inv-loop μ-loop
 loop-holds c = (omega arith, rw (sub-zero, add-zero) (written-none _ _))
 
-field-at-requires : tie.Need-field-at-requires Inv-loop μ-loop
-field-at-requires c κs = omega arith
-
 sub-put : tie.Need-sub-put Inv-loop μ-loop
 sub-put c = omega (arith, c .before .before .loop .inv .1 .room)
 
 part-put-start : tie.Need-part-put-start Inv-loop μ-loop
 part-put-start c = omega (arith, c .before .before .loop .inv .1 .room)
-
-part-put-end : tie.Need-part-put-end Inv-loop μ-loop
-part-put-end c = search needs
-
-add-put : tie.Need-add-put Inv-loop μ-loop
-add-put c = search needs
-
-mul-put : tie.Need-mul-put Inv-loop μ-loop
-mul-put c = search needs
-
-element-copy-out-put : tie.Need-element-copy-out-put Inv-loop μ-loop
-element-copy-out-put c = search needs
 
 put-requires : tie.Need-put-requires Inv-loop μ-loop
 put-requires c κs =
@@ -66,12 +51,6 @@ put-requires c κs =
 
 add-at : tie.Need-add-at Inv-loop μ-loop
 add-at c = omega (arith, room (c .before .before .before .before .before), c .before .before .before .before .before .before .before .before .before .good)
-
-add-i : tie.Need-add-i Inv-loop μ-loop
-add-i c = search needs
-
-loop-less : tie.Need-loop-less Inv-loop μ-loop
-loop-less c = search needs
 
 loop-again : tie.Need-loop-again Inv-loop μ-loop
 loop-again c =
@@ -104,17 +83,17 @@ write-numbers-spec =
     Inv-loop
     μ-loop
     loop-holds
-    field-at-requires
+    (λ c κs. omega arith)
     sub-put
     part-put-start
-    part-put-end
-    add-put
-    mul-put
-    element-copy-out-put
+    (λ c. search needs)
+    (λ c. search needs)
+    (λ c. search needs)
+    (λ c. search needs)
     put-requires
     add-at
-    add-i
-    loop-less
+    (λ c. search needs)
+    (λ c. search needs)
     loop-again
     same-length
     returns)

@@ -4,7 +4,7 @@ use mathlib.Core.Path.{refl, sym}
 use mathlib.Core.List.{[], _++_, append-nil}
 use native.Mathlib.Omega.{arith}
 use lib.ListN.{length, length-drop, length-append}
-use Rattle.base.proofs.Lists.{whole-tail, written-front, written-more, written-all}
+use Rattle.base.proofs.Buffers.{whole-tail, written-front, written-more, written-all}
 use Rattle.rules.specs.File.{headerBytes, numberBytes}
 use borrow.Author.Needs.{needs}
 use Rattle.file.proofs.writing.write_record.Statement.{statement}
@@ -27,9 +27,6 @@ sub-write-numbers c = omega (arith, room (c .before .before))
 part-write-numbers-start : tie.Need-part-write-numbers-start
 part-write-numbers-start c = omega (arith, room (c .before .before))
 
-part-write-numbers-end : tie.Need-part-write-numbers-end
-part-write-numbers-end c = search needs
-
 write-numbers-requires : tie.Need-write-numbers-requires
 write-numbers-requires c κs =
     let st = c .before .before .before .before .before .before in
@@ -38,9 +35,6 @@ write-numbers-requires c κs =
 
 add-result : tie.Need-add-result
 add-result c = omega (arith, room (c .before .before .before .before .before .before), c .before .before .write-numbers .ensures .0, c .before .before .before .before .before .before .before .before .before .good)
-
-same-length : tie.Need-same-length
-same-length c = search needs
 
 returns : tie.Need-returns
 returns c =
@@ -63,8 +57,8 @@ write-record-spec =
     write-header-requires
     sub-write-numbers
     part-write-numbers-start
-    part-write-numbers-end
+    (λ c. search needs)
     write-numbers-requires
     add-result
-    same-length
+    (λ c. search needs)
     returns)

@@ -10,30 +10,6 @@ use borrow.Author.Needs.{needs}
 use Rattle.panel.proofs.files.new_name.Statement.{statement}
 use Rattle.panel.proofs.files.new_name.Tie as tie
 
-put-requires : tie.Need-put-requires
-put-requires c κs = search needs
-
-sub-put : tie.Need-sub-put
-sub-put c = search needs
-
-part-put-start : tie.Need-part-put-start
-part-put-start c = search needs
-
-part-put-end : tie.Need-part-put-end
-part-put-end c = search needs
-
-slice-aggregate-put : tie.Need-slice-aggregate-put
-slice-aggregate-put c = search needs
-
-put-requires-2 : tie.Need-put-requires-2
-put-requires-2 c κs = search needs
-
-add-result : tie.Need-add-result
-add-result c = search needs
-
-same-length : tie.Need-same-length
-same-length c = search needs
-
 returns : tie.Need-returns
 unfolding text
 returns c =
@@ -48,12 +24,12 @@ pub new-name-spec : {M : Type 1} → statement M
 new-name-spec =
     tie.close
     (tie.spec
-    put-requires
-    sub-put
-    part-put-start
-    part-put-end
-    slice-aggregate-put
-    put-requires-2
-    add-result
-    same-length
+    (λ c κs. search needs)
+    (λ c. search needs)
+    (λ c. search needs)
+    (λ c. search needs)
+    (λ c. search needs)
+    (λ c κs. search needs)
+    (λ c. search needs)
+    (λ c. search needs)
     returns)

@@ -3,7 +3,7 @@ use native.Mathlib.Omega.{arith}
 use Prim.Native.Nat.{_+_, _-_, _≤_}
 use mathlib.Core.Path.{_≡_, refl, sym, ap, _∙_}
 use lib.ListN.{length, length-drop}
-use Rattle.base.proofs.Lists.{whole-tail}
+use Rattle.base.proofs.Buffers.{whole-tail}
 use Rattle.io.specs.Counts.{Counts}
 use lib.Seq.{length-take-le}
 use borrow.Author.Needs.{needs}
@@ -25,12 +25,6 @@ sub-read-some c = c .before .loop .inv .0
 
 part-read-some-start : tie.Need-part-read-some-start Inv-loop μ-loop
 part-read-some-start c = omega (arith, c .before .loop .inv .0)
-
-part-read-some-end : tie.Need-part-read-some-end Inv-loop μ-loop
-part-read-some-end c = search needs
-
-read-some-requires : tie.Need-read-some-requires Inv-loop μ-loop
-read-some-requires c κs = tt
 
 -- the buffer as it comes back
 same : (c : tie.After-read-some Inv-loop μ-loop) → let l = c .before .before .before .loop in length (putMid (l .count) (length (l .file) - l .count) (l .file) (c .read-some .last .1 .0)) ≡ length (l .file)
@@ -86,8 +80,8 @@ read-all-spec =
     loop-holds
     sub-read-some
     part-read-some-start
-    part-read-some-end
-    read-some-requires
+    (λ c. search needs)
+    (λ c κs. tt)
     same-length
     returns
     same-length-2

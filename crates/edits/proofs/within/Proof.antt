@@ -1,8 +1,8 @@
--- `answers::within` meets its contract. Assumes nothing.
+-- `edits::within` meets its contract. Assumes nothing.
 use native.Mathlib.Omega.{arith}
 use borrow.Author.Tests.{le-leb, lt-leb}
-use Rattle.answers.proofs.within.Statement.{statement}
-use Rattle.answers.proofs.within.Tie as tie
+use Rattle.edits.proofs.within.Statement.{statement}
+use Rattle.edits.proofs.within.Tie as tie
 
 returns : tie.Need-returns
 returns c = rw (lt-leb (c .before .args .low) (c .before .args .x) (omega arith))
