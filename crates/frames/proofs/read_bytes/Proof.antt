@@ -7,23 +7,11 @@ use Rattle.frames.proofs.Laws.{counts}
 use Rattle.frames.proofs.read_bytes.Statement.{statement}
 use Rattle.frames.proofs.read_bytes.Tie as tie
 
-missing-requires : tie.Need-missing-requires
-missing-requires c κs = search needs
-
 returns : tie.Need-returns
 returns c = counts _ _ (omega (arith, c .missing .ensures))
 
-slice-relend-prefix-read-full : tie.Need-slice-relend-prefix-read-full
-slice-relend-prefix-read-full c = search needs
-
 slice-aggregate-read-full : tie.Need-slice-aggregate-read-full
 slice-aggregate-read-full c = sym (length-take-le _ _ (search needs))
-
-read-full-requires : tie.Need-read-full-requires
-read-full-requires c κs = search needs
-
-same-length : tie.Need-same-length
-same-length c = search needs
 
 returns-2 : tie.Need-returns-2
 returns-2 c = counts _ _ (search needs)
@@ -32,10 +20,10 @@ pub read-bytes-spec : {M : Type 1} → statement M
 read-bytes-spec =
     tie.close
     (tie.spec
-    missing-requires
+    (λ c κs. search needs)
     returns
-    slice-relend-prefix-read-full
+    (λ c. search needs)
     slice-aggregate-read-full
-    read-full-requires
-    same-length
+    (λ c κs. search needs)
+    (λ c. search needs)
     returns-2)

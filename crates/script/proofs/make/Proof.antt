@@ -6,27 +6,6 @@ use Rattle.script.specs.Script.{callOf}
 use Rattle.script.proofs.make.Statement.{statement}
 use Rattle.script.proofs.make.Tie as tie
 
-load-requires : tie.Need-load-requires
-load-requires c κs = search needs
-
-bar-requires : tie.Need-bar-requires
-bar-requires c κs = search needs
-
-unbar-requires : tie.Need-unbar-requires
-unbar-requires c κs = search needs
-
-set-limit-requires : tie.Need-set-limit-requires
-set-limit-requires c κs = search needs
-
-set-rating-requires : tie.Need-set-rating-requires
-set-rating-requires c κs = search needs
-
-exported-requires : tie.Need-exported-requires
-exported-requires c κs = search needs
-
-refused-requires : tie.Need-refused-requires
-refused-requires c κs = search needs
-
 returns : tie.Need-returns
 unfolding callOf outcomeOf
 returns c = rw (c .before .match .keys1, c .load .ensures)
@@ -63,13 +42,13 @@ pub make-spec : {M : Type 1} → statement M
 make-spec =
     tie.close
     (tie.spec
-    load-requires
-    bar-requires
-    unbar-requires
-    set-limit-requires
-    set-rating-requires
-    exported-requires
-    refused-requires
+    (λ c κs. search needs)
+    (λ c κs. search needs)
+    (λ c κs. search needs)
+    (λ c κs. search needs)
+    (λ c κs. search needs)
+    (λ c κs. search needs)
+    (λ c κs. search needs)
     returns
     returns-2
     returns-3

@@ -9,16 +9,10 @@ use Rattle.transcode.proofs.Laws.{answered-refusal, answered-file}
 use Rattle.transcode.proofs.answer.Statement.{statement}
 use Rattle.transcode.proofs.answer.Tie as tie
 
-load-requires : tie.Need-load-requires
-load-requires c κs = search needs
-
 put-district-requires : tie.Need-put-district-requires
 put-district-requires c κs =
     let load = c .before .before .before in
     (search needs, omega (arith, longest (load .load .result .district) (load .load .ensures .1 (c .before .before .if1 .taken))))
-
-same-length : tie.Need-same-length
-same-length c = search needs
 
 returns : tie.Need-returns
 returns c =
@@ -30,15 +24,6 @@ cast-t10 : tie.Need-cast-t10
 cast-t10 c =
     omega (arith, ap (λ (r : Loaded). r .refusal) (c .before .load .ensures .0), refusal-most (c .before .before .before .before .args .frame .now))
 
-slice-aggregate-put : tie.Need-slice-aggregate-put
-slice-aggregate-put c = search needs
-
-put-requires : tie.Need-put-requires
-put-requires c κs = search needs
-
-same-length-2 : tie.Need-same-length-2
-same-length-2 c = search needs
-
 returns-2 : tie.Need-returns-2
 returns-2 c =
     let load = c .before .before .before .before .before .before in
@@ -49,12 +34,12 @@ pub answer-spec : {M : Type 1} → statement M
 answer-spec =
     tie.close
     (tie.spec
-    load-requires
+    (λ c κs. search needs)
     put-district-requires
-    same-length
+    (λ c. search needs)
     returns
     cast-t10
-    slice-aggregate-put
-    put-requires
-    same-length-2
+    (λ c. search needs)
+    (λ c κs. search needs)
+    (λ c. search needs)
     returns-2)

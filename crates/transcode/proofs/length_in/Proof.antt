@@ -4,12 +4,6 @@ use Rattle.transcode.specs.Transcoded.{lengthIn}
 use Rattle.transcode.proofs.length_in.Statement.{statement}
 use Rattle.transcode.proofs.length_in.Tie as tie
 
-enum-known-answer : tie.Need-enum-known-answer
-enum-known-answer c = search needs
-
-enum-told : tie.Need-enum-told
-enum-told c = search needs
-
 returns : tie.Need-returns
 unfolding lengthIn
 returns c = rw (c .before .answer .given .1)
@@ -19,4 +13,4 @@ unfolding lengthIn
 returns-2 c = rw (c .enum-told .given .1)
 
 pub length-in-spec : {M : Type 1} → statement M
-length-in-spec = tie.close (tie.spec enum-known-answer enum-told returns returns-2)
+length-in-spec = tie.close (tie.spec (λ c. search needs) (λ c. search needs) returns returns-2)

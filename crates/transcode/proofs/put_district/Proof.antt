@@ -8,15 +8,6 @@ use Rattle.transcode.proofs.Laws.{file-put, put-taken}
 use Rattle.transcode.proofs.put_district.Statement.{statement}
 use Rattle.transcode.proofs.put_district.Tie as tie
 
-slice-aggregate-export : tie.Need-slice-aggregate-export
-slice-aggregate-export c = search needs
-
-export-requires : tie.Need-export-requires
-export-requires c κs = search needs
-
-length-in-requires : tie.Need-length-in-requires
-length-in-requires c κs = search needs
-
 -- the export has room, and puts the file
 filed : (c : tie.After-length-in) → let start = c .before .before .before .before .before in Put (encode (start .args .d)) (replicate 4096 0) (c .before .before .export .last .1 .0) (c .length-in .result)
 filed c =
@@ -33,9 +24,6 @@ slice-aggregate-put-framed c = put-part (filed (c .before .before))
 put-framed-requires : tie.Need-put-framed-requires
 put-framed-requires c κs = rw (put-taken (filed (c .before .before))) (search needs)
 
-same-length : tie.Need-same-length
-same-length c = search needs
-
 returns : tie.Need-returns
 returns c = rw (← put-taken (filed (c .before .before .before .before .before))) (c .before .before .put-framed .ensures)
 
@@ -43,11 +31,11 @@ pub put-district-spec : {M : Type 1} → statement M
 put-district-spec =
     tie.close
     (tie.spec
-    slice-aggregate-export
-    export-requires
-    length-in-requires
+    (λ c. search needs)
+    (λ c κs. search needs)
+    (λ c κs. search needs)
     array-share-prefix-file
     slice-aggregate-put-framed
     put-framed-requires
-    same-length
+    (λ c. search needs)
     returns)
