@@ -33,6 +33,7 @@ fn scripts() -> Vec<Vec<u8>> {
     refused_files(&mut cases);
     files_wrong_twice(&mut cases);
     refused_calls(&mut cases);
+    ends_of_ranges(&mut cases);
     refused_exports(&mut cases);
     what_a_refusal_leaves(&mut cases);
     long_lists(&mut cases);
@@ -323,11 +324,14 @@ fn refused_calls(cases: &mut Cases) {
     for call in calls {
         cases.after(&district, &[call]);
     }
-    // The ends of the ranges are taken.
+}
+
+/// The ends of the ranges are accepted. A fresh unit has a resource, and no segment.
+fn ends_of_ranges(cases: &mut Cases) {
+    let district = two_of_each();
     for call in [Call::SetLimit(2, LIMIT_MOST), Call::SetRating(1, 1, 50), Call::SetRating(2, 2, 40), Call::Bar(2, 2)] {
         cases.after(&district, &[call]);
     }
-    // A fresh unit has a resource, and no segment.
     for call in
         [Call::Bar(1, 1), Call::Unbar(1, 1), Call::SetRating(1, 1, 1), Call::SetLimit(1, 1), Call::SetLimit(2, 1)]
     {

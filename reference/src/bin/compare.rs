@@ -106,14 +106,7 @@ fn run(arguments: &[String]) -> Result<u64, String> {
             case..case + 1
         }
     };
-    let mut programs: BTreeMap<Kind, PathBuf> = BTreeMap::new();
-    for kind in [Kind::Plan, Kind::Codec, Kind::Vectors, Kind::Panel] {
-        if let Some(path) = given.text(kind.name()) {
-            // Programs are run from other folders too, so the path must be whole.
-            let path = fs::canonicalize(path).map_err(|error| format!("{path}: {error}"))?;
-            programs.insert(kind, path);
-        }
-    }
+    let programs = programs(&given)?;
     let turns: Vec<Kind> = programs.keys().flat_map(|&kind| vec![kind; kind.weight()]).collect();
     if turns.is_empty() {
         return Err("no program to compare with".to_string());
@@ -144,21 +137,44 @@ fn run(arguments: &[String]) -> Result<u64, String> {
         run.frame_cases(Kind::Vectors, program, &lists, worked)?;
     }
 
-    let mut compared = 0;
-    let mut differences = 0;
-    for (kind, tally) in &run.tallies {
-        let seen: Vec<String> = tally.seen.iter().map(|(what, count)| format!("{what} {count}")).collect();
-        println!("{}: {} agreed, {} differed; seen: {}", kind.name(), tally.agreed, tally.differed, seen.join(", "));
-        compared += tally.agreed + tally.differed;
-        differences += tally.differed;
+    Ok(run.report())
+}
+
+fn programs(given: &Given) -> Result<BTreeMap<Kind, PathBuf>, String> {
+    let mut programs = BTreeMap::new();
+    for kind in [Kind::Plan, Kind::Codec, Kind::Vectors, Kind::Panel] {
+        if let Some(path) = given.text(kind.name()) {
+            // Programs are run from other folders too, so the path must be whole.
+            let path = fs::canonicalize(path).map_err(|error| format!("{path}: {error}"))?;
+            programs.insert(kind, path);
+        }
     }
-    // Empty unless something differed.
-    let _ = fs::remove_dir(&run.work);
-    println!("compared {compared} cases, {differences} differences");
-    Ok(differences)
+    Ok(programs)
 }
 
 impl Run {
+    /// Says what was compared and seen; gives the number of differences.
+    fn report(&self) -> u64 {
+        let mut compared = 0;
+        let mut differences = 0;
+        for (kind, tally) in &self.tallies {
+            let seen: Vec<String> = tally.seen.iter().map(|(what, count)| format!("{what} {count}")).collect();
+            println!(
+                "{}: {} agreed, {} differed; seen: {}",
+                kind.name(),
+                tally.agreed,
+                tally.differed,
+                seen.join(", ")
+            );
+            compared += tally.agreed + tally.differed;
+            differences += tally.differed;
+        }
+        // Empty unless something differed.
+        let _ = fs::remove_dir(&self.work);
+        println!("compared {compared} cases, {differences} differences");
+        differences
+    }
+
     fn tally(&mut self, kind: Kind) -> &mut Tally {
         self.tallies.entry(kind).or_default()
     }
