@@ -3,13 +3,15 @@
 //! It is the yardstick for another implementation: programs here make
 //! districts, damaged files and lists of calls, run both sides and compare.
 
+pub mod calls;
 pub mod ceiling;
 pub mod console;
 pub mod district;
 pub mod example;
-
 pub mod file;
+pub mod frames;
 pub mod listing;
+pub mod lists;
 pub mod make;
 pub mod options;
 pub mod phases;
@@ -19,3 +21,4 @@ pub mod refusal;
 pub mod survey;
 pub mod tables;
 pub mod unit;
+pub mod vectors;

@@ -533,7 +533,7 @@ fn to_an_end(random: &mut Random, district: &mut District) {
 }
 
 /// Where the records of a sound file begin.
-fn record_starts(bytes: &[u8]) -> Vec<usize> {
+pub fn record_starts(bytes: &[u8]) -> Vec<usize> {
     let mut starts = Vec::new();
     let mut at = 0;
     while at < bytes.len() {

@@ -3,6 +3,8 @@
 mod common;
 
 use common::{card_bytes, CARD_LISTING};
+use reference::calls::{encode, Call};
+use reference::frames;
 use std::io::Write;
 use std::process::{Command, Stdio};
 
@@ -39,6 +41,39 @@ fn codec_answers_frames() {
 }
 
 #[test]
+fn vectors_answers_lists_of_calls() {
+    let vectors = env!("CARGO_BIN_EXE_vectors");
+    let load = encode(&[Call::Load(card_bytes())]);
+    let lists = [
+        load.clone(),
+        encode(&[Call::Load(card_bytes()), Call::Bar(3, 1)]),
+        encode(&[Call::Load(card_bytes()), Call::Bar(3, 1), Call::Show]),
+        // No whole call is left: the load, then nothing.
+        [&load[..], &[2, 2, 0, 0, 0, 2]].concat(),
+        load[..load.len() - 1].to_vec(),
+    ];
+    let mut input = Vec::new();
+    lists.iter().for_each(|list| frames::put(&mut input, list));
+    let nothing = "benefit 0\nceiling 0\nsteps 0 0 0\n";
+    let expected = [CARD_LISTING, "refused 6\n", CARD_LISTING, CARD_LISTING, nothing].concat();
+    assert_eq!(String::from_utf8(output_of(vectors, &[], &input)).unwrap(), expected);
+}
+
+/// Every refusal that a list of calls can end with, and work in each phase.
+#[test]
+fn stored_lists_cover_refusals_and_phases() {
+    let input = output_of(env!("CARGO_BIN_EXE_generate"), &["vectors"], b"");
+    let printed = String::from_utf8(output_of(env!("CARGO_BIN_EXE_vectors"), &[], &input)).unwrap();
+    for number in 1..=9 {
+        assert!(printed.contains(&format!("refused {number}\n")));
+    }
+    for phase in 1..=3 {
+        let worked = |line: &str| line.starts_with("steps") && line.split(' ').nth(phase) != Some("0");
+        assert!(printed.lines().filter(|line| worked(line)).count() > 10);
+    }
+}
+
+#[test]
 fn example_has_a_plan() {
     let bytes = output_of(env!("CARGO_BIN_EXE_generate"), &["example"], b"");
     let district = reference::file::decode(&bytes).unwrap();
@@ -62,16 +97,29 @@ fn compare_agrees_and_disagrees() {
     let compare = env!("CARGO_BIN_EXE_compare");
     let work = std::env::temp_dir().join(format!("reference-{}-compare", std::process::id()));
     let work = work.to_str().unwrap();
-    let (plan, panel, codec) = (env!("CARGO_BIN_EXE_plan"), env!("CARGO_BIN_EXE_panel"), env!("CARGO_BIN_EXE_codec"));
-    let run = |plan: &str, panel: &str, codec: &str| {
-        let arguments = ["--plan", plan, "--panel", panel, "--codec", codec, "--count", "60", "--work", work];
-        let output = Command::new(compare).args(arguments).output().unwrap();
+    let kinds = ["--plan", "--panel", "--codec", "--vectors"];
+    let [plan, panel, codec, vectors] = [
+        env!("CARGO_BIN_EXE_plan"),
+        env!("CARGO_BIN_EXE_panel"),
+        env!("CARGO_BIN_EXE_codec"),
+        env!("CARGO_BIN_EXE_vectors"),
+    ];
+    let run = |programs: [&str; 4]| {
+        let arguments: Vec<&str> =
+            kinds.into_iter().zip(programs).flat_map(|(kind, program)| [kind, program]).collect();
+        let output = Command::new(compare).args(arguments).args(["--count", "60", "--work", work]).output().unwrap();
         (output.status.success(), String::from_utf8(output.stdout).unwrap())
     };
-    let (fine, text) = run(plan, panel, codec);
+    let (fine, text) = run([plan, panel, codec, vectors]);
     assert!(fine && text.ends_with("compared 60 cases, 0 differences\n"), "{text}");
-    for (plan, panel, codec) in [(panel, panel, codec), (plan, plan, codec), (plan, panel, plan)] {
-        let (fine, text) = run(plan, panel, codec);
+    // One of them exchanged for another.
+    for programs in [
+        [panel, panel, codec, vectors],
+        [plan, plan, codec, vectors],
+        [plan, panel, plan, vectors],
+        [plan, panel, codec, plan],
+    ] {
+        let (fine, text) = run(programs);
         assert!(!fine && text.contains("difference: "), "{text}");
         assert!(!text.ends_with(" 0 differences\n"));
     }

@@ -1,18 +1,17 @@
 -- One turn of `run`: the first of the calls that are left is made. Assumes nothing.
 use Prim.Native.Nat.{ℕ, zero, suc, _+_, _-_, _≤_, _<_}
-use mathlib.Core.Path.{_≡_, refl, ap, sym, _∙_}
+use mathlib.Core.Path.{_≡_, refl, ap, _∙_}
 use mathlib.Core.List.{List, [], _∷_}
 use native.Mathlib.Omega.{arith}
-use native.Mathlib.Nat.{add-assoc}
 use borrow.Author.Tests.{le-leb, lt-leb}
-use lib.ListN.{length, getD, take, drop, length-drop}
+use lib.ListN.{length, take, drop, length-drop}
 use lib.Seq.{drop-drop, take-all}
 use Rattle.rules.specs.Calls.{showOf}
 use Rattle.rules.specs.Demands.{Sound}
 use Rattle.rules.specs.Lists.{Call, outcomeOf, unitFrom, unitAfter, districtAfter}
-use Rattle.rules.specs.declared.Unit.{Unit}
+use Rattle.rules.specs.declared.Reply.{Reply}
 use Rattle.unit.proofs.Demands.{one-claim}
-use Rattle.script.specs.Script.{kindIn, numberAt, bodyIn, callOf, callIn, callsIn, callsOf}
+use Rattle.script.specs.Script.{kindIn, numberAt, bodyIn, callOf, callIn, callsIn, callsOf, replyOf, replyFrom, replyAfter, lastAnswer}
 
 none-left : (n : ℕ) (s : List ℕ) → length s < 13 + bodyIn s → callsIn n s ≡ []
 unfolding callsIn
@@ -29,16 +28,17 @@ tail s at = take-all (length s - at) (drop at s) (simp length-drop (omega arith)
 
 module _ (s : List ℕ) (at : ℕ) where
   -- nothing whole is left
-  pub ended : (u : Unit) (left : ℕ) → length (drop at s) < 13 + bodyIn (drop at s) → unitFrom u (callsIn left (drop at s)) ≡ u
-  unfolding unitFrom
-  ended u left h = rw (none-left left (drop at s) h)
+  pub ended : (r : Reply) (left : ℕ) → length (drop at s) < 13 + bodyIn (drop at s) → replyFrom r (callsIn left (drop at s)) ≡ r
+  unfolding replyFrom
+  ended r left h = rw (none-left left (drop at s) h)
 
   -- the first of the calls that are left is made
-  pub turn : (u v : Unit) (left : ℕ) → 0 < left → 13 + bodyIn (drop at s) ≤ length (drop at s) → v ≡ outcomeOf u (callIn (drop at s)) .unit
-      → unitFrom v (callsIn (left - 1) (drop (at + (13 + bodyIn (drop at s))) s)) ≡ unitFrom u (callsIn left (drop at s))
-  unfolding unitFrom
-  turn u v zero h fits e = absurd (omega arith)
-  turn u v (suc m) h fits e =
+  pub turn : (r next : Reply) (left : ℕ) → 0 < left → 13 + bodyIn (drop at s) ≤ length (drop at s)
+      → next ≡ replyOf (outcomeOf (r .unit) (callIn (drop at s)))
+      → replyFrom next (callsIn (left - 1) (drop (at + (13 + bodyIn (drop at s))) s)) ≡ replyFrom r (callsIn left (drop at s))
+  unfolding replyFrom
+  turn r next zero h fits e = absurd (omega arith)
+  turn r next (suc m) h fits e =
       let less : suc m - 1 ≡ m = omega arith in
       rw (more-left m (drop at s) fits, less, e, drop-drop (13 + bodyIn (drop at s)) at s)
 
@@ -52,19 +52,35 @@ module _ (s : List ℕ) (at : ℕ) where
     pub body-here : n ≡ bodyIn (drop at s)
     body-here = body ∙ ap bodyIn (tail s at)
 
-    pub stops : (u : Unit) (left : ℕ) → length s - at < 13 + n → unitFrom u (callsIn left (drop at s)) ≡ u
-    stops u left h = ended s at u left (rw length-drop (omega (arith, body-here)))
+    pub stops : (r : Reply) (left : ℕ) → length s - at < 13 + n → replyFrom r (callsIn left (drop at s)) ≡ r
+    stops r left h = ended s at r left (rw length-drop (omega (arith, body-here)))
 
-    pub turned : (u v : Unit) (left a b c : ℕ) → 0 < left → 13 + n ≤ length s - at → a ≡ numberAt 1 rest → b ≡ numberAt 5 rest → c ≡ numberAt 9 rest
-        → v ≡ outcomeOf u (callOf (kindIn rest) a b c (take (13 + n - 13) (drop 13 rest))) .unit
-        → unitFrom v (callsIn (left - 1) (drop (at + 13 + n) s)) ≡ unitFrom u (callsIn left (drop at s))
-    turned u v left a b c some fits ea eb ec made =
+    pub turned : (r next : Reply) (left a b c : ℕ) → 0 < left → 13 + n ≤ length s - at → a ≡ numberAt 1 rest → b ≡ numberAt 5 rest → c ≡ numberAt 9 rest
+        → next ≡ replyOf (outcomeOf (r .unit) (callOf (kindIn rest) a b c (take (13 + n - 13) (drop 13 rest))))
+        → replyFrom next (callsIn (left - 1) (drop (at + 13 + n) s)) ≡ replyFrom r (callsIn left (drop at s))
+    turned r next left a b c some fits ea eb ec made =
         let len : 13 + n - 13 ≡ n = omega arith in
         let place : at + 13 + n ≡ at + (13 + n) = omega arith in
         let room : 13 + bodyIn (drop at s) ≤ length (drop at s) = rw length-drop (omega (arith, body-here)) in
-        let same : v ≡ outcomeOf u (callIn (drop at s)) .unit = made ∙ rw (len, ea, eb, ec, tail s at, body-here) in
-        rw (place, body-here) (turn s at u v left some room same)
+        let same : next ≡ replyOf (outcomeOf (r .unit) (callIn (drop at s))) = made ∙ rw (len, ea, eb, ec, tail s at, body-here) in
+        rw (place, body-here) (turn s at r next left some room same)
 
--- the claim over the list
-pub claimed : (s : List ℕ) (u : Unit) → u ≡ unitAfter (callsOf s) → Sound (districtAfter (callsOf s)) (showOf u)
-claimed s u e = rw e (one-claim (callsOf s) .sound)
+-- ---- what the contract says of the reply after the list
+
+-- its unit is the one after the list
+unit-from : (r : Reply) (cs : List Call) → replyFrom r cs .unit ≡ unitFrom (r .unit) cs
+unfolding replyFrom unitFrom
+unit-from r [] = refl
+unit-from r (c ∷ cs) = unit-from (replyOf (outcomeOf (r .unit) c)) cs
+
+unit-after : (cs : List Call) → replyAfter cs .unit ≡ unitAfter cs
+unfolding replyAfter unitAfter
+unit-after cs = unit-from _ cs
+
+-- the contract, with the claim over the list
+pub met : (s : List ℕ) (r : Reply) → r ≡ replyAfter (callsOf s)
+    → (r .unit ≡ unitAfter (callsOf s)) × ((r .answer ≡ lastAnswer (callsOf s)) × Sound (districtAfter (callsOf s)) (showOf (r .unit)))
+unfolding lastAnswer
+met s r e =
+    let u : r .unit ≡ unitAfter (callsOf s) = ap (λ (x : Reply). x .unit) e ∙ unit-after (callsOf s) in
+    (u, (ap (λ (x : Reply). x .answer) e, rw u (one-claim (callsOf s) .sound)))

@@ -1,4 +1,4 @@
--- The list of calls that a row of bytes stands for. A call is 13 bytes: its kind, and three numbers of four bytes each, low byte first.
+-- The list of calls that a row of bytes stands for, and what the last of them answers. A call is 13 bytes: its kind, and three numbers of four bytes each, low byte first.
 -- A load is followed by its file, whose length is its first number.
 use Prim.Native.Nat.{ℕ, zero, suc, _+_}
 use mathlib.Core.Bool.{Bool, true, false}
@@ -7,7 +7,11 @@ use lib.Dec.{leb, eqb}
 use lib.ListN.{length, getD, take, drop, replicate}
 use Rattle.base.specs.Bytes.{numberOf}
 use Rattle.base.specs.Choice.{pick}
-use Rattle.rules.specs.Lists.{Call, Load, Bar, Unbar, SetLimit, SetRating, ExportTo, Show}
+use Rattle.rules.specs.Calls.{freshUnit}
+use Rattle.rules.specs.Lists.{Call, Load, Bar, Unbar, SetLimit, SetRating, ExportTo, Show, Outcome, outcomeOf}
+use Rattle.rules.specs.declared.Reply.{Reply}
+use Rattle.rules.specs.declared.Answer.{Answer}
+use Rattle.rules.specs.declared.Answer.the-variants.{Accepted}
 
 -- what stands at the front of the bytes
 abbrev pub kindIn : List ℕ → ℕ
@@ -43,3 +47,21 @@ callsIn (suc n) bs = pick (leb (13 + bodyIn bs) (length bs)) (callIn bs ∷ call
 
 unfoldable pub callsOf : List ℕ → List Call
 callsOf bs = callsIn (length bs) bs
+
+-- ---- what the calls answer
+
+-- answer and unit of a call's outcome
+abbrev pub replyOf : Outcome → Reply
+replyOf o = record { answer = o .answer; unit = o .unit }
+
+-- one call after another: the answer of the last, and the unit after it
+unfoldable pub replyFrom : Reply → List Call → Reply
+replyFrom r [] = r
+replyFrom r (c ∷ cs) = replyFrom (replyOf (outcomeOf (r .unit) c)) cs
+
+-- from the fresh unit; accepted where there is no call
+unfoldable pub replyAfter : List Call → Reply
+replyAfter cs = replyFrom (record { answer = Accepted 0; unit = freshUnit }) cs
+
+unfoldable pub lastAnswer : List Call → Answer
+lastAnswer cs = replyAfter cs .answer

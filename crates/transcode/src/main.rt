@@ -1,68 +1,82 @@
-// Loads and exports files, for a comparison with other decoders. Standard input holds frames: a length of 4 bytes, low
-// byte first, and that many bytes. For each, standard output gets the refusal's number or 0, and after a 0 the length,
-// in 4 bytes again, and the bytes of the exported file. A frame that is cut short or longer than 65,536 ends the run.
-use libc::STDIN_FILENO;
+// Loads and exports files, for a comparison with other decoders. Standard input holds frames, and each frame any bytes.
+// For each, standard output gets the refusal's number or 0, and after a 0 the length, in 4 bytes, and the bytes of the
+// exported file. A frame that is cut short or longer than 65,536 ends the run.
+ghost use mathlib.Core.Path.{_≡_};
+ghost use Prim.Native.Nat.{_+_, _≤_};
+ghost use lib.ListN.{length};
+ghost use Rattle.base.specs.Text.{Put};
+ghost use Rattle.rules.specs.File.{encode};
+ghost use Rattle.transcode.specs.Transcoded.{headOf, framed, lengthIn, transcoded};
 use libc::STDOUT_FILENO;
 use rules::Answer;
 use rules::District;
 
-// What stands for a file that loads: 0, the length and the exported file, the first bytes of `out`.
-fn write_file(out: &[u8], length: usize) -> bool {
-    if out.len() < length {
-        return false;
-    }
-    let head = [
+fn head(length: usize) -> [u8; 5]
+    ensures { λ r. ⌜ r ≡ headOf length ⌝ }
+{
+    [
         0u8,
         (length % 256) as u8,
         (length / 256 % 256) as u8,
-        (length / 65536 % 256) as u8,
-        (length / 16777216 % 256) as u8,
-    ];
-    if !io::write_all(STDOUT_FILENO, &head) {
-        return false;
-    }
-    io::write_all(STDOUT_FILENO, &out[..length])
+        (length / 256 / 256 % 256) as u8,
+        (length / 256 / 256 / 256 % 256) as u8,
+    ]
 }
 
-fn write_district(d: District, out: &mut [u8]) -> bool {
-    let answer = file::export(d, out);
+fn put_framed(out: &mut [u8], file: &[u8]) -> usize
+    requires { ⌜ 5 + length (now file) ≤ length (now out) ⌝ }
+    ensures { λ r. ⌜ Put (framed (now (file .entry))) (now (out .entry)) (now (out .exit)) r ⌝ }
+{
+    let head = head(file.len());
+    let at = listing::put(out, &head);
+    at + listing::put(&mut out[at..], file)
+}
+
+// How long an exported file is.
+fn length_in(answer: Answer) -> usize
+    ensures { λ r. ⌜ r ≡ lengthIn answer ⌝ }
+{
     match answer {
-        Answer::Accepted(length) => write_file(out, length),
-        Answer::Refused(_) => false,
+        Answer::Accepted(n) => n,
+        Answer::Refused(_) => 0,
     }
 }
 
-fn transcode(frame: &[u8]) -> bool {
+fn put_district(out: &mut [u8], d: District) -> usize
+    requires { ⌜ (4101 ≤ length (now out)) × (length (encode d) ≤ 4096) ⌝ }
+    ensures { λ r. ⌜ Put (framed (encode d)) (now (out .entry)) (now (out .exit)) r ⌝ }
+{
+    let mut file = [0u8; 4096];
+    let n = length_in(file::export(d, &mut file));
+    put_framed(out, &file[..n])
+}
+
+// What is answered to a frame, to the front of `out`.
+fn answer(frame: &[u8], out: &mut [u8]) -> usize
+    requires { ⌜ 4101 ≤ length (now out) ⌝ }
+    ensures { λ r. ⌜ Put (transcoded (now (frame .entry))) (now (out .entry)) (now (out .exit)) r ⌝ }
+{
     let loaded = file::load(frame);
     let refusal = loaded.refusal;
     if refusal == 0 {
         let d = loaded.district;
-        let mut out = [0u8; 4096];
-        return write_district(d, &mut out);
+        return put_district(out, d);
     }
     let number = [refusal as u8];
-    io::write_all(STDOUT_FILENO, &number)
-}
-
-fn read_frame(space: &mut [u8], length: usize) -> bool {
-    if space.len() < length {
-        return false;
-    }
-    if io::read_full(STDIN_FILENO, &mut space[..length]) < length {
-        return false;
-    }
-    transcode(&space[..length])
+    listing::put(out, &number)
 }
 
 // One frame; false where there is none.
 fn next_frame() -> bool {
-    let mut header = [0u8; 4];
-    if io::read_full(STDIN_FILENO, &mut header) < 4 {
+    let mut space = io::large_buffer();
+    let frame = frames::read(&mut space);
+    if !frame.whole {
         return false;
     }
-    let length = file::bytes::number(&header, 0, 4);
-    let mut space = io::large_buffer();
-    read_frame(&mut space, length)
+    let n = frame.length;
+    let mut out = [0u8; 4101];
+    let length = answer(&space[..n], &mut out);
+    io::write_all(STDOUT_FILENO, &out[..length])
 }
 
 fn main() {

@@ -1,5 +1,5 @@
 //! Compares other programs with this library, case by case:
-//! `compare [--plan PATH] [--panel PATH] [--codec PATH] --count N --seed S`.
+//! `compare [--plan PATH] [--panel PATH] [--codec PATH] [--vectors PATH] --count N --seed S`.
 //!
 //! The cases are dealt out among the programs given. A case is made from the
 //! seed and its number alone. Where answers differ, the case's files and both
@@ -13,7 +13,7 @@ use reference::options::Given;
 use reference::random::Random;
 use reference::tables::Tables;
 use reference::unit::{plan, Plan, Unit};
-use reference::{example, file};
+use reference::{calls, example, file, frames, lists};
 use std::collections::BTreeMap;
 use std::fs;
 use std::io::{Read, Write};
@@ -23,8 +23,8 @@ use std::sync::mpsc;
 use std::thread;
 use std::time::Duration;
 
-const USAGE: &str = "usage: compare [--plan PATH] [--panel PATH] [--codec PATH] [--count N] [--seed S]
-               [--work DIR] [--case K]
+const USAGE: &str = "usage: compare [--plan PATH] [--panel PATH] [--codec PATH] [--vectors PATH]
+               [--count N] [--seed S] [--work DIR] [--case K]
 ";
 const PATIENCE: Duration = Duration::from_secs(120);
 
@@ -44,6 +44,7 @@ fn main() -> ExitCode {
 enum Kind {
     Plan,
     Codec,
+    Vectors,
     Panel,
 }
 
@@ -52,15 +53,17 @@ impl Kind {
         match self {
             Kind::Plan => "plan",
             Kind::Codec => "codec",
+            Kind::Vectors => "vectors",
             Kind::Panel => "panel",
         }
     }
 
-    /// How many of ten cases it gets when all three are there.
+    /// How many of twelve cases it gets when all four are there.
     fn weight(self) -> usize {
         match self {
             Kind::Plan => 5,
             Kind::Codec => 3,
+            Kind::Vectors => 2,
             Kind::Panel => 2,
         }
     }
@@ -94,7 +97,7 @@ struct Run {
 
 /// The number of differences.
 fn run(arguments: &[String]) -> Result<u64, String> {
-    let given = Given::read(arguments, &["plan", "panel", "codec", "count", "seed", "work", "case"])?;
+    let given = Given::read(arguments, &["plan", "panel", "codec", "vectors", "count", "seed", "work", "case"])?;
     let (seed, count) = (given.number("seed", 1)?, given.number("count", 300)?);
     let cases = match given.text("case") {
         None => 0..count,
@@ -103,14 +106,7 @@ fn run(arguments: &[String]) -> Result<u64, String> {
             case..case + 1
         }
     };
-    let mut programs: BTreeMap<Kind, PathBuf> = BTreeMap::new();
-    for kind in [Kind::Plan, Kind::Codec, Kind::Panel] {
-        if let Some(path) = given.text(kind.name()) {
-            // Programs are run from other folders too, so the path must be whole.
-            let path = fs::canonicalize(path).map_err(|error| format!("{path}: {error}"))?;
-            programs.insert(kind, path);
-        }
-    }
+    let programs = programs(&given)?;
     let turns: Vec<Kind> = programs.keys().flat_map(|&kind| vec![kind; kind.weight()]).collect();
     if turns.is_empty() {
         return Err("no program to compare with".to_string());
@@ -123,34 +119,62 @@ fn run(arguments: &[String]) -> Result<u64, String> {
         tallies: programs.keys().map(|&kind| (kind, Tally::default())).collect(),
     };
 
-    let mut frames: Vec<(u64, Vec<u8>)> = Vec::new();
+    let mut files: Vec<(u64, Vec<u8>)> = Vec::new();
+    let mut lists: Vec<(u64, Vec<u8>)> = Vec::new();
     for case in cases {
         let kind = turns[(case % turns.len() as u64) as usize];
         match kind {
             Kind::Plan => run.plan_case(&programs[&kind], case)?,
             Kind::Panel => run.panel_case(&programs[&kind], case)?,
-            Kind::Codec => frames.push((case, make::any_frame(&mut Random::for_case(seed, case)))),
+            Kind::Codec => files.push((case, make::any_frame(&mut Random::for_case(seed, case)))),
+            Kind::Vectors => lists.push((case, lists::any_list(&mut Random::for_case(seed, case)))),
         }
     }
     if let Some(program) = programs.get(&Kind::Codec) {
-        run.codec_cases(program, &frames)?;
+        run.frame_cases(Kind::Codec, program, &files, transcoded)?;
+    }
+    if let Some(program) = programs.get(&Kind::Vectors) {
+        run.frame_cases(Kind::Vectors, program, &lists, worked)?;
     }
 
-    let mut compared = 0;
-    let mut differences = 0;
-    for (kind, tally) in &run.tallies {
-        let seen: Vec<String> = tally.seen.iter().map(|(what, count)| format!("{what} {count}")).collect();
-        println!("{}: {} agreed, {} differed; seen: {}", kind.name(), tally.agreed, tally.differed, seen.join(", "));
-        compared += tally.agreed + tally.differed;
-        differences += tally.differed;
+    Ok(run.report())
+}
+
+fn programs(given: &Given) -> Result<BTreeMap<Kind, PathBuf>, String> {
+    let mut programs = BTreeMap::new();
+    for kind in [Kind::Plan, Kind::Codec, Kind::Vectors, Kind::Panel] {
+        if let Some(path) = given.text(kind.name()) {
+            // Programs are run from other folders too, so the path must be whole.
+            let path = fs::canonicalize(path).map_err(|error| format!("{path}: {error}"))?;
+            programs.insert(kind, path);
+        }
     }
-    // Empty unless something differed.
-    let _ = fs::remove_dir(&run.work);
-    println!("compared {compared} cases, {differences} differences");
-    Ok(differences)
+    Ok(programs)
 }
 
 impl Run {
+    /// Says what was compared and seen; gives the number of differences.
+    fn report(&self) -> u64 {
+        let mut compared = 0;
+        let mut differences = 0;
+        for (kind, tally) in &self.tallies {
+            let seen: Vec<String> = tally.seen.iter().map(|(what, count)| format!("{what} {count}")).collect();
+            println!(
+                "{}: {} agreed, {} differed; seen: {}",
+                kind.name(),
+                tally.agreed,
+                tally.differed,
+                seen.join(", ")
+            );
+            compared += tally.agreed + tally.differed;
+            differences += tally.differed;
+        }
+        // Empty unless something differed.
+        let _ = fs::remove_dir(&self.work);
+        println!("compared {compared} cases, {differences} differences");
+        differences
+    }
+
     fn tally(&mut self, kind: Kind) -> &mut Tally {
         self.tallies.entry(kind).or_default()
     }
@@ -201,36 +225,31 @@ impl Run {
         self.differed(Kind::Plan, case, &[("bin", &bytes), ("expected", expected.as_bytes()), ("got", &got)])
     }
 
-    /// All frames go through one run of the program.
-    fn codec_cases(&mut self, program: &Path, frames: &[(u64, Vec<u8>)]) -> Result<(), String> {
+    /// All frames go through one run of the program; `expected` notes what a
+    /// frame has worth having tested, and gives its answer.
+    fn frame_cases(
+        &mut self,
+        kind: Kind,
+        program: &Path,
+        frames: &[(u64, Vec<u8>)],
+        expected: fn(&mut Tally, &[u8]) -> Vec<u8>,
+    ) -> Result<(), String> {
         let mut input = Vec::new();
-        for (_, frame) in frames {
-            input.extend((frame.len() as u32).to_le_bytes());
-            input.extend(frame);
-        }
+        frames.iter().for_each(|(_, frame)| frames::put(&mut input, frame));
         let output = call(program, Path::new("."), &input)?;
         let mut rest = &output[..];
         for (case, frame) in frames {
-            let (feature, expected) = match file::decode(frame) {
-                Ok(district) => {
-                    let bytes = file::encode(&district);
-                    let head = [&[0][..], &(bytes.len() as u32).to_le_bytes()].concat();
-                    ("accepted".to_string(), [head, bytes].concat())
-                }
-                Err(refusal) => (format!("refused {}", refusal.number()), vec![refusal.number()]),
-            };
-            self.tally(Kind::Codec).see(feature);
-            self.tally(Kind::Codec).see_if("largest file", expected.len() == 5 + file::LONGEST);
+            let expected = expected(self.tally(kind), frame);
             if !rest.starts_with(&expected) {
                 // From here on the answers can't be told apart.
-                return self.differed(Kind::Codec, *case, &[("bin", frame), ("expected", &expected), ("got", rest)]);
+                return self.differed(kind, *case, &[("bin", frame), ("expected", &expected), ("got", rest)]);
             }
-            self.agreed(Kind::Codec);
+            self.agreed(kind);
             rest = &rest[expected.len()..];
         }
         if !rest.is_empty() {
             let last = frames.last().map_or(0, |(case, _)| *case);
-            return self.differed(Kind::Codec, last, &[("got-more", rest)]);
+            return self.differed(kind, last, &[("got-more", rest)]);
         }
         Ok(())
     }
@@ -287,6 +306,34 @@ impl Run {
         }
         answers
     }
+}
+
+/// What the codec answers to a frame.
+fn transcoded(tally: &mut Tally, frame: &[u8]) -> Vec<u8> {
+    match file::decode(frame) {
+        Ok(district) => {
+            let bytes = file::encode(&district);
+            tally.see("accepted");
+            tally.see_if("largest file", bytes.len() == file::LONGEST);
+            let mut answer = vec![0];
+            frames::put(&mut answer, &bytes);
+            answer
+        }
+        Err(refusal) => {
+            tally.see(format!("refused {}", refusal.number()));
+            vec![refusal.number()]
+        }
+    }
+}
+
+/// What `vectors` prints for a list of calls.
+fn worked(tally: &mut Tally, list: &[u8]) -> Vec<u8> {
+    let printed = calls::worked(list);
+    let count = calls::decode(list).len();
+    tally.see_if("no call", count == 0);
+    tally.see_if("20 calls or more", count >= 20);
+    tally.see(if printed.starts_with("refused") { printed.trim_end() } else { "planned" });
+    printed.into_bytes()
 }
 
 /// Notes what a district and its plan have that is worth having tested.

@@ -4,7 +4,7 @@ use reference::district::District;
 use reference::make::{self, Shape};
 use reference::options::Given;
 use reference::random::Random;
-use reference::{example, file};
+use reference::{example, file, frames, vectors};
 use std::fs;
 use std::io::{self, BufWriter, Write};
 use std::path::Path;
@@ -16,6 +16,7 @@ const USAGE: &str = "usage:
   generate scripts --count N --seed S --out DIR   panel scripts, each in a folder with its files
   generate series  --seed S --out DIR             districts that grow in N, in S and in R
   generate example                                the report's example problem, to standard output
+  generate vectors                                the stored lists of calls as frames, to standard output
 ";
 
 fn main() -> ExitCode {
@@ -39,6 +40,7 @@ fn run(arguments: &[String]) -> Result<(), String> {
         "scripts" => scripts(count, seed, Path::new(given.needed("out")?)),
         "series" => series(seed, Path::new(given.needed("out")?)),
         "example" => io::stdout().write_all(&file::encode(&example::district())),
+        "vectors" => io::stdout().write_all(&vectors::frames()),
         _ => return Err(format!("unknown argument {what}")),
     }
     .map_err(|error| error.to_string())
@@ -56,8 +58,8 @@ fn files(count: u64, seed: u64, out: &Path) -> io::Result<()> {
 fn frames(count: u64, seed: u64) -> io::Result<()> {
     let mut output = BufWriter::new(io::stdout().lock());
     for case in 0..count {
-        let frame = make::any_frame(&mut Random::for_case(seed, case));
-        output.write_all(&(frame.len() as u32).to_le_bytes())?;
+        let mut frame = Vec::new();
+        frames::put(&mut frame, &make::any_frame(&mut Random::for_case(seed, case)));
         output.write_all(&frame)?;
     }
     output.flush()

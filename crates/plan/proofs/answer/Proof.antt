@@ -7,18 +7,6 @@ use Rattle.plan.specs.Printed.{printed, printedAfter}
 use Rattle.plan.proofs.answer.Statement.{statement}
 use Rattle.plan.proofs.answer.Tie as tie
 
-fresh-requires : tie.Need-fresh-requires
-fresh-requires c κs = search needs
-
-load-requires : tie.Need-load-requires
-load-requires c κs = search needs
-
-put-planned-requires : tie.Need-put-planned-requires
-put-planned-requires c κs = search needs
-
-same-length : tie.Need-same-length
-same-length c = search needs
-
 returns : tie.Need-returns
 unfolding printed printedAfter
 returns c =
@@ -29,4 +17,4 @@ returns c =
 
 pub answer-spec : {M : Type 1} → statement M
 answer-spec =
-    tie.close (tie.spec fresh-requires load-requires put-planned-requires same-length returns)
+    tie.close (tie.spec (λ c κs. search needs) (λ c κs. search needs) (λ c κs. search needs) (λ c. search needs) returns)

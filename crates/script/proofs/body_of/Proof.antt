@@ -5,19 +5,13 @@ use Rattle.script.specs.Script.{bodyIn}
 use Rattle.script.proofs.body_of.Statement.{statement}
 use Rattle.script.proofs.body_of.Tie as tie
 
-shared-slice-read-if1 : tie.Need-shared-slice-read-if1
-shared-slice-read-if1 c = search needs
-
 returns : tie.Need-returns
 unfolding bodyIn
 returns c = rw (ne-eqb _ 1 (c .if1 .taken))
-
-number-requires : tie.Need-number-requires
-number-requires c κs = search needs
 
 returns-2 : tie.Need-returns-2
 unfolding bodyIn
 returns-2 c = rw (eq-eqb _ 1 (c .before .if1 .left)) (c .number .ensures)
 
 pub body-of-spec : {M : Type 1} → statement M
-body-of-spec = tie.close (tie.spec shared-slice-read-if1 returns number-requires returns-2)
+body-of-spec = tie.close (tie.spec (λ c. search needs) returns (λ c κs. search needs) returns-2)

@@ -6,54 +6,33 @@ use Rattle.script.specs.Script.{callOf}
 use Rattle.script.proofs.make.Statement.{statement}
 use Rattle.script.proofs.make.Tie as tie
 
-load-requires : tie.Need-load-requires
-load-requires c κs = search needs
-
-bar-requires : tie.Need-bar-requires
-bar-requires c κs = search needs
-
-unbar-requires : tie.Need-unbar-requires
-unbar-requires c κs = search needs
-
-set-limit-requires : tie.Need-set-limit-requires
-set-limit-requires c κs = search needs
-
-set-rating-requires : tie.Need-set-rating-requires
-set-rating-requires c κs = search needs
-
-exported-requires : tie.Need-exported-requires
-exported-requires c κs = search needs
-
-refused-requires : tie.Need-refused-requires
-refused-requires c κs = search needs
-
 returns : tie.Need-returns
 unfolding callOf outcomeOf
-returns c = rw (c .before .before .match .keys1, c .before .load .ensures)
+returns c = rw (c .before .match .keys1, c .load .ensures)
 
 returns-2 : tie.Need-returns-2
 unfolding callOf outcomeOf
-returns-2 c = rw (c .before .before .match .keys2, c .before .bar .ensures)
+returns-2 c = rw (c .before .match .keys2, c .bar .ensures)
 
 returns-3 : tie.Need-returns-3
 unfolding callOf outcomeOf
-returns-3 c = rw (c .before .before .match .keys3, c .before .unbar .ensures)
+returns-3 c = rw (c .before .match .keys3, c .unbar .ensures)
 
 returns-4 : tie.Need-returns-4
 unfolding callOf outcomeOf
-returns-4 c = rw (c .before .before .match .keys4, c .before .set-limit .ensures)
+returns-4 c = rw (c .before .match .keys4, c .set-limit .ensures)
 
 returns-5 : tie.Need-returns-5
 unfolding callOf outcomeOf
-returns-5 c = rw (c .before .before .match .keys5, c .before .set-rating .ensures)
+returns-5 c = rw (c .before .match .keys5, c .set-rating .ensures)
 
 returns-6 : tie.Need-returns-6
 unfolding callOf outcomeOf
-returns-6 c = rw (c .before .match .keys6) (c .exported .ensures)
+returns-6 c = rw (c .before .match .keys6, c .exported .ensures)
 
 returns-7 : tie.Need-returns-7
 unfolding callOf outcomeOf
-returns-7 c = rw (c .before .match .keys7) (c .refused .ensures)
+returns-7 c = rw (c .before .match .keys7, c .refused .ensures)
 
 returns-8 : tie.Need-returns-8
 unfolding callOf outcomeOf
@@ -63,13 +42,13 @@ pub make-spec : {M : Type 1} → statement M
 make-spec =
     tie.close
     (tie.spec
-    load-requires
-    bar-requires
-    unbar-requires
-    set-limit-requires
-    set-rating-requires
-    exported-requires
-    refused-requires
+    (λ c κs. search needs)
+    (λ c κs. search needs)
+    (λ c κs. search needs)
+    (λ c κs. search needs)
+    (λ c κs. search needs)
+    (λ c κs. search needs)
+    (λ c κs. search needs)
     returns
     returns-2
     returns-3

@@ -1,0 +1,12 @@
+-- `script::exported` meets its contract. Assumes nothing.
+use mathlib.Core.Path.{ap}
+use borrow.Author.Needs.{needs}
+use Rattle.rules.specs.Calls.{Export}
+use Rattle.script.proofs.exported.Statement.{statement}
+use Rattle.script.proofs.exported.Tie as tie
+
+returns : tie.Need-returns
+returns c = ap (λ (e : Export). e .answer) (c .before .export .ensures)
+
+pub exported-spec : {M : Type 1} → statement M
+exported-spec = tie.close (tie.spec (λ c. search needs) (λ c κs. search needs) returns)

@@ -1,0 +1,521 @@
+//! The stored cases: lists of calls, the same ones each time, group by group.
+//!
+//! What each comes to is worked out by `calls::worked`, and another
+//! implementation is run on the same frames.
+
+use crate::calls::{encode, Call};
+use crate::district::*;
+use crate::make::{self, Shape, WIDEST};
+use crate::random::Random;
+use crate::unit::{plan, Plan};
+use crate::{example, file, frames, lists};
+
+/// All frames, one after another.
+pub fn frames() -> Vec<u8> {
+    let mut out = Vec::new();
+    for script in scripts() {
+        frames::put(&mut out, &script);
+    }
+    out
+}
+
+fn scripts() -> Vec<Vec<u8>> {
+    let mut cases = Cases { scripts: Vec::new() };
+    beginnings(&mut cases);
+    the_card(&mut cases);
+    sizes(&mut cases);
+    ties(&mut cases);
+    limits_of_zero(&mut cases);
+    negative_gains(&mut cases);
+    bars(&mut cases);
+    the_report(&mut cases);
+    phases(&mut cases);
+    refused_files(&mut cases);
+    files_wrong_twice(&mut cases);
+    refused_calls(&mut cases);
+    ends_of_ranges(&mut cases);
+    refused_exports(&mut cases);
+    what_a_refusal_leaves(&mut cases);
+    long_lists(&mut cases);
+    cases.scripts
+}
+
+struct Cases {
+    scripts: Vec<Vec<u8>>,
+}
+
+impl Cases {
+    fn list(&mut self, calls: &[Call]) {
+        self.scripts.push(encode(calls));
+    }
+
+    fn file(&mut self, bytes: Vec<u8>) {
+        self.list(&[Call::Load(bytes)]);
+    }
+
+    fn district(&mut self, district: &District) {
+        self.file(file::encode(district));
+    }
+
+    /// A district, and calls after its load.
+    fn after(&mut self, district: &District, calls: &[Call]) {
+        self.list(&[&[load(district)], calls].concat());
+    }
+}
+
+fn load(district: &District) -> Call {
+    Call::Load(file::encode(district))
+}
+
+// ---- groups
+
+/// No call, or none that is there whole; every kind that is a show.
+fn beginnings(cases: &mut Cases) {
+    let whole = encode(&[load(&two_of_each())]);
+    let more = encode(&[load(&two_of_each()), Call::SetLimit(1, 10)]);
+    cases.list(&[]);
+    // Cut within the first call, within its file, within the second call.
+    for (bytes, length) in [(&whole, 12), (&whole, 13), (&whole, whole.len() - 1), (&more, more.len() - 1)] {
+        cases.scripts.push(bytes[..length].to_vec());
+    }
+    // A file that claims more bytes than follow, and far more.
+    cases.scripts.push([&whole[..], &[1, 1, 0, 0, 0, 0, 0, 0, 0, 0, 0, 0, 0]].concat());
+    cases.scripts.push([&whole[..], &[1, 255, 255, 255, 255, 0, 0, 0, 0, 0, 0, 0, 0, 9]].concat());
+    for kind in [0, 8, 255] {
+        cases.scripts.push([&whole[..], &[kind, 9, 9, 9, 9, 9, 9, 9, 9, 9, 9, 9, 9]].concat());
+    }
+    cases.list(&[Call::Show]);
+    cases.list(&[Call::Export]);
+}
+
+/// The district on the test card, and what is marked with it.
+fn the_card(cases: &mut Cases) {
+    cases.district(&card());
+    cases.after(&card(), &[Call::Bar(2, 2)]);
+    for limit in [180, 179, 59, 0] {
+        cases.after(&card(), &[Call::SetLimit(1, limit)]);
+    }
+}
+
+/// Each count at its least, in its middle and at its greatest.
+fn sizes(cases: &mut Cases) {
+    let usual = Shape { segments: 5, strategies: 4, years: 3, distress_types: 3, pavement_types: 2, resources: 3 };
+    let mut shapes = Vec::new();
+    for n in [0, 1, 32, 64] {
+        shapes.push(Shape { segments: n, ..usual });
+    }
+    for s in [1, 6, 11] {
+        shapes.push(Shape { strategies: s, ..usual });
+    }
+    for t in [1, 5, 10] {
+        shapes.push(Shape { years: t, ..usual });
+    }
+    for d in [1, 5, 9] {
+        shapes.push(Shape { distress_types: d, ..usual });
+    }
+    for y in [1, 2, 4] {
+        shapes.push(Shape { pavement_types: y, ..usual });
+    }
+    for r in [1, 8, 16] {
+        shapes.push(Shape { resources: r, ..usual });
+    }
+    // One of everything, no segment beside the most of all else, the longest file.
+    shapes.push(Shape { segments: 1, strategies: 1, years: 1, distress_types: 1, pavement_types: 1, resources: 1 });
+    shapes.push(Shape { segments: 0, ..WIDEST });
+    shapes.push(WIDEST);
+    for (at, &shape) in shapes.iter().enumerate() {
+        let planned = |_: &District, plan: &Plan| plan.total > 0 || shape.segments == 0;
+        found(100 + at as u64, 1, |_| shape, planned).iter().for_each(|district| cases.district(district));
+    }
+    // The longest file again, where planning is long.
+    cases.district(&make::busy_district(&mut Random::new(7), WIDEST));
+}
+
+/// Equal benefits and equal ratios: the lower number goes first.
+fn ties(cases: &mut Cases) {
+    let one = [1_000];
+    let less = [900];
+    // Two strategies alike; two of the same benefit, where the second needs less.
+    cases.district(&plain(&[100], &[(10, &one), (10, &one)], &[(1, 0), (2, 0)]));
+    for limit in [0, 9, 10, 18, 19, 20, 27, 28] {
+        cases.district(&plain(&[limit], &[(10, &one), (10, &less)], &[(1, 0), (1, 0), (1, 0)]));
+    }
+    // Two segments alike and room for one: the lower steps.
+    cases.district(&plain(&[10], &[(10, &one)], &[(1, 0), (1, 0)]));
+    // Benefit and pull in the same proportion.
+    cases.district(&plain(&[20], &[(10, &one)], &[(1, 0), (2, 0)]));
+    cases.district(&plain(&[20], &[(10, &one)], &[(2, 0), (1, 0)]));
+    // Two alike step to nothing, a larger one follows, and one of them is picked up again.
+    let small_and_large = [(1, 45), (1, 45), (3, 0), (3, 0)];
+    cases.district(&plain(&[45], &[(50, &one)], &small_and_large));
+    cases.district(&plain(&[45], &[(50, &one), (50, &less)], &small_and_large));
+    // A strategy that two twins share, over two resources.
+    cases.district(&plain(&[20, 15], &[(10, &[1_000, 500]), (10, &[500, 1_000])], &[(1, 0), (1, 0), (1, 0)]));
+}
+
+/// Nothing that needs the resource is a candidate; what needs none of it is.
+fn limits_of_zero(cases: &mut Cases) {
+    let strategies: [(i8, &[u32]); 3] = [(30, &[1_000, 1_000]), (20, &[1_000, 0]), (10, &[0, 0])];
+    for limits in [[0, 0], [0, 100], [100, 0], [100, 100]] {
+        cases.district(&plain(&limits, &strategies, &[(1, 0), (3, 10)]));
+    }
+    let district = plain(&[100, 100], &strategies, &[(1, 0), (3, 10)]);
+    cases.after(&district, &[Call::SetLimit(2, 0)]);
+    cases.after(&district, &[Call::SetLimit(1, 0), Call::SetLimit(2, 0)]);
+    cases.after(&district, &[Call::SetLimit(1, 0), Call::SetLimit(2, 0), Call::SetLimit(1, 100)]);
+}
+
+/// Benefits below 0 and sums that cancel; a division toward zero from below.
+fn negative_gains(cases: &mut Cases) {
+    let none = [0];
+    cases.district(&plain(&[100], &[(-10, &none), (-50, &none), (1, &none)], &[(1, 0), (1, 50)]));
+    for gains in [[20, -10], [10, -10], [10, -20], [50, -50], [-50, 50], [50, -49]] {
+        let mut district = two_of_each();
+        for strategy in &mut district.strategies {
+            strategy.gains = gains.to_vec();
+        }
+        cases.district(&district);
+    }
+    // An effect of -89 and of 89: indexes 101 and 101, 90 percent, gain -1 and 1.
+    let mut district = plain(&[100], &[(-1, &none), (1, &none)], &[(1, 5)]);
+    district.greatest[0] = 20;
+    (district.segments[0].traffic, district.segments[0].environment) = (101, 101);
+    district.strategies.iter_mut().for_each(|strategy| strategy.survival[0] = 90);
+    cases.district(&district);
+    cases.after(&district, &[Call::Bar(1, 2)]);
+    // Ratings below 0 and minimums that they do not reach.
+    let lossy = |_: &District, plan: &Plan| plan.total > 0;
+    for district in found(300, 20, |random| make::small_shape(random, 4, 4), lossy) {
+        if district.strategies.iter().any(|strategy| strategy.gains.iter().any(|&gain| gain < -20)) {
+            cases.district(&district);
+        }
+    }
+}
+
+/// In the file, and by calls one after the other; and off again.
+fn bars(cases: &mut Cases) {
+    let mut barred = two_of_each();
+    barred.segments.iter_mut().for_each(|segment| segment.bars = 3);
+    cases.district(&barred);
+    cases.after(&barred, &[Call::Unbar(1, 2)]);
+    cases.after(&barred, &[Call::Unbar(1, 2), Call::Unbar(2, 1), Call::Unbar(2, 1)]);
+    let all: Vec<Call> = [(1, 1), (1, 2), (2, 1), (2, 2)].map(|(i, j)| Call::Bar(i, j)).to_vec();
+    for count in 1..=4 {
+        cases.after(&two_of_each(), &all[..count]);
+    }
+    // The highest bit, which only eleven strategies have.
+    let shape = Shape { segments: 3, strategies: 11, years: 2, distress_types: 2, pavement_types: 1, resources: 2 };
+    for district in found(400, 1, |_| shape, |_, plan| plan.strategies[..3].contains(&11)) {
+        let each: Vec<Call> = (1..=3).map(|i| Call::Bar(i, 11)).collect();
+        cases.district(&district);
+        cases.after(&district, &each);
+        cases.after(&district, &[&each[..], &[Call::Unbar(2, 11)]].concat());
+    }
+}
+
+/// The report's example problem, and its budget, resource 16, cut and raised.
+fn the_report(cases: &mut Cases) {
+    let district = example::district();
+    cases.district(&district);
+    for budget in [0, 12_020, 60_100, 110_000, 240_400, LIMIT_MOST] {
+        cases.after(&district, &[Call::SetLimit(16, budget)]);
+    }
+    cases.after(&district, &[Call::Unbar(1, 1), Call::Unbar(1, 3), Call::SetRating(10, 6, 0), Call::Bar(3, 2)]);
+}
+
+/// Plans in which each phase has work to do.
+fn phases(cases: &mut Cases) {
+    let middle = |random: &mut Random| make::small_shape(random, 16, 6);
+    let kept = [
+        found(500, 4, middle, |_, plan| plan.steps > 4 && plan.pickups == 0),
+        found(501, 6, middle, |_, plan| plan.pickups > 0),
+        found(502, 2, middle, |_, plan| plan.pickups > 1),
+        found(503, 6, middle, |_, plan| plan.changes > 0),
+        found(504, 3, middle, |_, plan| plan.changes > 2),
+        found(505, 4, middle, |_, plan| plan.steps > 0 && plan.pickups > 0 && plan.changes > 0),
+        // What a pavement type demands leaves some segments without a candidate.
+        found(506, 4, middle, |district, plan| plan.total > 0 && demanding(district) && plan.strategies[0] == 0),
+    ];
+    kept.iter().flatten().for_each(|district| cases.district(district));
+    let wide = Shape { segments: 40, strategies: 8, years: 4, distress_types: 4, pavement_types: 2, resources: 6 };
+    for seed in 0..2 {
+        cases.district(&make::busy_district(&mut Random::new(600 + seed), wide));
+    }
+}
+
+/// Refusals 1 to 5, at each record.
+fn refused_files(cases: &mut Cases) {
+    let bytes = file::encode(&one_of_each());
+    let starts = make::record_starts(&bytes);
+    cases.file(Vec::new());
+    for (at, &start) in starts.iter().enumerate() {
+        let end = starts.get(at + 1).copied().unwrap_or(bytes.len());
+        // 1: ends within the first four bytes, and within the payload.
+        cases.file(bytes[..start + 3].to_vec());
+        if end > start + 4 {
+            cases.file(bytes[..end - 1].to_vec());
+        }
+        // 2 and 3: another kind, another length.
+        cases.file(with(&bytes, start + 2, bytes[start + 2] + 1));
+        cases.file(with(&bytes, start, bytes[start] + 1));
+    }
+    cases.file(with(&bytes, 3, 1));
+    cases.file(with(&bytes, 1, 1));
+    // 4: each value a step beyond its range.
+    for damage in beyond() {
+        let mut district = one_of_each();
+        damage(&mut district);
+        cases.district(&district);
+    }
+    for (at, beyond) in [(4, 65), (5, 0), (5, 12), (6, 0), (6, 11), (7, 0), (7, 10), (8, 0), (8, 5), (9, 0), (9, 17)] {
+        cases.file(with(&bytes, at, beyond));
+    }
+    // 5: a byte follows.
+    cases.file([&bytes[..], &[0]].concat());
+    cases.file([&bytes[..], &bytes].concat());
+}
+
+/// Two conditions at once: the first from the top, record by record.
+fn files_wrong_twice(cases: &mut Cases) {
+    let bytes = file::encode(&one_of_each());
+    let second = make::record_starts(&bytes)[1];
+    // Kind and length; length and an end within the payload; an end and a value.
+    cases.file(with(&with(&bytes, second, 5), second + 2, 9));
+    cases.file(with(&bytes, second, 5)[..second + 6].to_vec());
+    cases.file(with(&bytes, second + 4, 255)[..second + 7].to_vec());
+    // A value, and a byte behind the end; a value, and a kind in the next record.
+    let limit = with(&bytes, second + 7, 255);
+    cases.file([&limit[..], &[0]].concat());
+    cases.file(with(&limit, second + 10, 9));
+    // A count out of its range, and the lengths that would follow from it.
+    cases.file(with(&with(&bytes, 9, 17), second, 68));
+    // The end missing, and a byte there in its place.
+    cases.file([&bytes[..bytes.len() - 4], &[0]].concat());
+}
+
+/// Refusals 6, 7 and 8, each alone and where others are due as well.
+fn refused_calls(cases: &mut Cases) {
+    let district = two_of_each();
+    let mut calls = vec![
+        // No such limit, or rating: 8.
+        Call::SetLimit(1, LIMIT_MOST + 1),
+        Call::SetLimit(2, u32::MAX),
+        Call::SetRating(1, 1, 51),
+        Call::SetRating(2, 2, 41),
+        Call::SetRating(2, 2, 256),
+        // Resource and limit: 7. Segment, distress and rating: 6. Distress and rating: 7.
+        Call::SetLimit(3, LIMIT_MOST + 1),
+        Call::SetRating(3, 3, 51),
+        Call::SetRating(3, 1, 51),
+        Call::SetRating(3, 3, 1),
+        Call::SetRating(1, 3, 51),
+        // Segment and strategy: 6.
+        Call::Bar(3, 3),
+        Call::Unbar(3, 3),
+        Call::Bar(0, 0),
+        Call::Unbar(0, 0),
+    ];
+    for number in [0, 3, 257, u32::MAX] {
+        // No such segment: 6. No such strategy, resource or distress: 7.
+        calls.extend([Call::Bar(number, 1), Call::Unbar(number, 2), Call::SetRating(number, 1, 0)]);
+        calls.extend([Call::Bar(2, number), Call::Unbar(1, number), Call::SetRating(1, number, 0)]);
+        calls.push(Call::SetLimit(number, 5));
+    }
+    for call in calls {
+        cases.after(&district, &[call]);
+    }
+}
+
+/// The ends of the ranges are accepted. A fresh unit has a resource, and no segment.
+fn ends_of_ranges(cases: &mut Cases) {
+    let district = two_of_each();
+    for call in [Call::SetLimit(2, LIMIT_MOST), Call::SetRating(1, 1, 50), Call::SetRating(2, 2, 40), Call::Bar(2, 2)] {
+        cases.after(&district, &[call]);
+    }
+    for call in
+        [Call::Bar(1, 1), Call::Unbar(1, 1), Call::SetRating(1, 1, 1), Call::SetLimit(1, 1), Call::SetLimit(2, 1)]
+    {
+        cases.list(&[call]);
+    }
+}
+
+/// Refusal 9, and room enough.
+fn refused_exports(cases: &mut Cases) {
+    cases.list(&[Call::ExportShort]);
+    cases.list(&[Call::ExportShort, Call::Show]);
+    cases.after(&two_of_each(), &[Call::Export]);
+    cases.after(&two_of_each(), &[Call::ExportShort]);
+    cases.after(&two_of_each(), &[Call::ExportShort, Call::Export]);
+}
+
+/// Refused calls of every kind leave district and programme as they were.
+fn what_a_refusal_leaves(cases: &mut Cases) {
+    let district = two_of_each();
+    let damaged = file::encode(&one_of_each())[1..].to_vec();
+    let refused = [
+        Call::Load(damaged),
+        Call::Bar(1, 3),
+        Call::Unbar(3, 1),
+        Call::SetLimit(1, LIMIT_MOST + 1),
+        Call::SetRating(1, 1, 51),
+        Call::ExportShort,
+    ];
+    for call in &refused {
+        cases.after(&district, &[call.clone(), Call::Show]);
+    }
+    cases.after(&district, &refused);
+    cases.after(&district, &[&refused[..], &[Call::Show]].concat());
+    // What is accepted between them stays.
+    cases.after(&district, &[&refused[..3], &[Call::SetLimit(1, 9)], &refused[3..], &[Call::Show]].concat());
+    // A load replaces all that calls have made of the district before.
+    cases.after(&district, &[Call::SetLimit(1, 9), Call::Bar(1, 1), load(&district)]);
+}
+
+/// Hundreds of calls, refused ones among them and at the end; then the same
+/// with a show behind.
+fn long_lists(cases: &mut Cases) {
+    for (seed, count) in [(700, 100), (701, 200), (702, 300), (703, 400), (704, 500)] {
+        let mut calls = lists::list(&mut Random::new(seed), count);
+        cases.list(&calls);
+        calls.push(Call::SetLimit(0, 1));
+        cases.list(&calls);
+        calls.push(Call::Show);
+        cases.list(&calls);
+    }
+}
+
+// ---- districts
+
+fn card() -> District {
+    let mut card = plain(&[130], &[(5, &[1_000]), (15, &[3_000])], &[(1, 5), (2, 15)]);
+    card.years = 2;
+    card.greatest = vec![20];
+    card.strategies[0].survival = vec![80, 40];
+    card.strategies[1].survival = vec![90, 70];
+    card.types[0].minimum = vec![0; 2];
+    card.segments.iter_mut().for_each(|segment| segment.width = 20);
+    card
+}
+
+/// Two of each count, with sizes and requirements that differ.
+fn two_of_each() -> District {
+    let strategy = |requirements: [u32; 2], gains: [i8; 2], percent: u8| Strategy {
+        requirements: requirements.to_vec(),
+        gains: gains.to_vec(),
+        survival: vec![percent, percent - 20, percent, percent - 30],
+    };
+    let segment = |pavement: u8, length: u16, ratings: [u8; 2]| Segment {
+        pavement,
+        traffic: 105,
+        environment: 100,
+        length,
+        width: 24,
+        bars: 0,
+        ratings: ratings.to_vec(),
+    };
+    District {
+        years: 2,
+        limits: vec![100, 150],
+        greatest: vec![50, 40],
+        strategies: vec![strategy([500, 1_500], [10, 15], 90), strategy([1_500, 2_000], [30, 20], 100)],
+        types: vec![
+            PavementType { overall: 0, minimum: vec![0; 4] },
+            PavementType { overall: 20, minimum: vec![5, 3, 2, 1] },
+        ],
+        segments: vec![segment(1, 120, [10, 20]), segment(2, 200, [5, 10])],
+    }
+}
+
+/// One of each count.
+fn one_of_each() -> District {
+    plain(&[100], &[(10, &[1_000])], &[(1, 5)])
+}
+
+/// One year and one distress type of at most 50, indexes of 100, nothing
+/// demanded, all of a gain lasting. Strategies have a gain and requirements;
+/// segments a length in miles, at a width of ten feet, and a rating.
+fn plain(limits: &[u32], strategies: &[(i8, &[u32])], segments: &[(u16, u8)]) -> District {
+    District {
+        years: 1,
+        limits: limits.to_vec(),
+        greatest: vec![50],
+        strategies: strategies
+            .iter()
+            .map(|&(gain, requirements)| Strategy {
+                requirements: requirements.to_vec(),
+                gains: vec![gain],
+                survival: vec![100],
+            })
+            .collect(),
+        types: vec![PavementType { overall: 0, minimum: vec![0] }],
+        segments: segments
+            .iter()
+            .map(|&(miles, rating)| Segment {
+                pavement: 1,
+                traffic: 100,
+                environment: 100,
+                length: 100 * miles,
+                width: 10,
+                bars: 0,
+                ratings: vec![rating],
+            })
+            .collect(),
+    }
+}
+
+/// The first districts, from a seed, whose plan is as wanted.
+fn found(
+    seed: u64,
+    count: usize,
+    shape: impl Fn(&mut Random) -> Shape,
+    wanted: impl Fn(&District, &Plan) -> bool,
+) -> Vec<District> {
+    let mut random = Random::new(seed);
+    let mut kept = Vec::new();
+    while kept.len() < count {
+        let shape = shape(&mut random);
+        let district = make::district(&mut random, shape);
+        if wanted(&district, &plan(&district)) {
+            kept.push(district);
+        }
+    }
+    kept
+}
+
+fn demanding(district: &District) -> bool {
+    district.types.iter().any(|pavement| pavement.overall > 0 || pavement.minimum.iter().any(|&least| least > 0))
+}
+
+/// The bytes with one changed.
+fn with(bytes: &[u8], at: usize, byte: u8) -> Vec<u8> {
+    let mut bytes = bytes.to_vec();
+    bytes[at] = byte;
+    bytes
+}
+
+/// Ways to put one value of a district of one of each a step beyond its range.
+fn beyond() -> Vec<fn(&mut District)> {
+    vec![
+        |d| d.limits[0] = LIMIT_MOST + 1,
+        |d| d.greatest[0] = 0,
+        |d| d.greatest[0] = RATING_MOST + 1,
+        |d| d.strategies[0].requirements[0] = REQUIREMENT_MOST + 1,
+        |d| d.strategies[0].gains[0] = GAIN_MOST + 1,
+        |d| d.strategies[0].gains[0] = -GAIN_MOST - 1,
+        |d| d.strategies[0].survival[0] = 101,
+        |d| d.types[0].overall = OVERALL_MOST + 1,
+        |d| d.types[0].minimum[0] = RATING_MOST + 1,
+        |d| d.segments[0].pavement = 0,
+        |d| d.segments[0].pavement = 2,
+        |d| d.segments[0].traffic = INDEX_LEAST - 1,
+        |d| d.segments[0].traffic = INDEX_MOST + 1,
+        |d| d.segments[0].environment = INDEX_LEAST - 1,
+        |d| d.segments[0].environment = INDEX_MOST + 1,
+        |d| d.segments[0].length = 0,
+        |d| d.segments[0].length = LENGTH_MOST + 1,
+        |d| d.segments[0].width = 0,
+        |d| d.segments[0].width = WIDTH_MOST + 1,
+        |d| d.segments[0].bars = 2,
+        |d| d.segments[0].ratings[0] = 51,
+    ]
+}
