@@ -1,5 +1,5 @@
 -- `phase1::start` meets its contract: the sums passed are right. Assumes nothing.
-use Prim.Native.Nat.{ℕ, _+_, _-_, _≤_}
+use Prim.Native.Nat.{ℕ, _-_, _≤_}
 use mathlib.Core.Path.{_≡_, sym, _∙_}
 use denote.Ref.{now}
 use native.Mathlib.Omega.{arith}
