@@ -64,7 +64,7 @@ fn best_offer(
 }
 
 // Phase 2. Returns how many segments were picked up.
-pub fn fill(
+pub fn pick_up(
     z: Size,
     benefits: &[u64],
     uses: &[u64],

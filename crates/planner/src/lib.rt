@@ -30,7 +30,7 @@ fn phases(
     let mut sums = [0u64; 16];
     phase1::start(z, benefits, uses, limits, &mut choice, &mut sums);
     let steps = phase1::reduce(z, benefits, uses, limits, shares, &mut choice, &mut sums);
-    let pickups = phase2::fill(z, benefits, uses, limits, &mut choice, &mut sums);
+    let pickups = phase2::pick_up(z, benefits, uses, limits, &mut choice, &mut sums);
     let after_pickups = tables::total_of(z, benefits, &choice);
     let changes = phase3::improve(z, benefits, uses, limits, &mut choice, &mut sums);
     let total = tables::total_of(z, benefits, &choice);

@@ -1,4 +1,5 @@
--- Document 01, "The ceiling" (its own term): no programme within the limits has a total above it.
+-- Document 01, "The ceiling" (its own term, as are prices and down-shares): no programme of permitted strategies within the limits has a
+-- total above it.
 use Prim.Native.Nat.{ℕ, zero, suc, _+_, _-_, _*_, _/_, _^_}
 use mathlib.Core.Bool.{Bool, _&&_}
 use mathlib.Core.List.{List}

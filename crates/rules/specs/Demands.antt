@@ -1,4 +1,4 @@
--- The three demands, as statements.
+-- The three demands on the unit, as statements. Document 01 refers to them by number; docs/CLAIMS.md has their sentences.
 use Prim.Native.Nat.{ℕ, suc, _+_, _-_, _≤_, _<_}
 use mathlib.Core.Path.{_≡_}
 use mathlib.Core.Bool.{Bool, true, _&&_, _||_}
@@ -13,7 +13,7 @@ use Rattle.rules.specs.District.{District, segmentsOf, strategiesOf}
 use Rattle.rules.specs.File.{encode}
 use Rattle.rules.specs.Rating.{permitted, withinLimits, totalOf}
 use Rattle.rules.specs.Table.{Table, tableOf}
-use Rattle.rules.specs.Phases.{within, pickUp, change}
+use Rattle.rules.specs.Phases.{strategyAt, within, pickUp, change}
 use Rattle.rules.specs.Plan.{reduced, filled, improved, programmeOf}
 use Rattle.rules.specs.Survey.{blockOf, pointsOf, surveyRefusal, surveyOf}
 use Rattle.rules.specs.Calls.{loadRefusal, loadOf, Export, exportOf, showOf}
@@ -34,7 +34,7 @@ returned d (SetRating i k rating) = 0
 returned d (ExportTo buffer) = length (encode d)
 returned d Show = 0
 
--- of a unit in any state and any call
+-- of a unit in any state and any call; the programme that goes with the district held is Calls.unitOf's, and Demand 2 has it after any list
 pub record Settled (u : Unit) (c : Call) : Type 0 where
   -- a call that meets no condition for a refusal gives a full result, and the unit then holds the district as the call alters it;
   pub accepted : refusalOf (u .district) c ≡ 0 → outcomeOf u c .answer ≡ Accepted (returned (u .district) c)
@@ -66,8 +66,8 @@ pub record Finished (t : Table) : Type 0 where
   pub changes : change t (improved t .last) ≡ none
 
 -- an accepted export of a file
-abbrev pub written : List ℕ → List ℕ → Export
-written file buffer = record { answer = Accepted (length file); buffer = file ++ drop (length file) buffer }
+abbrev pub fileIn : List ℕ → List ℕ → Export
+fileIn file buffer = record { answer = Accepted (length file); buffer = file ++ drop (length file) buffer }
 
 -- of the unit after any list of calls
 pub record ByTheRules (cs : List Call) : Type 0 where
@@ -77,7 +77,7 @@ pub record ByTheRules (cs : List Call) : Type 0 where
   -- its export, into any buffer with room, is the district's file,
   pub exported :
       (buffer : List ℕ) → length (encode (districtAfter cs)) ≤ length buffer
-      → exportOf (unitAfter cs) buffer ≡ written (encode (districtAfter cs)) buffer
+      → exportOf (unitAfter cs) buffer ≡ fileIn (encode (districtAfter cs)) buffer
   -- which gives the same district and the same programme when it is loaded into a unit in any state
   pub reloaded : (u : Unit) → loadOf u (encode (districtAfter cs)) ≡ record { answer = Accepted 0; unit = unitAfter cs }
 
@@ -91,7 +91,7 @@ Bytes file = (n : ℕ) → getD file n 0 < 256
 pub record ByteForByte (file : List ℕ) : Type 0 where
   pub same :
       Bytes file → loadRefusal file ≡ 0 → (u : Unit) (buffer : List ℕ) → length file ≤ length buffer
-      → exportOf (loadOf u file .unit) buffer ≡ written file buffer
+      → exportOf (loadOf u file .unit) buffer ≡ fileIn file buffer
 
 abbrev pub EveryFile : Type 0
 EveryFile = (file : List ℕ) → ByteForByte file
@@ -115,7 +115,7 @@ pub record Apart (d : District) (i k : ℕ) (c e : ℕ → ℕ) : Type 0 where
   pub elsewhere : (m : ℕ) → 1 ≤ m → m ≤ segmentsOf d → ¬ (m ≡ i) → ¬ (m ≡ k) → c m ≡ e m
 
 abbrev pub strategyIn : Programme → ℕ → ℕ
-strategyIn p i = getD (p .strategies) (i - 1) 0
+strategyIn p i = strategyAt (p .strategies) i
 
 -- the claim, of a district and the programme shown for it
 pub record Sound (d : District) (p : Programme) : Type 0 where

@@ -1,4 +1,5 @@
 -- Document 01, "The district and its file" and the upper half of "Where a call is refused": what any bytes load as, and a district's file.
+-- While a file is read, d holds the values of the records before: all that the next record's kinds, widths and ranges depend on.
 use Prim.Native.Nat.{ℕ, zero, suc, _+_, _-_}
 use mathlib.Core.Bool.{Bool, true, _&&_}
 use mathlib.Core.List.{List, [], _∷_, _++_}

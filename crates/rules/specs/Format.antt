@@ -1,5 +1,6 @@
 -- Document 01, "The district and its file": the records in order, and how many bytes and what range each of their numbers has.
 -- A number that the district does not have takes no byte of the file, and its place in the district holds 0.
+-- A slot is a record of the file: its kind, how many numbers it may have, and which of its kind it is, from 0. A field is one of its numbers.
 use Prim.Native.Nat.{ℕ, _-_, _/_, _%_, _^_, min}
 use mathlib.Core.Bool.{Bool, true, _||_}
 use mathlib.Core.List.{[], _∷_}

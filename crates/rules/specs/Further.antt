@@ -1,4 +1,4 @@
--- Further districts, worked out elsewhere and computed from these rules.
+-- Further districts, worked out by an independent program (reference/) and computed from these rules.
 -- Two of the plausible mistakes pass M1 to M9: the effect divided term by term (each effect there has one term or divides evenly), and the
 -- smallest benefit dropped instead of the smallest ratio. And the marked cases have no pick-up, no change, no requirement that a strategy
 -- misses, no second distress type and no second limit that does not hold. These districts have them.

@@ -1,4 +1,5 @@
--- Document 01, "Rating and benefit": of segment i, strategy j, distress k and year t of a district d.
+-- Document 01, "Rating and benefit": of segment i, strategy j, distress k and year t of a district d. Gain, survival, rating, effect, area,
+-- benefit, use, permitted and candidate are the document's terms.
 use Prim.Native.Nat.{ℕ, zero, suc, _-_, _*_}
 use mathlib.Core.Bool.{Bool, not, _&&_, _||_}
 use lib.Dec.{leb, eqb}

@@ -123,7 +123,7 @@ pub short : exportOf (unitAfter (Load card ∷ [])) (replicate 86 255) ≡ recor
 unfolding card resultOf
 short = refl
 
--- the longest file
+-- the file of the greatest counts; that none is longer is file/specs/Trips
 pub longest : length (encode (64 ∷ 11 ∷ 10 ∷ 9 ∷ 4 ∷ 16 ∷ [])) ≡ 3_788
 unfolding resultOf
 longest = refl

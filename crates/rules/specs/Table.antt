@@ -1,4 +1,5 @@
--- What the phases and the ceiling read of a district: whole numbers, and benefits of candidates alone.
+-- What the phases and the ceiling read of a district: whole numbers, and benefits of candidates alone. Nothing else of a district matters to
+-- them, and a table need not come from one.
 use Prim.Native.Nat.{ℕ}
 use mathlib.Core.Bool.{Bool, _&&_}
 use lib.IntN.{natAbs}

@@ -10,14 +10,14 @@ use Rattle.rules.specs.File.{found, decode, encode, inRange}
 use Rattle.rules.specs.Answers.{answerOf, accepting}
 use Rattle.rules.specs.Calls.{loadRefusalOf, loadRefusal, loadedOf, districtIn, exportRefusal, unitOf, answered, loadOf, exported, exportOf}
 use Rattle.rules.specs.Lists.{districtAfter}
-use Rattle.rules.specs.Demands.{written, TheRules}
+use Rattle.rules.specs.Demands.{fileIn, TheRules}
 use Rattle.rules.specs.declared.Unit.{Unit}
 use Rattle.rules.specs.declared.Answer.the-variants.{Accepted}
 use Rattle.theorems.specs.Kept.{Kept}
 use Rattle.theorems.proofs.Lists.{after, district-after, after-in, programme-after, finished-after}
 
 -- an export of a district whose file has room
-exports : (d : District) (file buffer : List ℕ) → encode d ≡ file → length file ≤ length buffer → exportOf (unitOf d) buffer ≡ written file buffer
+exports : (d : District) (file buffer : List ℕ) → encode d ≡ file → length file ≤ length buffer → exportOf (unitOf d) buffer ≡ fileIn file buffer
 unfolding exportOf unitOf exportRefusal exported answerOf accepting
 exports d file buffer e room = rw (e, le-leb (length file) (length buffer) room)
 

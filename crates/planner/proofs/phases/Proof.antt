@@ -18,7 +18,7 @@ reduce-requires c κs =
 returns : tie.Need-returns
 returns c =
     let reduced = c .before .before .before .before .before .before .before .before .before .before .before .before .before .before .before .before .reduce .ensures .1 in
-    let filled = c .before .before .before .before .before .before .before .before .before .before .before .fill .ensures .1 in
+    let filled = c .before .before .before .before .before .before .before .before .before .before .before .pick-up .ensures .1 in
     let improved = c .before .before .before .before .improve .ensures .1 in
     together _ _ _ _ _ _ _ _ _ _ _ (c .before .before .before .before .before .before .before .before .before .before .before .before .before .before .before .before .before .before .before .before .before .start .ensures .1) (reduced .0) (reduced .1) (filled .0) (filled .1) (c .before .before .before .before .before .before .before .total-of .ensures _ _) (improved .0) (improved .1) (c .total-of2 .ensures _ _) (c .before .before .before .before .before .before .before .before .before .before .before .before .before .before .before .before .before .before .before .before .before .before .before .before .before .before .before .before .pre .1)
 

@@ -1,10 +1,10 @@
--- `phase2::fill` meets its contract. Assumes nothing.
+-- `phase2::pick_up` meets its contract. Assumes nothing.
 use Prim.Native.Nat.{_-_}
 use mathlib.Core.Path.{sym, _∙_}
 use native.Mathlib.Omega.{arith}
 use Rattle.phase2.proofs.Laws.{offer-le, best-le-segments, pick-none, Picking, picking-start, picking-end, picking-next}
-use Rattle.phase2.proofs.fill.Statement.{statement}
-use Rattle.phase2.proofs.fill.Tie as tie
+use Rattle.phase2.proofs.pick_up.Statement.{statement}
+use Rattle.phase2.proofs.pick_up.Tie as tie
 
 abbrev Inv-loop : tie.InvT-loop
 Inv-loop z benefits uses limits choice₀ sums₀ picks₀ choice sums picks = Picking z benefits uses limits choice₀ choice sums picks
@@ -47,8 +47,8 @@ loop-less c = omega (arith, picking-next _ _ _ _ _ _ _ _ (c .before .before .bef
 loop-again : tie.Need-loop-again Inv-loop μ-loop
 loop-again c = picking-next _ _ _ _ _ _ _ _ (c .before .before .before .before .before .before .before .before .before .before .before .before .before .before .loop .inv) _ _ _ _ (c .before .before .before .before .before .before .before .before .before .before .before .best-offer .ensures) (c .before .before .before .before .before .before .before .before .before .before .if1 .left) (c .before .before .before .before .before .before .before .offer-of .ensures) (c .before .before .before .before .make-one .ensures .1) (c .before .before .before .before .make-one .ensures .0) .1
 
-pub fill-spec : {M : Type 1} → statement M
-fill-spec =
+pub pick-up-spec : {M : Type 1} → statement M
+pick-up-spec =
     tie.close
     (tie.spec
     Inv-loop
