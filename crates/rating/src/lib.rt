@@ -399,8 +399,8 @@ pub fn limit_in(d: &District, r: usize) -> u64
     requires { ⌜ Ranges (now d) × Resource r ⌝ }
     ensures { λ l. ⌜ l ≡ limitIn (now (d .entry)) r ⌝ }
 {
-    if d[5] < r {
-        return 0;
+    if r <= d[5] {
+        return scaled_limit(d, r);
     }
-    scaled_limit(d, r)
+    0
 }

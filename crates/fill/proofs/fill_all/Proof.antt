@@ -10,7 +10,7 @@ fill-shares-requires c κs =
     let l = c .before .before .before .before .before .before .fill-limits .ensures in
     let p = c .before .before .before .before .before .before .before .before .before .before .before .before .before .before .before .before .before .before .before .before .before .pre in
     let z = sized _ (p .0) u l in
-    ((z .0, z .1, p .4, p .5), bounded _ (p .0) u l)
+    ((z .0, z .1, search needs, search needs), bounded _ (p .0) u l)
 
 returns : tie.Need-returns
 returns c =

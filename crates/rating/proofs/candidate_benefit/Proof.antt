@@ -13,7 +13,7 @@ worth-requires c κs =
     let a = s .args in
     let h = has-in (a .d .now) (a .i) (a .j) (sym (c .before .has .ensures) ∙ c .if1 .taken) in
     let n = s .pre .0 .strategies in
-    (s .pre .0, h .0, (h .1 .0, omega arith))
+    (s .pre .0, h .0, (omega arith, omega arith))
 
 returns : tie.Need-returns
 unfolding candidateBenefit

@@ -15,8 +15,9 @@ budgets-requires c κs =
 room-requires : tie.Need-room-requires
 room-requires c κs =
     let s = c .before .before .before .before .before .before .before .before in
+    let m = s .pre .1 in
     let cell = cell-of _ _ _ _ (s .pre .0 .sound) (s .args .i) in
-    (room-of _ _ _ _ _ _ (s .pre .0) (c .before .budgets .ensures .places), (cell _ (s .pre .1 .0) (s .pre .1 .1) (s .pre .1 .2), cell 0 (s .pre .1 .0) (s .pre .1 .1) (omega arith)))
+    (room-of _ _ _ _ _ _ (s .pre .0) (c .before .budgets .ensures .places), (cell _ (m .0) (m .1) (omega arith), cell _ (m .0) (m .1) (omega arith)))
 
 returns : tie.Need-returns
 returns c =

@@ -10,7 +10,7 @@ room-requires c κs =
     let s = c .before .before .before .before .before .before in
     let m = s .pre .1 in
     let cell = cell-of _ _ _ _ (s .pre .0 .sound) in
-    (room-of _ _ _ _ _ _ (s .pre .0) (m .5 .places), (cell _ _ (m .0) (omega arith) (m .3), cell _ _ (omega arith) (m .2) (m .4)))
+    (room-of _ _ _ _ _ _ (s .pre .0) (m .5 .places), (cell _ _ (omega arith) (omega arith) (omega arith), cell _ _ (omega arith) (omega arith) (omega arith)))
 
 returns : tie.Need-returns
 returns c =
