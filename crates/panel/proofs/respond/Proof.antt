@@ -23,7 +23,7 @@ load-at : (c : tie.After-enum-told) → 5 ≤ length (c .before .before .before 
 load-at c = rw (loads c) at (path-fits (c .before .before .before .before .before .args .line .now))
 
 sub-load : tie.Need-sub-load
-sub-load c = load-at c
+sub-load c = omega (arith, load-at c)
 
 part-load-start : tie.Need-part-load-start
 part-load-start c = omega (arith, load-at c)
@@ -36,20 +36,16 @@ export-at : (c : tie.After-enum-told2) → 7 ≤ length (c .before .before .befo
 export-at c = rw (exports c) at (path-fits (c .before .before .before .before .before .args .line .now))
 
 sub-export : tie.Need-sub-export
-sub-export c = export-at c
+sub-export c = omega (arith, export-at c)
 
 part-export-start : tie.Need-part-export-start
 part-export-start c = omega (arith, export-at c)
 
 returns : tie.Need-returns
-returns c =
-    let e = c .before .before .before .before .before in
-    puts-as (λ v bs l. load (loads e) (rw (whole-tail (e .before .before .before .before .before .args .line .now) 5) at l)) (c .before .before .load .ensures)
+returns c = puts-as (λ v bs l. load (loads (c .before .before .before .before .before)) (rw whole-tail at l)) (c .before .before .load .ensures)
 
 returns-2 : tie.Need-returns-2
-returns-2 c =
-    let e = c .before .before .before .before .before in
-    puts-as (λ v bs x. export (exports e) (rw (whole-tail (e .before .before .before .before .before .args .line .now) 7) at x)) (c .before .before .export .ensures)
+returns-2 c = puts-as (λ v bs x. export (exports (c .before .before .before .before .before)) (rw whole-tail at x)) (c .before .before .export .ensures)
 
 -- the places of the other commands among all
 abbrev others : List ℕ
