@@ -15,7 +15,10 @@ use Rattle.rules.specs.File.{encode}
 use Rattle.rules.specs.declared.Answer.{Answer}
 use Rattle.rules.specs.declared.Answer.the-variants.{Accepted}
 use Rattle.rules.specs.declared.Unit.{Unit}
-use Rattle.panel.specs.Console.{Says, Puts}
+use Rattle.command.specs.Reading.{commandIn}
+use Rattle.command.specs.declared.Command as Command
+use Rattle.command.specs.declared.Command.{Command}
+use Rattle.panel.specs.Console.{said, after, Says, Leads, other, Puts}
 use Rattle.panel.specs.declared.Said.{Said}
 
 -- an export that is accepted has room
@@ -44,3 +47,9 @@ puts {bs = bs} s h = record { bytes = bs; leads = rw (s .unit) h; put = s .put }
 
 pub puts-as : {R S : Unit → List ℕ → Type 0} {old new : List ℕ} {r : Said} → ((v : Unit) (bs : List ℕ) → R v bs → S v bs) → Puts R old new r → Puts S old new r
 puts-as {r = r} f p = record { bytes = p .bytes; leads = f (r .unit) (p .bytes) (p .leads); put = p .put }
+
+-- of a line without a file
+pub puts-other :
+    {u : Unit} {command : Command} {line old new : List ℕ} {r : Said} → command ≡ commandIn line → ¬ (command ≡ Command.Load) → ¬ (command ≡ Command.Export)
+    → Says (after u command) (said u command) old new r → Puts (Leads u line) old new r
+puts-other e l x s = puts (rw e at s) (other (λ h. l (e ∙ h)) (λ h. x (e ∙ h)))

@@ -8,19 +8,19 @@ use Rattle.panel.proofs.obey.Tie as tie
 
 returns : tie.Need-returns
 unfolding said after
-returns c = rw (c .before .before .before .before .before .before .command .given .1, ← (c .before .before .before .before .bar .ensures)) (c .before .before .conclude .ensures)
+returns c = rw (c .before .before .before .before .before .before .command .given .1) (rw (c .before .before .before .before .bar .ensures) at (c .before .before .conclude .ensures))
 
 returns-2 : tie.Need-returns-2
 unfolding said after
-returns-2 c = rw (c .before .before .before .before .before .before .command2 .given .1, ← (c .before .before .before .before .unbar .ensures)) (c .before .before .conclude2 .ensures)
+returns-2 c = rw (c .before .before .before .before .before .before .command2 .given .1) (rw (c .before .before .before .before .unbar .ensures) at (c .before .before .conclude2 .ensures))
 
 returns-3 : tie.Need-returns-3
 unfolding said after
-returns-3 c = rw (c .before .before .before .before .before .before .command3 .given .1, ← (c .before .before .before .before .set-limit .ensures)) (c .before .before .conclude3 .ensures)
+returns-3 c = rw (c .before .before .before .before .before .before .command3 .given .1) (rw (c .before .before .before .before .set-limit .ensures) at (c .before .before .conclude3 .ensures))
 
 returns-4 : tie.Need-returns-4
 unfolding said after
-returns-4 c = rw (c .before .before .before .before .before .before .command4 .given .1, ← (c .before .before .before .before .set-rating .ensures)) (c .before .before .conclude4 .ensures)
+returns-4 c = rw (c .before .before .before .before .before .before .command4 .given .1) (rw (c .before .before .before .before .set-rating .ensures) at (c .before .before .conclude4 .ensures))
 
 returns-5 : tie.Need-returns-5
 unfolding said after
@@ -28,7 +28,7 @@ returns-5 c = rw (c .before .before .before .before .enum-told .given .1) record
 
 returns-6 : tie.Need-returns-6
 unfolding said after text
-returns-6 c = rw (c .before .before .before .before .before .before .before .command5 .given .1, ← (c .before .before .before .survey-points .ensures)) record { unit = refl; put = c .before .before .put-valued .ensures }
+returns-6 c = rw (c .before .before .before .before .before .before .before .command5 .given .1) record { unit = refl; put = rw (c .before .before .before .survey-points .ensures) at (c .before .before .put-valued .ensures) }
 
 returns-7 : tie.Need-returns-7
 unfolding said after text

@@ -9,8 +9,8 @@ use Rattle.base.proofs.Buffers.{whole-tail}
 use Rattle.command.proofs.Paths.{path-fits}
 use Rattle.command.specs.Reading.{commandIn}
 use Rattle.command.specs.declared.Command.the-variants.{Load, Export}
-use Rattle.panel.specs.Console.{load, export, other}
-use Rattle.panel.proofs.Laws.{puts, puts-as}
+use Rattle.panel.specs.Console.{load, export}
+use Rattle.panel.proofs.Laws.{puts-as, puts-other}
 use borrow.Author.Needs.{needs}
 use Rattle.panel.proofs.respond.Statement.{statement}
 use Rattle.panel.proofs.respond.Tie as tie
@@ -54,8 +54,7 @@ others = 0 ∷ 1 ∷ 4 ∷ 5 ∷ 6 ∷ 7 ∷ 8 ∷ 9 ∷ []
 returns-3 : tie.Need-returns-3
 returns-3 c =
     let m = c .before .before .before .before in
-    let e = m .before .parse .ensures in
-    puts (rw e at (c .before .before .obey .ensures)) (other (λ l. miss others 2 tt (rw (e ∙ l) at (m .match .keys3))) (λ x. miss others 3 tt (rw (e ∙ x) at (m .match .keys3))))
+    puts-other (m .before .parse .ensures) (λ l. miss others 2 tt (rw l at (m .match .keys3))) (λ x. miss others 3 tt (rw x at (m .match .keys3))) (c .before .before .obey .ensures)
 
 pub respond-spec : {M : Type 1} → statement M
 respond-spec =
