@@ -13,7 +13,7 @@ use Rattle.command.specs.declared.Command.the-variants.{Nothing, Unknown, Load,
 use Rattle.listing.specs.Listing.{done, shown, valued, failed}
 use Rattle.panel.specs.declared.Said.{Said}
 
--- ---- commands without a file
+-- ---- commands without a file; a load and an export have theirs below
 
 unfoldable pub said : Unit → Command → List ℕ
 said u Nothing = []
