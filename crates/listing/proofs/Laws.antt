@@ -14,9 +14,12 @@ pub named-few : (word : List ℕ) (n : ℕ) → length (named word n) ≤ length
 unfolding named
 named-few word n = omega (arith, length-append word (decimal n), decimal-few n)
 
-pub line-few : (word : List ℕ) (n : ℕ) → length (line word n) ≤ length word + 21
+line-few : (word : List ℕ) (n : ℕ) → length (line word n) ≤ length word + 21
 unfolding line text
 line-few word n = omega (arith, length-append (named word n) (text "\n"), named-few word n)
+
+pub line-fits : (word : List ℕ) (n room : ℕ) → length word + 21 ≤ room → length (line word n) ≤ room
+line-fits word n room h = omega (arith, line-few word n)
 
 pub refusal-few : (n : ℕ) → length (refusal n) ≤ 29
 unfolding refusal text

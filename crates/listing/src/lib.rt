@@ -145,7 +145,7 @@ pub fn put_planned(out: &mut [u8], answer: Answer, u: Unit) -> usize
 {
     match answer {
         Answer::Accepted(_) => put_shown(out, u),
-        Answer::Refused(n) => put_refusal(out, n),
+        Answer::Refused(number) => put_refusal(out, number),
     }
 }
 
@@ -155,7 +155,7 @@ pub fn put_valued(out: &mut [u8], word: &[u8], answer: Answer) -> usize
 {
     match answer {
         Answer::Accepted(value) => put_line(out, word, value),
-        Answer::Refused(n) => put_refusal(out, n),
+        Answer::Refused(refusal) => put_refusal(out, refusal),
     }
 }
 

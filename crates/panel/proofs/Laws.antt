@@ -1,4 +1,4 @@
--- How long an exported file and a complaint are at most. Assumes nothing.
+-- How long an exported file and a complaint are at most; and from what a command says to what is put. Assumes nothing.
 use Prim.Native.Nat.{ℕ, _+_, _≤_}
 use mathlib.Core.Bool.{Bool, true, false}
 use mathlib.Core.List.{List, _++_}
@@ -15,6 +15,11 @@ use Rattle.rules.specs.File.{encode}
 use Rattle.rules.specs.declared.Answer.{Answer}
 use Rattle.rules.specs.declared.Answer.the-variants.{Accepted}
 use Rattle.rules.specs.declared.Unit.{Unit}
+use Rattle.command.specs.Reading.{commandIn}
+use Rattle.command.specs.declared.Command as Command
+use Rattle.command.specs.declared.Command.{Command}
+use Rattle.panel.specs.Console.{said, after, Says, Leads, other, Puts}
+use Rattle.panel.specs.declared.Said.{Said}
 
 -- an export that is accepted has room
 accepted-fits : (size room n : ℕ) → answerOf (unless (leb size room) 9 0) size ≡ Accepted n → n ≤ room
@@ -34,3 +39,17 @@ export-fits u old answer new n e a = accepted-fits (length (encode (u .district)
 pub failed-length : (what path : List ℕ) → length (failed what path) ≡ length what + length path + 1
 unfolding failed text
 failed-length what path = omega (arith, length-append what (path ++ text "\n"), length-append path (text "\n"))
+
+-- ---- what is put
+
+pub puts : {R : Unit → List ℕ → Type 0} {v : Unit} {bs old new : List ℕ} {r : Said} → Says v bs old new r → R v bs → Puts R old new r
+puts {bs = bs} s h = record { bytes = bs; leads = rw (s .unit) h; put = s .put }
+
+pub puts-as : {R S : Unit → List ℕ → Type 0} {old new : List ℕ} {r : Said} → ((v : Unit) (bs : List ℕ) → R v bs → S v bs) → Puts R old new r → Puts S old new r
+puts-as {r = r} f p = record { bytes = p .bytes; leads = f (r .unit) (p .bytes) (p .leads); put = p .put }
+
+-- of a line without a file
+pub puts-other :
+    {u : Unit} {command : Command} {line old new : List ℕ} {r : Said} → command ≡ commandIn line → ¬ (command ≡ Command.Load) → ¬ (command ≡ Command.Export)
+    → Says (after u command) (said u command) old new r → Puts (Leads u line) old new r
+puts-other e l x s = puts (rw e at s) (other (λ h. l (e ∙ h)) (λ h. x (e ∙ h)))

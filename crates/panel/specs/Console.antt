@@ -1,13 +1,19 @@
--- What the panel answers to a command that has no file to do with, and the unit after it.
+-- What the console answers to a line, and the unit after it.
 use Prim.Native.Nat.{ℕ}
 use mathlib.Core.List.{List, []}
-use Rattle.base.specs.Text.{text}
-use Rattle.rules.specs.Calls.{barOf, unbarOf, setLimitOf, setRatingOf}
+use mathlib.Core.Path.{_≡_}
+use lib.ListN.{length, drop}
+use Rattle.base.specs.Text.{text, Put}
+use Rattle.rules.specs.Calls.{loadOf, barOf, unbarOf, setLimitOf, setRatingOf, exportOf}
 use Rattle.rules.specs.Survey.{surveyOf}
 use Rattle.rules.specs.declared.Unit.{Unit}
+use Rattle.command.specs.Reading.{commandIn}
 use Rattle.command.specs.declared.Command.{Command}
 use Rattle.command.specs.declared.Command.the-variants.{Nothing, Unknown, Load, Export, Bar, Unbar, Limit, Rating, Show, Points}
-use Rattle.listing.specs.Listing.{done, shown, valued}
+use Rattle.listing.specs.Listing.{done, shown, valued, failed}
+use Rattle.panel.specs.declared.Said.{Said}
+
+-- ---- commands without a file; a load and an export have theirs below
 
 unfoldable pub said : Unit → Command → List ℕ
 said u Nothing = []
@@ -32,3 +38,37 @@ after u (Limit r v) = setLimitOf u r v .unit
 after u (Rating i k v) = setRatingOf u i k v .unit
 after u Show = u
 after u (Points c d e s) = u
+
+-- the unit v, and bs over the front of a buffer that held `old` and then holds `new`
+pub record Says (v : Unit) (bs old new : List ℕ) (r : Said) : Type 0 where
+  pub unit : r .unit ≡ v
+  pub put : Put bs old new (r .length)
+
+-- ---- commands with a file: what the file held, and whether one could be written, no contract can tell
+
+-- a load leads from u to v and says bs: the answer to the bytes that were read, or that none were
+pub data Loads (u : Unit) (path : List ℕ) : Unit → List ℕ → Type 0 where
+  read : (file : List ℕ) → Loads u path (loadOf u file .unit) (done (loadOf u file .answer))
+  unopened : Loads u path u (failed (text "cannot open ") path)
+  unread : Loads u path u (failed (text "cannot read ") path)
+
+-- an export leaves the unit as it is; every file of a district has room in 4,096 bytes
+pub data Exports (u : Unit) (path : List ℕ) : Unit → List ℕ → Type 0 where
+  written : (buffer : List ℕ) → length buffer ≡ 4096 → Exports u path u (valued (text "ok ") (exportOf u buffer .answer))
+  unwritten : Exports u path u (failed (text "cannot write ") path)
+
+-- ---- lines
+
+-- a line leads from u to v and says bs
+pub data Leads (u : Unit) (line : List ℕ) : Unit → List ℕ → Type 0 where
+  load : {v : Unit} {bs : List ℕ} → commandIn line ≡ Load → Loads u (drop 5 line) v bs → Leads u line v bs
+  export : {v : Unit} {bs : List ℕ} → commandIn line ≡ Export → Exports u (drop 7 line) v bs → Leads u line v bs
+  other :
+      ¬ (commandIn line ≡ Load) → ¬ (commandIn line ≡ Export)
+      → Leads u line (after u (commandIn line)) (said u (commandIn line))
+
+-- the bytes that one of these says with the unit after, over the front of a buffer
+pub record Puts (R : Unit → List ℕ → Type 0) (old new : List ℕ) (r : Said) : Type 0 where
+  pub bytes : List ℕ
+  pub leads : R (r .unit) bytes
+  pub put : Put bytes old new (r .length)

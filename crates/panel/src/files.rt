@@ -1,6 +1,8 @@
 // Reading a file and putting another in its place.
 ghost use Prim.Native.Nat.{_≤_};
+ghost use mathlib.Core.List.{_++_};
 ghost use lib.ListN.{length};
+ghost use Rattle.base.specs.Text.{text, Put};
 ghost use Rattle.io.specs.Counts.{Counts};
 
 pub struct Got {
@@ -50,6 +52,7 @@ pub fn read_all(fd: i32, file: &mut [u8]) -> Got
 fn new_name(path: &[u8], name: &mut [u8]) -> usize
     requires { ⌜ (length (now path) ≤ 513) × (517 ≤ length (now name)) ⌝ }
     ensures { λ r. ⌜ Counts r (now (name .exit)) ⌝ }
+    ensures { λ r. ⌜ Put (now (path .entry) ++ text ".new") (now (name .entry)) (now (name .exit)) r ⌝ }
 {
     let at = listing::put(name, path);
     at + listing::put(&mut name[at..], b".new")

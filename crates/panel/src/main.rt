@@ -4,11 +4,10 @@ mod files;
 
 ghost use Prim.Native.Nat.{_≤_};
 ghost use mathlib.Core.Path.{_≡_};
-ghost use lib.ListN.{length};
-ghost use Rattle.base.specs.Text.{Put};
-ghost use Rattle.io.specs.Counts.{Counts};
+ghost use lib.ListN.{length, take};
 ghost use Rattle.listing.specs.Listing.{done, failed as Listing·failed};
-ghost use Rattle.panel.specs.Console.{said, after};
+ghost use Rattle.panel.specs.Console.{said, after, Says, Loads, Exports, Leads, Puts};
+ghost use Rattle.panel.specs.Lines.{Reached, Answered, Keeps, Fed};
 use command::Command;
 use libc::STDIN_FILENO;
 use libc::STDOUT_FILENO;
@@ -26,7 +25,7 @@ pub struct Said {
 
 fn conclude(reply: Reply, out: &mut [u8]) -> Said
     requires { ⌜ 2815 ≤ length (now out) ⌝ }
-    ensures { λ r. ⌜ (r .unit ≡ reply .unit) × Put (done (reply .answer)) (now (out .entry)) (now (out .exit)) (r .length) ⌝ }
+    ensures { λ r. ⌜ Says (reply .unit) (done (reply .answer)) (now (out .entry)) (now (out .exit)) r ⌝ }
 {
     let answer = reply.answer;
     let unit = reply.unit;
@@ -42,7 +41,7 @@ fn silent(u: Unit) -> Said
 
 fn obey(u: Unit, command: Command, out: &mut [u8]) -> Said
     requires { ⌜ 2815 ≤ length (now out) ⌝ }
-    ensures { λ r. ⌜ (r .unit ≡ after u command) × Put (said u command) (now (out .entry)) (now (out .exit)) (r .length) ⌝ }
+    ensures { λ r. ⌜ Says (after u command) (said u command) (now (out .entry)) (now (out .exit)) r ⌝ }
 {
     match command {
         Command::Bar(i, j) => conclude(unit::bar(u, i, j), out),
@@ -71,7 +70,7 @@ fn obey(u: Unit, command: Command, out: &mut [u8]) -> Said
 
 fn failed(u: Unit, what: &[u8], path: &[u8], out: &mut [u8]) -> Said
     requires { ⌜ (length (now what) ≤ 13) × (length (now path) ≤ 513) × (2815 ≤ length (now out)) ⌝ }
-    ensures { λ r. ⌜ (r .unit ≡ u) × Put (Listing·failed (now (what .entry)) (now (path .entry))) (now (out .entry)) (now (out .exit)) (r .length) ⌝ }
+    ensures { λ r. ⌜ Says u (Listing·failed (now (what .entry)) (now (path .entry))) (now (out .entry)) (now (out .exit)) r ⌝ }
 {
     Said {
         unit: u,
@@ -81,7 +80,7 @@ fn failed(u: Unit, what: &[u8], path: &[u8], out: &mut [u8]) -> Said
 
 fn load(u: Unit, path: &[u8], out: &mut [u8]) -> Said
     requires { ⌜ (length (now path) ≤ 513) × (2815 ≤ length (now out)) ⌝ }
-    ensures { λ r. ⌜ Counts (r .length) (now (out .exit)) ⌝ }
+    ensures { λ r. ⌜ Puts (Loads u (now (path .entry))) (now (out .entry)) (now (out .exit)) r ⌝ }
 {
     let fd = os::open_read(path);
     if fd < 0 {
@@ -99,7 +98,7 @@ fn load(u: Unit, path: &[u8], out: &mut [u8]) -> Said
 
 fn export(u: Unit, path: &[u8], out: &mut [u8]) -> Said
     requires { ⌜ (length (now path) ≤ 513) × (2815 ≤ length (now out)) ⌝ }
-    ensures { λ r. ⌜ (r .unit ≡ u) × Counts (r .length) (now (out .exit)) ⌝ }
+    ensures { λ r. ⌜ Puts (Exports u (now (path .entry))) (now (out .entry)) (now (out .exit)) r ⌝ }
 {
     let mut file = [0u8; 4096];
     let answer = unit::export(u, &mut file);
@@ -118,7 +117,7 @@ fn export(u: Unit, path: &[u8], out: &mut [u8]) -> Said
 
 fn respond(u: Unit, line: &[u8], out: &mut [u8]) -> Said
     requires { ⌜ (length (now line) ≤ 513) × (2815 ≤ length (now out)) ⌝ }
-    ensures { λ r. ⌜ Counts (r .length) (now (out .exit)) ⌝ }
+    ensures { λ r. ⌜ Puts (Leads u (now (line .entry))) (now (out .entry)) (now (out .exit)) r ⌝ }
 {
     let command = command::parse(line);
     match command {
@@ -128,8 +127,10 @@ fn respond(u: Unit, line: &[u8], out: &mut [u8]) -> Said
     }
 }
 
+// The answer to a line goes to standard output.
 fn answer(u: Unit, line: &[u8]) -> Unit
-    requires { ⌜ length (now line) ≤ 513 ⌝ }
+    requires { ⌜ (length (now line) ≤ 513) × Reached u ⌝ }
+    ensures { λ r. ⌜ Answered u (now (line .entry)) r ⌝ }
 {
     let mut out = [0u8; 2815];
     let said = respond(u, line, &mut out);
@@ -140,8 +141,8 @@ fn answer(u: Unit, line: &[u8]) -> Unit
 
 // Of a line only the first 513 bytes are kept: enough to know that it is too long.
 fn keep(line: &mut [u8], kept: usize, byte: u8) -> usize
-    requires { ⌜ kept ≤ length (now line) ⌝ }
-    ensures { λ r. ⌜ r ≤ length (now (line .exit)) ⌝ }
+    requires { ⌜ (kept ≤ length (now line)) × (length (now line) ≡ 513) ⌝ }
+    ensures { λ r. ⌜ Keeps (take kept (now (line .entry))) byte (now (line .exit)) r ⌝ }
 {
     if kept < line.len() {
         line[kept] = byte;
@@ -152,8 +153,8 @@ fn keep(line: &mut [u8], kept: usize, byte: u8) -> usize
 
 // What was read goes to the line, and each line that ends is answered.
 fn feed(u: Unit, line: &mut [u8], kept: usize, bytes: &[u8]) -> Said
-    requires { ⌜ (kept ≤ length (now line)) × (length (now line) ≤ 513) ⌝ }
-    ensures { λ r. ⌜ r .length ≤ length (now (line .exit)) ⌝ }
+    requires { ⌜ (kept ≤ length (now line)) × (length (now line) ≡ 513) × Reached u ⌝ }
+    ensures { λ r. ⌜ Fed u (take kept (now (line .entry))) (now (bytes .entry)) (now (line .exit)) r ⌝ }
 {
     let mut unit = u;
     let mut length = kept;

@@ -2,7 +2,7 @@
 use Prim.Native.Nat.{_+_, _-_}
 use mathlib.Core.List.{_++_}
 use native.Mathlib.Omega.{arith}
-use lib.ListN.{length}
+use lib.ListN.{length, length-append}
 use borrow.Author.Needs.{needs}
 use borrow.Rule.Slice.PartMut.{putMid}
 use Rattle.base.specs.Text.{text}
@@ -14,10 +14,7 @@ use Rattle.listing.proofs.put_failed.Tie as tie
 
 put-requires : tie.Need-put-requires
 unfolding failed text
-put-requires c κs =
-    let s = c .before .before .before .before in
-    let a = s .args in
-    front-fits (a .what .now) ((a .path .now) ++ (text "\n")) (s .pre)
+put-requires c κs = omega (arith, simp length-append at (c .before .before .before .before .pre))
 
 after-first : (c : tie.After-put) → let a = c .before .before .before .before .before .args in Written (a .out .now) (failed (a .what .now) (a .path .now)) ((a .path .now) ++ (text "\n")) (c .put .result) (c .put .last .0)
 unfolding failed text

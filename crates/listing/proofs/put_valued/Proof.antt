@@ -1,15 +1,13 @@
 -- `listing::put_valued` meets its contract. Assumes nothing.
 use native.Mathlib.Omega.{arith}
 use Rattle.listing.specs.Listing.{valued}
-use Rattle.listing.proofs.Laws.{line-few}
+use Rattle.listing.proofs.Laws.{line-fits}
 use borrow.Author.Needs.{needs}
 use Rattle.listing.proofs.put_valued.Statement.{statement}
 use Rattle.listing.proofs.put_valued.Tie as tie
 
 put-line-requires : tie.Need-put-line-requires
-put-line-requires c κs =
-    let a = c .before .before .before .before .before .before .args in
-    omega (arith, line-few (a .word .now) (c .before .before .answer .given .0 .0))
+put-line-requires c κs = line-fits _ _ _ (omega arith)
 
 returns : tie.Need-returns
 unfolding valued

@@ -1,11 +1,14 @@
 -- `panel::export` meets its contract. Assumes nothing.
 use native.Mathlib.Omega.{arith}
-use mathlib.Core.Path.{refl, sym}
+use mathlib.Core.Logic.{⊎-elim}
+use mathlib.Core.Path.{_≡_, refl, sym, ap, _∙_}
 use lib.ListN.{length}
 use lib.Seq.{length-take-le}
 use Prim.Native.Nat.{_≤_}
-use Rattle.listing.proofs.Laws.{put-within, put-part}
-use Rattle.panel.proofs.Laws.{export-fits}
+use Rattle.base.specs.Text.{text}
+use Rattle.rules.specs.Calls.{Export}
+use Rattle.panel.specs.Console.{written, unwritten}
+use Rattle.panel.proofs.Laws.{export-fits, puts}
 use borrow.Author.Needs.{needs}
 use Rattle.panel.proofs.export.Statement.{statement}
 use Rattle.panel.proofs.export.Tie as tie
@@ -22,10 +25,19 @@ slice-aggregate-save : tie.Need-slice-aggregate-save
 slice-aggregate-save c = sym (length-take-le _ _ (fits (c .before)))
 
 returns : tie.Need-returns
-returns c = let f = c .before .before .failed .ensures in (f .0, (put-within (f .1), put-part (f .1)))
+unfolding text
+returns c = puts (c .before .before .failed .ensures) unwritten
+
+-- after the match the answer is what it was
+same : (c : tie.At-match-came) → c .match .answer ≡ c .before .before .export .result
+same c = ⊎-elim (λ w. w .6 ∙ sym (w .1 .given .1)) (λ w. w .2) (c .match .came)
 
 returns-2 : tie.Need-returns-2
-returns-2 c = let p = c .before .before .put-valued .ensures in (refl, (put-within p, put-part p))
+unfolding text
+returns-2 c =
+    let m = c .before .before .before .before .before in
+    puts (record { unit = refl; put = c .before .before .put-valued .ensures })
+    (rw (same m ∙ ap (λ (x : Export). x .answer) (m .before .before .export .ensures)) (written _ refl))
 
 pub export-spec : {M : Type 1} → statement M
 export-spec =

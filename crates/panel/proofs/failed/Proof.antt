@@ -6,7 +6,7 @@ use Rattle.panel.proofs.failed.Statement.{statement}
 use Rattle.panel.proofs.failed.Tie as tie
 
 put-failed-requires : tie.Need-put-failed-requires
-put-failed-requires c κs = let a = c .before .before .before .before .args in omega (arith, failed-length (a .what .now) (a .path .now))
+put-failed-requires c κs = rw failed-length (omega arith)
 
 pub failed-spec : {M : Type 1} → statement M
 failed-spec = tie.close (tie.spec put-failed-requires (λ c. search needs) (λ c. search needs))

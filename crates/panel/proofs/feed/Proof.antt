@@ -1,22 +1,28 @@
--- `panel::feed` meets its contract: what is kept of a line is within its buffer. Assumes nothing.
+-- `panel::feed` meets its contract: what the bytes ahead lead to from here, all the bytes lead to from the start. Assumes nothing.
 use native.Mathlib.Omega.{arith}
-use Prim.Native.Nat.{_-_, _≤_}
+use Prim.Native.Nat.{ℕ, _-_, _≤_, _<_}
+use mathlib.Core.List.{List}
 use mathlib.Core.Logic.{⊎-elim}
 use mathlib.Core.Path.{_≡_, refl, sym, ap, _∙_}
-use lib.ListN.{length}
+use lib.ListN.{length, take, drop, getD}
 use lib.Seq.{length-take-le}
+use Rattle.rules.specs.declared.Unit.{Unit}
+use Rattle.panel.specs.Lines.{Reached, keeping, Feeds}
+use Rattle.panel.proofs.Feeds.{fed-all, fed-line, fed-byte}
 use borrow.Author.Needs.{needs}
 use Rattle.panel.proofs.feed.Statement.{statement}
 use Rattle.panel.proofs.feed.Tie as tie
 
 abbrev Inv-loop : tie.InvT-loop
-Inv-loop line₀ kept bytes unit₀ n₀ i₀ line unit n i = (i ≤ length bytes) × (n ≤ length line) × (length line ≡ length line₀)
+Inv-loop line₀ kept bytes unit₀ n₀ i₀ line unit n i =
+    (i ≤ length bytes) × (n ≤ length line) × (length line ≡ length line₀) × Reached unit
+    × ((w : Unit) (last : List ℕ) → Feeds unit (take n line) (drop i bytes) w last → Feeds unit₀ (take n₀ line₀) bytes w last)
 
 abbrev μ-loop : tie.MeasureT-loop
 μ-loop line₀ kept bytes unit₀ n₀ i₀ line unit n i = length bytes - i
 
 loop-holds : tie.Need-loop-holds Inv-loop μ-loop
-loop-holds c = (omega arith, omega (arith, c .before .before .pre), refl)
+loop-holds c = (omega arith, omega (arith, c .before .before .pre .0), refl, c .before .before .pre .2, λ w last f. f)
 
 slice-reshare-prefix-answer : tie.Need-slice-reshare-prefix-answer Inv-loop μ-loop
 slice-reshare-prefix-answer c = c .before .before .before .loop .inv .1
@@ -25,24 +31,43 @@ slice-aggregate-answer : tie.Need-slice-aggregate-answer Inv-loop μ-loop
 slice-aggregate-answer c = sym (length-take-le _ _ (c .before .before .before .before .loop .inv .1))
 
 answer-requires : tie.Need-answer-requires Inv-loop μ-loop
-answer-requires c κs = let l = c .before .before .before .before .loop in omega (arith, length-take-le (l .length) (l .line) (l .inv .1), l .inv .2, c .before .before .before .before .before .before .before .pre)
+answer-requires c κs = let l = c .before .before .before .before .loop in (omega (arith, length-take-le (l .length) (l .line) (l .inv .1), l .inv .2, c .before .before .before .before .before .before .before .pre .1), l .inv .3)
 
 keep-requires : tie.Need-keep-requires Inv-loop μ-loop
-keep-requires c κs = c .before .before .before .before .before .loop .inv .1
+keep-requires c κs = let l = c .before .before .before .before .before .loop in (l .inv .1, l .inv .2 ∙ c .before .before .before .before .before .before .before .before .pre .1)
 
 loop-again : tie.Need-loop-again Inv-loop μ-loop
 loop-again c =
     let l = c .before .before .before .loop in
+    let bytes = c .before .before .before .before .before .before .args .bytes .now in
+    let more : l .i < length bytes = omega arith in
     ⊎-elim
-    (λ w. let e : length (c .if1 .line) ≡ length (l .line) = ap length (w .3) in (omega arith, omega (arith, w .5), e ∙ l .inv .2))
-    (λ w. let e : length (c .if1 .line) ≡ length (w .3 .last .0) = ap length (w .6) in (omega arith, omega (arith, w .8, w .3 .ensures), e ∙ w .3 .kept .0 ∙ l .inv .2))
+    (λ w.
+    let e : length (c .if1 .line) ≡ length (l .line) = ap length (w .3) in
+    let a = w .2 .ensures in (
+      omega arith,
+      omega (arith, w .5),
+      e ∙ l .inv .2,
+      rw (w .4) (a .reached),
+      λ v last f. l .inv .4 v last (fed-line bytes (l .i) more (w .0 .taken) (a .leads) (w .4) (ap (λ (n : ℕ). take n (c .if1 .line)) (w .5)) f),
+    ))
+    (λ w.
+    let e : length (c .if1 .line) ≡ length (w .3 .last .0) = ap length (w .6) in
+    let k = w .3 .ensures in
+    let front : take (c .if1 .length) (c .if1 .line) ≡ keeping (take (l .length) (l .line)) (getD bytes (l .i) 0) = rw (w .6, w .8) (k .bytes) in (
+      omega arith,
+      omega (arith, w .8, k .within),
+      e ∙ w .3 .kept .0 ∙ l .inv .2,
+      rw (w .7) (l .inv .3),
+      λ v last f. l .inv .4 v last (fed-byte bytes (l .i) more (w .0 .left) (w .7) front f),
+    ))
     (c .if1 .came)
 
 same-length : tie.Need-same-length Inv-loop μ-loop
 same-length c = c .before .loop .inv .2
 
 returns : tie.Need-returns Inv-loop μ-loop
-returns c = c .before .loop .inv .1
+returns c = let l = c .before .loop in record { within = l .inv .1; feeds = l .inv .4 _ _ (fed-all _ (l .i) (omega arith)); reached = l .inv .3 }
 
 pub feed-spec : {M : Type 1} → statement M
 feed-spec =

@@ -1,17 +1,21 @@
 -- `panel::load` meets its contract. Assumes nothing.
-use Rattle.listing.proofs.Laws.{put-within, put-part}
+use Rattle.base.specs.Text.{text}
+use Rattle.panel.specs.Console.{read, unopened, unread}
+use Rattle.panel.proofs.Laws.{puts}
 use borrow.Author.Needs.{needs}
 use Rattle.panel.proofs.load.Statement.{statement}
 use Rattle.panel.proofs.load.Tie as tie
 
 returns : tie.Need-returns
-returns c = let p = c .before .before .failed .ensures .1 in (put-within p, put-part p)
+unfolding text
+returns c = puts (c .before .before .failed .ensures) unopened
 
 returns-2 : tie.Need-returns-2
-returns-2 c = let p = c .before .before .failed2 .ensures .1 in (put-within p, put-part p)
+unfolding text
+returns-2 c = puts (c .before .before .failed2 .ensures) unread
 
 returns-3 : tie.Need-returns-3
-returns-3 c = let p = c .before .before .conclude .ensures .1 in (put-within p, put-part p)
+returns-3 c = puts (c .before .before .conclude .ensures) (rw (c .before .before .before .before .load .ensures) (read _))
 
 pub load-spec : {M : Type 1} → statement M
 load-spec =

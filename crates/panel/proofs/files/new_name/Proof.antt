@@ -18,7 +18,7 @@ returns c =
     let name = s .args .name .now in
     let fits : length (path ++ text ".new") ≤ length name = omega (arith, length-append path (text ".new"), s .pre) in
     let p = put-last (put-front path (text ".new") (c .before .before .before .before .before .before .before .put .ensures) (omega (arith, s .pre))) fits (c .before .before .put2 .ensures) in
-    (put-within p, put-part p)
+    ((put-within p, put-part p), p)
 
 pub new-name-spec : {M : Type 1} → statement M
 new-name-spec =
