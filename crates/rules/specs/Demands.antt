@@ -1,5 +1,5 @@
 -- The three demands on the unit, as statements. Document 01 refers to them by number; docs/CLAIMS.md has their sentences.
-use Prim.Native.Nat.{ℕ, suc, _+_, _-_, _≤_, _<_}
+use Prim.Native.Nat.{ℕ, suc, _+_, _≤_, _<_}
 use mathlib.Core.Path.{_≡_}
 use mathlib.Core.Bool.{Bool, true, _&&_, _||_}
 use mathlib.Core.List.{List, _++_}
