@@ -5,8 +5,5 @@ use Rattle.rules.specs.Calls.{freshUnit, loadOf}
 use Rattle.rules.specs.declared.Reply.{Reply}
 use Rattle.listing.specs.Listing.{planned}
 
-unfoldable pub printedAfter : Reply → List ℕ
-printedAfter r = planned (r .answer) (r .unit)
-
 unfoldable pub printed : List ℕ → List ℕ
-printed file = printedAfter (loadOf freshUnit file)
+printed file = let r = loadOf freshUnit file in planned (r .answer) (r .unit)

@@ -5,7 +5,8 @@ use mathlib.Core.List.{List, [], _∷_}
 use native.Mathlib.Omega.{arith}
 use borrow.Author.Tests.{le-leb, lt-leb}
 use lib.ListN.{length, take, drop, length-drop}
-use lib.Seq.{drop-drop, take-all}
+use lib.Seq.{drop-drop}
+use Rattle.base.proofs.Buffers.{whole-tail}
 use Rattle.rules.specs.Calls.{showOf}
 use Rattle.rules.specs.Demands.{Sound}
 use Rattle.rules.specs.Lists.{Call, outcomeOf, unitFrom, unitAfter, districtAfter}
@@ -21,10 +22,6 @@ none-left (suc n) s h = rw (lt-leb (13 + bodyIn s) (length s) h)
 more-left : (n : ℕ) (s : List ℕ) → 13 + bodyIn s ≤ length s → callsIn (suc n) s ≡ callIn s ∷ callsIn n (drop (13 + bodyIn s) s)
 unfolding callsIn
 more-left n s h = rw (le-leb (13 + bodyIn s) (length s) h)
-
--- the part of the bytes from a place to their end
-pub tail : (s : List ℕ) (at : ℕ) → take (length s - at) (drop at s) ≡ drop at s
-tail s at = take-all (length s - at) (drop at s) (simp length-drop (omega arith))
 
 module _ (s : List ℕ) (at : ℕ) where
   -- nothing whole is left
@@ -50,7 +47,7 @@ module _ (s : List ℕ) (at : ℕ) where
 
   module _ (n : ℕ) (body : n ≡ bodyIn rest) where
     pub body-here : n ≡ bodyIn (drop at s)
-    body-here = body ∙ ap bodyIn (tail s at)
+    body-here = body ∙ ap bodyIn (whole-tail s at)
 
     pub stops : (r : Reply) (left : ℕ) → length s - at < 13 + n → replyFrom r (callsIn left (drop at s)) ≡ r
     stops r left h = ended s at r left (rw length-drop (omega (arith, body-here)))
@@ -62,7 +59,7 @@ module _ (s : List ℕ) (at : ℕ) where
         let len : 13 + n - 13 ≡ n = omega arith in
         let place : at + 13 + n ≡ at + (13 + n) = omega arith in
         let room : 13 + bodyIn (drop at s) ≤ length (drop at s) = rw length-drop (omega (arith, body-here)) in
-        let same : next ≡ replyOf (outcomeOf (r .unit) (callIn (drop at s))) = made ∙ rw (len, ea, eb, ec, tail s at, body-here) in
+        let same : next ≡ replyOf (outcomeOf (r .unit) (callIn (drop at s))) = made ∙ rw (len, ea, eb, ec, whole-tail s at, body-here) in
         rw (place, body-here) (turn s at r next left some room same)
 
 -- ---- what the contract says of the reply after the list

@@ -3,12 +3,12 @@ use borrow.Author.Needs.{needs}
 use mathlib.Core.Path.{_≡_, ap, _∙_}
 use Rattle.rules.specs.Calls.{freshUnit, loadOf}
 use Rattle.rules.specs.declared.Unit.{Unit}
-use Rattle.plan.specs.Printed.{printed, printedAfter}
+use Rattle.plan.specs.Printed.{printed}
 use Rattle.plan.proofs.answer.Statement.{statement}
 use Rattle.plan.proofs.answer.Tie as tie
 
 returns : tie.Need-returns
-unfolding printed printedAfter
+unfolding printed
 returns c =
     let load = c .before .before .before .before .before in
     let file = load .before .before .before .before .args .file .now in
