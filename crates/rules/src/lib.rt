@@ -36,6 +36,15 @@ pub struct Unit {
     pub programme: Programme,
 }
 
+// What may be altered of the district held, with the numbers as they are handed in: segment and strategy; segment and
+// strategy; resource and limit; segment, distress and rating.
+pub enum Edit {
+    Bar(usize, usize),
+    Unbar(usize, usize),
+    SetLimit(usize, usize),
+    SetRating(usize, usize, usize),
+}
+
 // What a call returns: a value (0, a length, points), or the number of a refusal.
 pub enum Answer {
     Accepted(usize),
