@@ -6,9 +6,10 @@ ghost use lib.ListN.{getD, set};
 ghost use Rattle.base.specs.Bits.{setBit, clearBit};
 ghost use Rattle.base.specs.Over.{between};
 ghost use Rattle.rules.specs.Answers.{unless, oneTo};
-ghost use Rattle.rules.specs.Calls.{barRefusal, limitRefusal, ratingRefusal};
+ghost use Rattle.rules.specs.Calls.{barRefusal, limitRefusal, ratingRefusal, editRefusal, edited as Calls·edited};
 ghost use Rattle.rules.specs.District.{barsPlace, greatestOf, barsOf, withLimit, withBar, withoutBar, withRating, freshDistrict};
 use rules::District;
+use rules::Edit;
 
 // The place of the `n`-th of a row, where the first is 1.
 fn place(n: usize) -> usize
@@ -64,7 +65,7 @@ fn one_to(x: usize, count: usize, n: usize, rest: usize) -> usize
 
 // ---- limits
 
-pub fn limit_refusal(d: District, resource: usize, limit: usize) -> usize
+fn limit_refusal(d: District, resource: usize, limit: usize) -> usize
     ensures { λ r. ⌜ r ≡ limitRefusal d resource limit ⌝ }
 {
     let field = grammar::limit_field(&d, place(resource));
@@ -72,7 +73,7 @@ pub fn limit_refusal(d: District, resource: usize, limit: usize) -> usize
     one_to(resource, d[5], 7, range)
 }
 
-pub fn with_limit(d: District, resource: usize, limit: usize) -> District
+fn with_limit(d: District, resource: usize, limit: usize) -> District
     ensures { λ r. ⌜ r ≡ withLimit d resource limit ⌝ }
 {
     if 2620 < resource {
@@ -93,7 +94,7 @@ fn greatest_of(d: District, distress: usize) -> usize
     value_at(d, 22 + place(distress))
 }
 
-pub fn rating_refusal(d: District, segment: usize, distress: usize, rating: usize) -> usize
+fn rating_refusal(d: District, segment: usize, distress: usize, rating: usize) -> usize
     ensures { λ r. ⌜ r ≡ ratingRefusal d segment distress rating ⌝ }
 {
     let most = greatest_of(d, distress);
@@ -102,7 +103,7 @@ pub fn rating_refusal(d: District, segment: usize, distress: usize, rating: usiz
     one_to(segment, d[0], 6, number)
 }
 
-pub fn with_rating(d: District, segment: usize, distress: usize, rating: usize) -> District
+fn with_rating(d: District, segment: usize, distress: usize, rating: usize) -> District
     ensures { λ r. ⌜ r ≡ withRating d segment distress rating ⌝ }
 {
     if 64 < segment {
@@ -116,7 +117,7 @@ pub fn with_rating(d: District, segment: usize, distress: usize, rating: usize) 
 
 // ---- bars
 
-pub fn bar_refusal(d: District, segment: usize, strategy: usize) -> usize
+fn bar_refusal(d: District, segment: usize, strategy: usize) -> usize
     ensures { λ r. ⌜ r ≡ barRefusal d segment strategy ⌝ }
 {
     let number = one_to(strategy, d[1], 7, 0);
@@ -162,16 +163,40 @@ fn with_bars(d: District, segment: usize, bars: usize) -> District
     with_value(d, 1660 + 15 * place(segment) + 5, bars)
 }
 
-pub fn with_bar(d: District, segment: usize, strategy: usize) -> District
+fn with_bar(d: District, segment: usize, strategy: usize) -> District
     ensures { λ r. ⌜ r ≡ withBar d segment strategy ⌝ }
 {
     with_bars(d, segment, set_bit(bars_of(d, segment), place(strategy)))
 }
 
-pub fn without_bar(d: District, segment: usize, strategy: usize) -> District
+fn without_bar(d: District, segment: usize, strategy: usize) -> District
     ensures { λ r. ⌜ r ≡ withoutBar d segment strategy ⌝ }
 {
     with_bars(d, segment, clear_bit(bars_of(d, segment), place(strategy)))
+}
+
+// ---- any edit
+
+pub fn refusal(d: District, e: Edit) -> usize
+    ensures { λ r. ⌜ r ≡ editRefusal d e ⌝ }
+{
+    match e {
+        Edit::Bar(i, j) => bar_refusal(d, i, j),
+        Edit::Unbar(i, j) => bar_refusal(d, i, j),
+        Edit::SetLimit(r, limit) => limit_refusal(d, r, limit),
+        Edit::SetRating(i, k, rating) => rating_refusal(d, i, k, rating),
+    }
+}
+
+pub fn edited(d: District, e: Edit) -> District
+    ensures { λ r. ⌜ r ≡ Calls·edited d e ⌝ }
+{
+    match e {
+        Edit::Bar(i, j) => with_bar(d, i, j),
+        Edit::Unbar(i, j) => without_bar(d, i, j),
+        Edit::SetLimit(r, limit) => with_limit(d, r, limit),
+        Edit::SetRating(i, k, rating) => with_rating(d, i, k, rating),
+    }
 }
 
 // ---- the fresh unit's district

@@ -15,20 +15,17 @@ use Rattle.base.proofs.Choice.{pick-yes}
 use Rattle.base.specs.Bytes.{bytesOf, numberOf}
 use Rattle.base.specs.Choice.{pick}
 use Rattle.rules.specs.Answers.{accepting}
-use Rattle.rules.specs.Calls.{loadRefusalOf, loadRefusal, loadedOf, districtIn, unitOf, answered, loadOf, exportRefusal, exported, exportOf}
-use Rattle.rules.specs.Demands.{ByteForByte}
+use Rattle.rules.specs.Calls.{loadRefusalOf, loadRefusal, loadedOf, districtIn}
 use Rattle.rules.specs.District.{District, valueAt, districtPlaces}
 use Rattle.rules.specs.File.{Read, refused, found, value, widths, size, readNumbers, readRecord, readRecords, decode, numberBytes, headerBytes, recordBytes, recordsBytes, encode, inRange}
 use Rattle.rules.specs.Format.{slotOf, present, fieldAt, inside}
-use Rattle.rules.specs.declared.Answer.the-variants.{Accepted}
 use Rattle.rules.specs.declared.Slot.{Slot}
-use Rattle.rules.specs.declared.Unit.{Unit}
 use Rattle.grammar.specs.Places.{startOf, Ready}
 use Rattle.grammar.proofs.InRange.{range-in}
 use Rattle.grammar.proofs.Slots.{start-next, ready}
 use Rattle.file.specs.Readings.{loadedFrom}
 use Rattle.file.specs.declared.Loaded.{Loaded}
-use Rattle.file.proofs.Refusals.{refusals, export-fits}
+use Rattle.file.proofs.Refusals.{refusals}
 use Rattle.file.proofs.Steps.{widths-none, widths-take, header-there, header-none, record-none, records-found, records-refused}
 
 -- ---- what is found was not refused
@@ -244,7 +241,7 @@ encode-decode file d rest e =
     let k = records-forth d 83 0 [] file rest refl refl e in
     ((λ h. sym (k .bytes h)), range-in d (record { places = k .all-of; values = λ n i a b. k .good n i (omega arith) a b }), k .none)
 
--- ---- so the export that follows a load is the file
+-- ---- what a file loads as
 
 pub loads-as : (file : List ℕ) → loadRefusal file ≡ 0 → (Bytes file → encode (districtIn file) ≡ file) × (inRange (districtIn file) ≡ true)
 unfolding loadRefusal loadRefusalOf districtIn loadedOf
@@ -264,20 +261,3 @@ loaded-ranged file {r} q = (q, ranged)
         let z : loadRefusal file ≡ 0 = sym (ap (λ (r : Loaded). r .refusal) q) ∙ e in
         let d : r .district ≡ districtIn file = ap (λ (r : Loaded). r .district) q ∙ rw z in
         rw d (loads-as file z .1)
-
-module _ (u : Unit) (file buffer : List ℕ) (e : loadRefusal file ≡ 0) where
-  held : loadOf u file .unit .district ≡ districtIn file
-  unfolding loadOf answered accepting unitOf
-  held = rw e
-
-  exports : Bytes file → length file ≤ length buffer → exportOf (loadOf u file .unit) buffer ≡ record { answer = Accepted (length file); buffer = file ++ drop (length file) buffer }
-  unfolding exportOf
-  exports h l =
-      let d = districtIn file in
-      let same = loads-as file e .0 h in
-      ap (λ (d : District). exported (exportRefusal d buffer) (encode d) buffer) held
-      ∙ sym (export-fits d buffer (omega (arith, ap length same)))
-      ∙ ap (λ (f : List ℕ). record { answer = Accepted (length f); buffer = f ++ drop (length f) buffer }) same
-
-pub byte-for-byte : (file : List ℕ) → ByteForByte file
-byte-for-byte file = record { same = λ h e u buffer l. exports u file buffer e h l }

@@ -6,7 +6,7 @@ use Rattle.rules.specs.File.{found, readNumbers, readRecord, readRecords, decod
 use Rattle.rules.specs.Format.{ranged, fieldAt}
 use Rattle.file.specs.Trips.{Trips}
 use Rattle.file.proofs.Back.{decode-encode}
-use Rattle.file.proofs.Forth.{encode-decode, byte-for-byte}
+use Rattle.file.proofs.Forth.{encode-decode}
 use Rattle.file.proofs.Longest.{longest, full, full-in-range, full-long}
 
 pub fresh-loads : decode (encode freshDistrict) ≡ found freshDistrict []
@@ -18,7 +18,6 @@ trips =
     record {
       back = decode-encode;
       forth = encode-decode;
-      same = byte-for-byte;
       fresh = fresh-loads;
       longest = longest;
       some = (full, full-in-range, full-long);

@@ -12,10 +12,12 @@ use borrow.Author.Tests.{ltb-true, ltb-false, eqb-true, eqb-false, leb-true, lt-
 use Rattle.base.proofs.Choice.{pick-all, and-both}
 use Rattle.base.specs.Bits.{bitAt, setBit, clearBit}
 use Rattle.rules.specs.Answers.{unless, oneTo}
-use Rattle.rules.specs.Calls.{barRefusal, limitRefusal, ratingRefusal}
+use Rattle.rules.specs.Calls.{barRefusal, limitRefusal, ratingRefusal, editRefusal, edited}
 use Rattle.rules.specs.District.{District, valueAt, segmentPlace, barsPlace, ratingPlace, segmentsOf, strategiesOf, distressesOf, resourcesOf, barsOf, greatestOf, withLimit, withBar, withoutBar, withRating}
 use Rattle.rules.specs.File.{inRange}
 use Rattle.rules.specs.Format.{inside, slotOf, limitField, segmentField, fieldAt}
+use Rattle.rules.specs.declared.Edit.{Edit}
+use Rattle.rules.specs.declared.Edit.the-variants.{Bar, Unbar, SetLimit, SetRating}
 use Rattle.rules.specs.declared.Slot.{Slot}
 use Rattle.grammar.specs.Places.{startOf, InRange}
 use Rattle.grammar.proofs.Bounds.{inside-number}
@@ -66,7 +68,7 @@ one-to x count n rest e =
 
 -- ---- limits
 
-pub limit-kept : (d : District) (r limit : ℕ) → inRange d ≡ true → limitRefusal d r limit ≡ 0 → inRange (withLimit d r limit) ≡ true
+limit-kept : (d : District) (r limit : ℕ) → inRange d ≡ true → limitRefusal d r limit ≡ 0 → inRange (withLimit d r limit) ≡ true
 unfolding limitRefusal withLimit fieldAt
 limit-kept d r limit ok e =
     let o = one-to r (resourcesOf d) 6 (unless (inside (limitField d (r - 1)) limit) 8 0) e in
@@ -85,7 +87,7 @@ segment-kept d i n x q ok a b l e good =
     kept d (in-range d ok) (18 + (i - 1)) n x q (omega arith) (omega (arith, ap (λ (s : Slot). s .places) z)) (omega arith) (omega arith) (λ z. omega arith)
     (rw (z, lt-ltb (i - 1) (segmentsOf d) (omega arith)) good)
 
-pub rating-kept : (d : District) (i k rating : ℕ) → inRange d ≡ true → ratingRefusal d i k rating ≡ 0 → inRange (withRating d i k rating) ≡ true
+rating-kept : (d : District) (i k rating : ℕ) → inRange d ≡ true → ratingRefusal d i k rating ≡ 0 → inRange (withRating d i k rating) ≡ true
 unfolding ratingRefusal withRating
 rating-kept d i k rating ok e =
     let f = segmentField d (6 + (k - 1)) in
@@ -135,10 +137,16 @@ module _ (d : District) (ok : inRange d ≡ true) (i j : ℕ) (e : barRefusal d 
   bars-kept mask l =
       segment-kept d i 5 mask (barsPlace i) ok (numbers .0) (numbers .1) (omega arith) refl (rw as-many (inside-number 2 0 (2 ^ strategiesOf d - 1) mask (omega arith) (omega arith)))
 
-  pub bar-kept : inRange (withBar d i j) ≡ true
+  bar-kept : inRange (withBar d i j) ≡ true
   unfolding withBar
   bar-kept = bars-kept (setBit (barsOf d i) (j - 1)) (set-below (barsOf d i) (strategiesOf d) (j - 1) (omega (arith, numbers .2, numbers .3)) bars-below)
 
-  pub unbar-kept : inRange (withoutBar d i j) ≡ true
+  unbar-kept : inRange (withoutBar d i j) ≡ true
   unfolding withoutBar
   unbar-kept = bars-kept (clearBit (barsOf d i) (j - 1)) (clear-below (barsOf d i) (strategiesOf d) (j - 1) bars-below)
+
+pub edit-kept : (d : District) (e : Edit) → inRange d ≡ true → editRefusal d e ≡ 0 → inRange (edited d e) ≡ true
+edit-kept d (Bar i j) ok none = bar-kept d ok i j none
+edit-kept d (Unbar i j) ok none = unbar-kept d ok i j none
+edit-kept d (SetLimit r limit) ok none = limit-kept d r limit ok none
+edit-kept d (SetRating i k rating) ok none = rating-kept d i k rating ok none

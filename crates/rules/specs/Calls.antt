@@ -8,6 +8,8 @@ use Rattle.rules.specs.Format.{inside, limitField, segmentField}
 use Rattle.rules.specs.File.{Read, refused, found, decode, encode}
 use Rattle.rules.specs.Plan.{planOf}
 use Rattle.rules.specs.Answers.{unless, oneTo, answerOf, accepting}
+use Rattle.rules.specs.declared.Edit.{Edit}
+use Rattle.rules.specs.declared.Edit.the-variants.{Bar, Unbar, SetLimit, SetRating}
 use Rattle.rules.specs.declared.Programme.{Programme}
 use Rattle.rules.specs.declared.Unit.{Unit}
 use Rattle.rules.specs.declared.Reply.{Reply}
@@ -22,6 +24,11 @@ loadRefusalOf (found d rest) = 0
 unfoldable pub loadRefusal : List ℕ → ℕ
 loadRefusal file = loadRefusalOf (decode file)
 
+unfoldable pub exportRefusal : District → List ℕ → ℕ
+exportRefusal d buffer = unless (leb (length (encode d)) (length buffer)) 9 0
+
+-- ---- edits: bar, unbar, set limit, set rating
+
 -- of bar and unbar
 unfoldable pub barRefusal : District → ℕ → ℕ → ℕ
 barRefusal d i j = oneTo i (segmentsOf d) 6 (oneTo j (strategiesOf d) 7 0)
@@ -34,8 +41,18 @@ unfoldable pub ratingRefusal : District → ℕ → ℕ → ℕ → ℕ
 ratingRefusal d i k rating =
     oneTo i (segmentsOf d) 6 (oneTo k (distressesOf d) 7 (unless (inside (segmentField d (6 + (k - 1))) rating) 8 0))
 
-unfoldable pub exportRefusal : District → List ℕ → ℕ
-exportRefusal d buffer = unless (leb (length (encode d)) (length buffer)) 9 0
+abbrev pub editRefusal : District → Edit → ℕ
+editRefusal d (Bar i j) = barRefusal d i j
+editRefusal d (Unbar i j) = barRefusal d i j
+editRefusal d (SetLimit r limit) = limitRefusal d r limit
+editRefusal d (SetRating i k rating) = ratingRefusal d i k rating
+
+-- the district with the one value that the edit names altered
+abbrev pub edited : District → Edit → District
+edited d (Bar i j) = withBar d i j
+edited d (Unbar i j) = withoutBar d i j
+edited d (SetLimit r limit) = withLimit d r limit
+edited d (SetRating i k rating) = withRating d i k rating
 
 -- ---- the calls that change the district
 
@@ -61,17 +78,8 @@ answered u n d = record { answer = answerOf n 0; unit = accepting n (unitOf d) u
 unfoldable pub loadOf : Unit → List ℕ → Reply
 loadOf u file = answered u (loadRefusal file) (districtIn file)
 
-unfoldable pub barOf : Unit → ℕ → ℕ → Reply
-barOf u i j = answered u (barRefusal (u .district) i j) (withBar (u .district) i j)
-
-unfoldable pub unbarOf : Unit → ℕ → ℕ → Reply
-unbarOf u i j = answered u (barRefusal (u .district) i j) (withoutBar (u .district) i j)
-
-unfoldable pub setLimitOf : Unit → ℕ → ℕ → Reply
-setLimitOf u r limit = answered u (limitRefusal (u .district) r limit) (withLimit (u .district) r limit)
-
-unfoldable pub setRatingOf : Unit → ℕ → ℕ → ℕ → Reply
-setRatingOf u i k rating = answered u (ratingRefusal (u .district) i k rating) (withRating (u .district) i k rating)
+unfoldable pub alterOf : Unit → Edit → Reply
+alterOf u e = answered u (editRefusal (u .district) e) (edited (u .district) e)
 
 -- ---- export and show, which leave the unit as it is
 

@@ -6,7 +6,8 @@ use Prim.Native.Nat.{ℕ}
 use mathlib.Core.Path.{_≡_, refl}
 use mathlib.Core.List.{List, [], _∷_, map}
 use lib.IntN.{ℤ, pos}
-use Rattle.rules.specs.Lists.{Load, SetRating}
+use Rattle.rules.specs.Lists.{Load, Alter}
+use Rattle.rules.specs.declared.Edit.the-variants.{SetRating}
 use Rattle.rules.specs.Results.{Case, shown, effects, resultOf}
 use Rattle.rules.specs.Marked.{card, oneSegment}
 
@@ -136,7 +137,7 @@ furtherCases =
     -- M9 with a second year
     effects (Load (oneSegment 101 1 (90 ∷ 90 ∷ [])) ∷ [])
     -- segment 2 has the greater benefit and the smaller ratio
-    ∷ shown (Load card ∷ SetRating 2 1 9 ∷ [])
+    ∷ shown (Load card ∷ Alter (SetRating 2 1 9) ∷ [])
     ∷ shown (Load fourSegments ∷ [])
     ∷ shown (Load tiedSegments ∷ [])
     ∷ shown (Load twoLimits ∷ [])

@@ -7,7 +7,8 @@ use lib.IntN.{ℤ, pos}
 use Rattle.rules.specs.File.{encode}
 use Rattle.rules.specs.Calls.{barRefusal, limitRefusal, ratingRefusal, exportRefusal, loadRefusal, districtIn, exportOf}
 use Rattle.rules.specs.Survey.{deductPoints, blockOf, pointsOf, surveyRefusal, surveyOf}
-use Rattle.rules.specs.Lists.{Load, Bar, Unbar, SetLimit, SetRating, ExportTo, Show, unitAfter}
+use Rattle.rules.specs.Lists.{Load, Alter, ExportTo, Show, unitAfter}
+use Rattle.rules.specs.declared.Edit.the-variants.{Bar, Unbar, SetLimit, SetRating}
 use Rattle.rules.specs.Results.{Case, shown, resultOf}
 use Rattle.rules.specs.Marked.{card}
 use Rattle.rules.specs.declared.Answer.{Answer}
@@ -92,12 +93,12 @@ points = refl
 unfoldable pub lists : List Case
 lists =
     -- barred twice; barred and unbarred; unbarred what is not barred; refused calls in between; export and show; loaded again
-    shown (Load card ∷ Bar 2 2 ∷ Bar 2 2 ∷ [])
-    ∷ shown (Load card ∷ Bar 2 2 ∷ Unbar 2 2 ∷ [])
-    ∷ shown (Load card ∷ Unbar 2 2 ∷ Unbar 1 1 ∷ [])
-    ∷ shown (Load card ∷ Load [] ∷ Bar 3 1 ∷ SetLimit 2 0 ∷ SetLimit 1 1_000_000_000 ∷ SetRating 1 1 21 ∷ Unbar 1 3 ∷ ExportTo [] ∷ Show ∷ [])
-    ∷ shown (Load card ∷ SetLimit 1 0 ∷ Load card ∷ [])
-    ∷ shown (Load [] ∷ Bar 1 1 ∷ [])
+    shown (Load card ∷ Alter (Bar 2 2) ∷ Alter (Bar 2 2) ∷ [])
+    ∷ shown (Load card ∷ Alter (Bar 2 2) ∷ Alter (Unbar 2 2) ∷ [])
+    ∷ shown (Load card ∷ Alter (Unbar 2 2) ∷ Alter (Unbar 1 1) ∷ [])
+    ∷ shown (Load card ∷ Load [] ∷ Alter (Bar 3 1) ∷ Alter (SetLimit 2 0) ∷ Alter (SetLimit 1 1_000_000_000) ∷ Alter (SetRating 1 1 21) ∷ Alter (Unbar 1 3) ∷ ExportTo [] ∷ Show ∷ [])
+    ∷ shown (Load card ∷ Alter (SetLimit 1 0) ∷ Load card ∷ [])
+    ∷ shown (Load [] ∷ Alter (Bar 1 1) ∷ [])
     ∷ []
 
 unfoldable pub listResults : List (List ℤ)

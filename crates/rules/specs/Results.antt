@@ -9,7 +9,7 @@ use Rattle.base.specs.Bits.{setBit, clearBit}
 use Rattle.base.specs.Over.{listed, sum, sumZ, all, most, betterOf, best, minZ, listedFrom}
 use Rattle.base.specs.Search.{first, run}
 use Rattle.rules.specs.Answers.{answerOf, accepting}
-use Rattle.rules.specs.Calls.{loadRefusalOf, loadRefusal, barRefusal, limitRefusal, ratingRefusal, exportRefusal, loadedOf, districtIn, unitOf, freshUnit, answered, loadOf, barOf, unbarOf, setLimitOf, setRatingOf, exported, exportOf, showOf}
+use Rattle.rules.specs.Calls.{loadRefusalOf, loadRefusal, barRefusal, limitRefusal, ratingRefusal, exportRefusal, loadedOf, districtIn, unitOf, freshUnit, answered, loadOf, alterOf, exported, exportOf, showOf}
 use Rattle.rules.specs.Ceiling.{downShare, costBy, cost, net, margin, ceilingAt, priced, pricedAll, pricesAfter, ceiling}
 use Rattle.rules.specs.District.{segmentsOf, yearsOf, limitOf, greatestOf, requirementOf, gainOf, percentOf, overallOf, minimumOf, pavementOf, trafficOf, environmentOf, lengthOf, widthOf, barsOf, barredIn, ratingOf, withLimit, withBar, withoutBar, withRating, freshDistrict}
 use Rattle.rules.specs.File.{readNumbers, readRecord, readRecords, decode, numberBytes, recordsBytes, encode, numbersInRange, recordsInRange, inRange}
@@ -46,5 +46,5 @@ callsOf (survivals cs) = cs
 callsOf (effects cs) = cs
 
 unfoldable pub resultOf : Case → List ℤ
-unfolding shownBy resultIn callsOf setBit clearBit sum sumZ all most betterOf best minZ listedFrom first run answerOf accepting loadRefusalOf loadRefusal barRefusal limitRefusal ratingRefusal exportRefusal loadedOf districtIn unitOf freshUnit answered loadOf barOf unbarOf setLimitOf setRatingOf exported exportOf showOf downShare costBy cost net margin ceilingAt priced pricedAll pricesAfter ceiling limitOf greatestOf requirementOf gainOf percentOf overallOf minimumOf pavementOf trafficOf environmentOf lengthOf widthOf barsOf barredIn ratingOf withLimit withBar withoutBar withRating freshDistrict readNumbers readRecord readRecords decode numberBytes recordsBytes encode numbersInRange recordsInRange inRange ranged fieldAt refusalOf altered districtFrom districtAfter lentTo outcomeOf unitFrom unitAfter isCandidate greater chosenBenefit total chosenUsage used holds within topCandidate start share chosenShare surplus pullBy pull pulls ratio lesserRatio weakest comesAfter nextCandidate stepDown step phase1 fitting offer offerBenefit vacant greaterOffer bestOffer pickedUp pickUp phase2 another counts single pair firstStrategy singlesOf firstSingle pairsWith pairsOf pairsFrom firstPair change phase3 reduced filled improved programmeOf noProgramme planOf gain survival improvement rating improvements effect area benefit usage scaledLimit reaches minimumReached yearsReached minimaReached firstRating overallReached permitted fitsLimit fitsAlone candidate usageBy withinLimit withinLimits benefitBy totalOf candidateBenefit usageIn limitIn tableOf
+unfolding shownBy resultIn callsOf setBit clearBit sum sumZ all most betterOf best minZ listedFrom first run answerOf accepting loadRefusalOf loadRefusal barRefusal limitRefusal ratingRefusal exportRefusal loadedOf districtIn unitOf freshUnit answered loadOf alterOf exported exportOf showOf downShare costBy cost net margin ceilingAt priced pricedAll pricesAfter ceiling limitOf greatestOf requirementOf gainOf percentOf overallOf minimumOf pavementOf trafficOf environmentOf lengthOf widthOf barsOf barredIn ratingOf withLimit withBar withoutBar withRating freshDistrict readNumbers readRecord readRecords decode numberBytes recordsBytes encode numbersInRange recordsInRange inRange ranged fieldAt refusalOf altered districtFrom districtAfter lentTo outcomeOf unitFrom unitAfter isCandidate greater chosenBenefit total chosenUsage used holds within topCandidate start share chosenShare surplus pullBy pull pulls ratio lesserRatio weakest comesAfter nextCandidate stepDown step phase1 fitting offer offerBenefit vacant greaterOffer bestOffer pickedUp pickUp phase2 another counts single pair firstStrategy singlesOf firstSingle pairsWith pairsOf pairsFrom firstPair change phase3 reduced filled improved programmeOf noProgramme planOf gain survival improvement rating improvements effect area benefit usage scaledLimit reaches minimumReached yearsReached minimaReached firstRating overallReached permitted fitsLimit fitsAlone candidate usageBy withinLimit withinLimits benefitBy totalOf candidateBenefit usageIn limitIn tableOf
 resultOf c = resultIn c (unitAfter (callsOf c))

@@ -7,6 +7,7 @@ ghost use Rattle.rules.specs.Demands.{Sound};
 ghost use Rattle.rules.specs.Lists.{outcomeOf, districtAfter, unitAfter};
 ghost use Rattle.script.specs.Script.{bodyIn, callOf, callsOf, replyOf, lastAnswer};
 use rules::Answer;
+use rules::Edit;
 use rules::Reply;
 use rules::Unit;
 
@@ -43,10 +44,10 @@ fn make(u: Unit, kind: u8, a: usize, b: usize, c: usize, bytes: &[u8]) -> Reply
 {
     match kind {
         1 => unit::load(u, bytes),
-        2 => unit::bar(u, a, b),
-        3 => unit::unbar(u, a, b),
-        4 => unit::set_limit(u, a, b),
-        5 => unit::set_rating(u, a, b, c),
+        2 => unit::alter(u, Edit::Bar(a, b)),
+        3 => unit::alter(u, Edit::Unbar(a, b)),
+        4 => unit::alter(u, Edit::SetLimit(a, b)),
+        5 => unit::alter(u, Edit::SetRating(a, b, c)),
         6 => Reply {
             answer: exported(u),
             unit: u,

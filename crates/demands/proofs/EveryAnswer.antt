@@ -1,5 +1,5 @@
 -- Demand 1: of a unit in any state, a call that meets no condition for a refusal gives a full result, and any other gives the first condition's
--- number and changes nothing. Assumes nothing.
+-- number and changes nothing.
 use Prim.Native.Nat.{ℕ, zero, suc}
 use mathlib.Core.List.{List, []}
 use mathlib.Core.Path.{_≡_, refl}
@@ -10,8 +10,8 @@ use mathlib.Core.Bool.{Bool, true, false, _&&_}
 use Rattle.base.specs.Over.{between}
 use Rattle.rules.specs.District.{District}
 use Rattle.rules.specs.Answers.{unless, answerOf, accepting}
-use Rattle.rules.specs.Calls.{unitOf, answered, loadOf, barOf, unbarOf, setLimitOf, setRatingOf, exported, exportOf}
-use Rattle.rules.specs.Lists.{Load, Bar, Unbar, SetLimit, SetRating, ExportTo, Show, refusalOf, altered, Outcome, outcomeOf, lentTo, replied, written}
+use Rattle.rules.specs.Calls.{unitOf, answered, loadOf, alterOf, exported, exportOf}
+use Rattle.rules.specs.Lists.{Load, Alter, ExportTo, Show, refusalOf, altered, Outcome, outcomeOf, lentTo, replied, written}
 use Rattle.rules.specs.Demands.{returned, EveryAnswer, EveryPoints}
 use Rattle.rules.specs.Survey.{blockOf, pointsOf, surveyRefusal, surveyOf}
 use Rattle.rules.specs.declared.Unit.{Unit}
@@ -53,26 +53,21 @@ module _ (u : Unit) (bytes : List ℕ) where
   export-refused zero file m e = absurd (omega arith)
   export-refused (suc n) file m e = rw e
 
-pub settled : EveryAnswer
-unfolding refusalOf altered outcomeOf lentTo returned loadOf barOf unbarOf setLimitOf setRatingOf exportOf
-settled u (Load file) =
+pub every-answer : EveryAnswer
+unfolding refusalOf altered outcomeOf lentTo returned loadOf alterOf exportOf
+every-answer u (Load file) =
     record { accepted = reply-accepted u file _ _; held = reply-held u file _ _; refused = reply-refused u file _ _ }
-settled u (Bar i j) = record { accepted = reply-accepted u [] _ _; held = reply-held u [] _ _; refused = reply-refused u [] _ _ }
-settled u (Unbar i j) =
+every-answer u (Alter e) =
     record { accepted = reply-accepted u [] _ _; held = reply-held u [] _ _; refused = reply-refused u [] _ _ }
-settled u (SetLimit r limit) =
-    record { accepted = reply-accepted u [] _ _; held = reply-held u [] _ _; refused = reply-refused u [] _ _ }
-settled u (SetRating i k rating) =
-    record { accepted = reply-accepted u [] _ _; held = reply-held u [] _ _; refused = reply-refused u [] _ _ }
-settled u (ExportTo buffer) =
+every-answer u (ExportTo buffer) =
     record { accepted = export-accepted u buffer _ _; held = λ e. refl; refused = export-refused u buffer _ _ }
-settled u Show = record { accepted = λ e. refl; held = λ e. refl; refused = λ n e. absurd (omega arith) }
+every-answer u Show = record { accepted = λ e. refl; held = λ e. refl; refused = λ n e. absurd (omega arith) }
 
 -- survey points
 
-pub points-settled : EveryPoints
+pub every-points : EveryPoints
 unfolding surveyOf surveyRefusal answerOf
-points-settled code degree extent seal =
+every-points code degree extent seal =
     record {
       accepted = λ e. accepted-answer (surveyRefusal code degree extent seal) _ e;
       refused = λ some. go (leb 1 (blockOf code seal) && (leb degree 3 && between 1 3 extent)) refl some;
