@@ -25,6 +25,7 @@ use Rattle.command.specs.declared.Takes.the-variants.{Numbers, Path}
 
 -- ---- bytes
 
+-- the same bytes, as many of them
 unfoldable pub same : List ℕ → List ℕ → Bool
 same [] [] = true
 same [] (b ∷ bs) = false
@@ -103,10 +104,11 @@ isPath path = between 1 255 (length path) && every Named path
 
 -- ---- commands
 
--- a word of at most 8 letters, with blanks up to 8 behind it; the command that it names; and what stands behind it
+-- a row of the table: a word, with blanks behind it up to 8 bytes; what it names; and what it takes, which stands behind it
 unfoldable pub row : String → Name → Takes → Row
 row word name takes = record { 0 = take 8 (text word ++ replicate 8 32); 1 = name; 2 = takes }
 
+-- every word that there is
 unfoldable pub rows : List Row
 rows =
     row "load" Name.Load Path
@@ -130,22 +132,23 @@ made Name.Rating v = Command.Alter (SetRating (v 0) (v 1) (v 2))
 made Name.Show v = Command.Show
 made Name.Points v = Command.Points (v 0) (v 1) (v 2) (v 3)
 
--- what stands behind the first word, where it is what is asked for; a path has no numbers
+-- the numbers that stand behind the first word, where what stands there is what the word takes; a path has none
 unfoldable pub taken : Takes → List ℕ → Option (ℕ → ℕ)
 taken (Numbers n) line = placed (arguments n (restOf line))
 taken Path line = only (isPath (pathOf line)) (at [])
 
+-- a word without what it takes is no command
 unfoldable pub meant : Name → Option (ℕ → ℕ) → Command
 meant name none = Command.Unknown
 meant name (some v) = made name v
 
--- by the first row whose word is the line's first
+-- by the row whose word is the line's first
 unfoldable pub called : List Row → List ℕ → Command
 called [] line = Command.Unknown
 called (r ∷ rs) line =
     pick (same (wordOf line) (wordOf (r .0))) (meant (r .1) (taken (r .2) line)) (called rs line)
 
--- "#" is 35
+-- it begins with "#"
 unfoldable pub isComment : List ℕ → Bool
 isComment line = eqb (at line 0) 35
 
@@ -165,7 +168,7 @@ numberOf Not = none
 unfoldable pub numbersOf : Arguments → Option (ℕ → ℕ)
 numbersOf a = only (a .fit) (at (a .numbers))
 
--- how many numbers are asked for
+-- how many numbers a word takes
 abbrev pub countOf : Takes → ℕ
 countOf (Numbers n) = n
 countOf Path = 0

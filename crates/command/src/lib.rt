@@ -10,7 +10,7 @@ pub enum Command {
     // A line to pass over, and one that is no command.
     Nothing,
     Unknown,
-    // The path is what `path` finds in the line.
+    // The path is what `path` finds in its line.
     Load,
     Export,
     Alter(Edit),
@@ -29,13 +29,13 @@ pub enum Name {
     Points,
 }
 
-// What stands behind a word: so many numbers, or a path.
+// What a word takes: so many numbers, or a path.
 pub enum Takes {
     Numbers(usize),
     Path,
 }
 
-// A word, with blanks behind it, what it names, and what it takes.
+// A word, with blanks behind it up to 8 bytes; what it names; and what it takes.
 pub struct Row(pub [u8; 8], pub Name, pub Takes);
 
 const WORDS: usize = 8;
@@ -61,7 +61,7 @@ pub enum Number {
     Not,
 }
 
-// The numbers, where what was read is as many as were asked for; 0 behind them.
+// The numbers, where there are as many as the word takes; 0 behind them.
 pub struct Arguments {
     pub fit: bool,
     pub numbers: [usize; 4],
@@ -283,7 +283,7 @@ fn make(name: Name, numbers: [usize; 4]) -> Command
     }
 }
 
-// What stands behind the first word.
+// The numbers behind the first word; a path has none.
 fn take(takes: Takes, line: &[u8]) -> Arguments
     requires { ⌜ countOf takes ≤ 4 ⌝ }
     ensures { λ r. ⌜ numbersOf r ≡ taken takes (now (line .entry)) ⌝ }
@@ -297,6 +297,7 @@ fn take(takes: Takes, line: &[u8]) -> Arguments
     }
 }
 
+// A word without what it takes is no command.
 fn mean(name: Name, a: Arguments) -> Command
     ensures { λ r. ⌜ r ≡ meant name (numbersOf a) ⌝ }
 {
@@ -308,6 +309,7 @@ fn mean(name: Name, a: Arguments) -> Command
     }
 }
 
+// By the row whose word is the line's first.
 fn called(line: &[u8]) -> Command
     ensures { λ r. ⌜ r ≡ Reading·called rows (now (line .entry)) ⌝ }
 {

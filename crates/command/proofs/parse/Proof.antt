@@ -34,4 +34,13 @@ unfolding commandIn
 returns-4 c = rw (told (c .before .before .before .before), short (c .before .before .before), sym (c .before .before .every .ensures) ∙ c .before .if3 .left) (c .called .ensures)
 
 pub parse-spec : {M : Type 1} → statement M
-parse-spec = tie.close (tie.spec (λ c κs. search needs) returns returns-2 (λ c κs. search needs) returns-3 (λ c κs. search needs) returns-4)
+parse-spec =
+    tie.close
+    (tie.spec
+    (λ c κs. search needs)
+    returns
+    returns-2
+    (λ c κs. search needs)
+    returns-3
+    (λ c κs. search needs)
+    returns-4)

@@ -29,4 +29,16 @@ returns-2 c =
     whole-tail line (n + 1) ∙ path-drop line n (c .before .before .word-length .ensures)
 
 pub path-spec : {M : Type 1} → statement M
-path-spec = tie.close (tie.spec (λ c κs. search needs) within part-result-start (λ c. search needs) returns (λ c. search needs) (λ c. search needs) (λ c. search needs) (λ c. search needs) returns-2)
+path-spec =
+    tie.close
+    (tie.spec
+    (λ c κs. search needs)
+    within
+    part-result-start
+    (λ c. search needs)
+    returns
+    (λ c. search needs)
+    (λ c. search needs)
+    (λ c. search needs)
+    (λ c. search needs)
+    returns-2)

@@ -17,4 +17,12 @@ returns c =
     rw (a, b) at (c .same .ensures)
 
 pub same-word-spec : {M : Type 1} → statement M
-same-word-spec = tie.close (tie.spec (λ c κs. search needs) (λ c κs. search needs) slice-aggregate-same slice-aggregate-same-2 (λ c κs. search needs) returns)
+same-word-spec =
+    tie.close
+    (tie.spec
+    (λ c κs. search needs)
+    (λ c κs. search needs)
+    slice-aggregate-same
+    slice-aggregate-same-2
+    (λ c κs. search needs)
+    returns)

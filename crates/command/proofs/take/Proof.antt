@@ -23,4 +23,14 @@ unfolding numbersOf taken
 returns-2 c = rw (c .before .before .enum-told .given .1, c .is-path .ensures ∙ ap isPath (c .before .path .ensures), at-front 0 _ (blank-all 4))
 
 pub take-spec : {M : Type 1} → statement M
-take-spec = tie.close (tie.spec (λ c. search needs) (λ c κs. search needs) read-arguments-requires (λ c. search needs) (λ c κs. search needs) (λ c κs. search needs) returns returns-2)
+take-spec =
+    tie.close
+    (tie.spec
+    (λ c. search needs)
+    (λ c κs. search needs)
+    read-arguments-requires
+    (λ c. search needs)
+    (λ c κs. search needs)
+    (λ c κs. search needs)
+    returns
+    returns-2)
