@@ -44,10 +44,7 @@ fn obey(u: Unit, command: Command, out: &mut [u8]) -> Said
     ensures { λ r. ⌜ Says (after u command) (said u command) (now (out .entry)) (now (out .exit)) r ⌝ }
 {
     match command {
-        Command::Bar(i, j) => conclude(unit::bar(u, i, j), out),
-        Command::Unbar(i, j) => conclude(unit::unbar(u, i, j), out),
-        Command::Limit(r, v) => conclude(unit::set_limit(u, r, v), out),
-        Command::Rating(i, k, v) => conclude(unit::set_rating(u, i, k, v), out),
+        Command::Alter(e) => conclude(unit::alter(u, e), out),
         Command::Show => Said {
             unit: u,
             length: listing::put_shown(out, u),
@@ -121,8 +118,8 @@ fn respond(u: Unit, line: &[u8], out: &mut [u8]) -> Said
 {
     let command = command::parse(line);
     match command {
-        Command::Load => load(u, &line[5..], out),
-        Command::Export => export(u, &line[7..], out),
+        Command::Load => load(u, command::path(line), out),
+        Command::Export => export(u, command::path(line), out),
         _ => obey(u, command, out),
     }
 }
