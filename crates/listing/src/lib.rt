@@ -2,8 +2,8 @@
 // says how many bytes it wrote.
 ghost use mathlib.Core.Path.{_≡_};
 ghost use Prim.Native.Nat.{_+_, _≤_, min};
-ghost use lib.ListN.{length};
-ghost use Rattle.base.specs.Text.{decimal, Put};
+ghost use lib.ListN.{length, take};
+ghost use Rattle.base.specs.Text.{decimal, Writes, Put};
 ghost use Rattle.listing.specs.Listing.{named, line, segmentLine, segmentLines, stepsLine, results, listing, shown, refusal, done, planned, valued, failed};
 use rules::Answer;
 use rules::Programme;
@@ -25,6 +25,7 @@ pub fn put(out: &mut [u8], bytes: &[u8]) -> usize
 fn put_number(out: &mut [u8], value: usize) -> usize
     requires { ⌜ length (decimal value) ≤ length (now out) ⌝ }
     ensures { λ r. ⌜ Put (decimal value) (now (out .entry)) (now (out .exit)) r ⌝ }
+    ensures { λ r. ⌜ Writes (take r (now (out .exit))) value ⌝ }
 {
     if value < 10 {
         out[0] = 48 + value as u8;
