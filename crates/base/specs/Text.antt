@@ -20,9 +20,12 @@ unfoldable pub digitsOf : ℕ → ℕ → List ℕ
 digitsOf zero n = []
 digitsOf (suc k) n = pick (ltb n 10) ((48 + n) ∷ []) (digitsOf k (n / 10) ++ ((48 + n % 10) ∷ []))
 
--- a number of 64 bits has at most 20
+-- of a number of 64 bits
+abbrev pub mostDigits : ℕ
+mostDigits = 20
+
 unfoldable pub decimal : ℕ → List ℕ
-decimal n = digitsOf 20 n
+decimal n = digitsOf mostDigits n
 
 -- what digits stand for, read from the first to the last, after v; nothing for another byte
 unfoldable pub valueFrom : ℕ → List ℕ → Option ℕ
