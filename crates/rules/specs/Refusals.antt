@@ -6,7 +6,7 @@ use lib.ListN.{length, take, set, replicate}
 use lib.IntN.{ℤ, pos}
 use Rattle.rules.specs.File.{encode}
 use Rattle.rules.specs.Calls.{barRefusal, limitRefusal, ratingRefusal, exportRefusal, loadRefusal, districtIn, exportOf}
-use Rattle.rules.specs.Survey.{deductPoints, blockOf, pointsOf, surveyRefusal, surveyOf}
+use Rattle.rules.specs.Survey.{surveyOf}
 use Rattle.rules.specs.Lists.{Load, Bar, Unbar, SetLimit, SetRating, ExportTo, Show, unitAfter}
 use Rattle.rules.specs.Results.{Case, shown, resultOf}
 use Rattle.rules.specs.Marked.{card}
@@ -84,7 +84,7 @@ surveys =
 pub points :
     surveys
     ≡ Accepted 7 ∷ Accepted 15 ∷ Accepted 15 ∷ Accepted 0 ∷ Refused 10 ∷ Refused 10 ∷ Refused 10 ∷ Refused 10 ∷ Refused 10 ∷ Refused 10 ∷ Refused 10 ∷ Refused 10 ∷ []
-unfolding surveys deductPoints blockOf pointsOf surveyRefusal surveyOf resultOf
+unfolding surveys resultOf
 points = refl
 
 -- ---- lists of calls, refused ones among them
