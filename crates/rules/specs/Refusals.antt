@@ -47,12 +47,12 @@ files =
     ∷ []
 
 pub loads : map loadRefusal files ≡ 0 ∷ 1 ∷ 1 ∷ 2 ∷ 2 ∷ 3 ∷ 1 ∷ 4 ∷ 4 ∷ 4 ∷ 0 ∷ 4 ∷ 4 ∷ 4 ∷ 0 ∷ 4 ∷ 4 ∷ 5 ∷ []
-unfolding files card resultOf
+unfolding files resultOf
 loads = refl
 
 -- the card's file, loaded and exported
 pub given-back : encode (districtIn card) ≡ card
-unfolding card resultOf
+unfolding resultOf
 given-back = refl
 
 -- segment 3 and 0, strategy 3; resource 2, limit 1,000,000,000; segment 3, distress 2, rating 21; a buffer of 86 bytes
@@ -74,7 +74,7 @@ callRefusals d =
     ∷ []
 
 pub calls : callRefusals (districtIn card) ≡ 6 ∷ 6 ∷ 7 ∷ 0 ∷ 7 ∷ 8 ∷ 0 ∷ 6 ∷ 7 ∷ 8 ∷ 0 ∷ 9 ∷ 0 ∷ []
-unfolding callRefusals card resultOf
+unfolding callRefusals resultOf
 calls = refl
 
 unfoldable pub surveys : List Answer
@@ -111,16 +111,16 @@ listResults =
     ∷ []
 
 pub in-a-row : map resultOf lists ≡ listResults
-unfolding lists listResults card resultOf
+unfolding lists listResults resultOf
 in-a-row = refl
 
 -- three bytes are left over, and keep what they held
 pub buffer : exportOf (unitAfter (Load card ∷ [])) (replicate 90 255) ≡ record { answer = Accepted 87; buffer = card ++ 255 ∷ 255 ∷ 255 ∷ [] }
-unfolding card resultOf
+unfolding resultOf
 buffer = refl
 
 pub short : exportOf (unitAfter (Load card ∷ [])) (replicate 86 255) ≡ record { answer = Refused 9; buffer = replicate 86 255 }
-unfolding card resultOf
+unfolding resultOf
 short = refl
 
 -- the file of the greatest counts; that none is longer is file/specs/Trips

@@ -1,6 +1,7 @@
--- What a case comes to: numbers that a theorem can compute. A theorem that unfolds `resultOf` unfolds all the rules
--- with it: those that its `unfolding` names, file by file.
+-- A case and what it comes to: numbers that a theorem can compute. A theorem that unfolds `resultOf` unfolds all the rules with it, those
+-- that its `unfolding` names, file by file.
 use Prim.Native.Nat.{ℕ}
+use mathlib.Core.Path.{_≡_}
 use mathlib.Core.List.{List, [], _∷_, _++_, map}
 use lib.ListN.{take}
 use lib.IntN.{ℤ, pos}
@@ -21,7 +22,9 @@ use Rattle.rules.specs.Answers
 use Rattle.rules.specs.Calls
 use Rattle.rules.specs.Survey
 use Rattle.rules.specs.Lists
+use Rattle.rules.specs.Writer
 
+infix 70 _⇒_
 -- after the calls: what is shown, or what segment 1 comes to under strategy 1 for distress 1
 pub data Case : Type 0 where
   shown : List Lists.Call → Case
@@ -29,11 +32,18 @@ pub data Case : Type 0 where
   survivals : List Lists.Call → Case
   effects : List Lists.Call → Case
 
--- a strategy for each segment; total, total after phase 2, ceiling; steps, pick-ups, changes
+-- the district that is loaded, shown
+abbrev pub planned : Writer.Roads → Case
+planned d = shown (Lists.Load (Writer.fileOf d) ∷ [])
+
+-- what is shown: a strategy for each segment; total, total after phase 2, ceiling; steps, pick-ups, changes
+abbrev pub shows : List ℕ → ℕ → ℕ → ℕ → ℕ → ℕ → ℕ → List ℤ
+shows strategies total afterPickUps ceiling steps pickUps changes =
+    map (λ x. pos x) (strategies ++ (total ∷ afterPickUps ∷ ceiling ∷ steps ∷ pickUps ∷ changes ∷ []))
+
 unfoldable pub shownBy : ℕ → Programme → List ℤ
 shownBy n p =
-    map (λ x. pos x)
-    (take n (p .strategies) ++ (p .total ∷ p .«after_pickups» ∷ p .ceiling ∷ p .steps ∷ p .pickups ∷ p .changes ∷ []))
+    shows (take n (p .strategies)) (p .total) (p .«after_pickups») (p .ceiling) (p .steps) (p .pickups) (p .changes)
 
 unfoldable pub resultIn : Case → Unit → List ℤ
 resultIn (shown cs) u = shownBy (District.segmentsOf (u .district)) (Calls.showOf u)
@@ -50,6 +60,7 @@ callsOf (effects cs) = cs
 unfoldable pub resultOf : Case → List ℤ
 unfolding
     shownBy resultIn callsOf
+    Writer.fileOf
     Bits.setBit Bits.clearBit
     Over.sum Over.sumZ Over.all Over.most Over.betterOf Over.best Over.minZ Over.listedFrom
     Search.first Search.run
@@ -80,3 +91,17 @@ unfolding
     Survey.deductPoints Survey.blockOf Survey.pointsOf Survey.surveyRefusal Survey.surveyOf
     Lists.refusalOf Lists.altered Lists.districtFrom Lists.districtAfter Lists.lentTo Lists.outcomeOf Lists.unitFrom Lists.unitAfter
 resultOf c = resultIn c (Lists.unitAfter (callsOf c))
+
+-- a case, and what it comes to as worked elsewhere
+pub data WorkedCase : Type 0 where
+  _⇒_ : Case → List ℤ → WorkedCase
+
+abbrev pub computed : WorkedCase → List ℤ
+computed (c ⇒ r) = resultOf c
+
+abbrev pub expected : WorkedCase → List ℤ
+expected (c ⇒ r) = r
+
+-- each case comes to what stands beside it
+abbrev pub Agree : List WorkedCase → Type 0
+Agree cases = map computed cases ≡ map expected cases

@@ -37,5 +37,5 @@ pub ranges :
     ∷ 0 ∷ 4 ∷ 0 ∷ 4 ∷ 0 ∷ 4 ∷ 0 ∷ 4 ∷ 0 ∷ 4 ∷ 0 ∷ 4
     ∷ 4 ∷ 4 ∷ 4 ∷ 0 ∷ 4 ∷ 4 ∷ 0 ∷ 4 ∷ 4 ∷ 0 ∷ 4 ∷ 4 ∷ 0 ∷ 4 ∷ 4 ∷ 0
     ∷ 3 ∷ 2 ∷ 3 ∷ 1 ∷ 1 ∷ 4 ∷ 4 ∷ []
-unfolding ends card resultOf
+unfolding ends resultOf
 ranges = refl
