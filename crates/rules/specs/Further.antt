@@ -162,6 +162,78 @@ twicePicked =
           ∷ [];
     }
 
+-- ratios of 3.6 and 3, rounded down: a tie
+abbrev pub roundedRatios : Roads
+roundedRatios =
+    record {
+      years = 1;
+      limits = 1 ∷ [];
+      greatest = 50 ∷ [];
+      strategies =
+          strategy (60000 ∷ []) (pos 1) 65
+          ∷ strategy (70000 ∷ []) (pos 1) 63
+          ∷ [];
+      pavements = nothingDemanded ∷ [];
+      segments =
+          barring (2 ∷ []) (segment 1 1 [])
+          ∷ barring (1 ∷ []) (segment 1 1 [])
+          ∷ [];
+    }
+
+-- a surplus of shares that are rounded up one by one: that of the exact use leads to another programme
+abbrev pub roundedShares : Roads
+roundedShares =
+    record {
+      years = 1;
+      limits = 6 ∷ [];
+      greatest = 50 ∷ [];
+      strategies = strategy (73000 ∷ []) (pos 18) 100 ∷ [];
+      pavements = nothingDemanded ∷ [];
+      segments =
+          segment 3 1 []
+          ∷ segment 7 1 []
+          ∷ segment 2 1 []
+          ∷ [];
+    }
+
+-- single changes by segment, and only then by strategy: the other order leads to another programme
+abbrev pub singleChanges : Roads
+singleChanges =
+    record {
+      years = 1;
+      limits = 5 ∷ [];
+      greatest = 50 ∷ [];
+      strategies =
+          strategy (40000 ∷ []) (pos 13) 100
+          ∷ strategy (100000 ∷ []) (pos 27) 100
+          ∷ strategy (70000 ∷ []) (pos 19) 100
+          ∷ [];
+      pavements = nothingDemanded ∷ [];
+      segments =
+          barring (2 ∷ []) (segment 9 1 [])
+          ∷ segment 5 1 []
+          ∷ segment 3 1 []
+          ∷ [];
+    }
+
+-- a price stays where a lower one gives an equal ceiling
+abbrev pub equalCeilings : Roads
+equalCeilings =
+    record {
+      years = 1;
+      limits = 9 ∷ 6 ∷ [];
+      greatest = 50 ∷ [];
+      strategies =
+          strategy (0 ∷ 200000 ∷ []) (pos 20) 100
+          ∷ strategy (100000 ∷ 50000 ∷ []) (pos 30) 100
+          ∷ [];
+      pavements = nothingDemanded ∷ [];
+      segments =
+          segment 9 1 []
+          ∷ segment 2 1 []
+          ∷ [];
+    }
+
 abbrev pub furtherCases : List WorkedCase
 furtherCases =
     -- M9 with a second year
@@ -176,6 +248,10 @@ furtherCases =
     ∷ planned surpluses ⇒ shows (3 ∷ 0 ∷ []) 2_595_000 682_000 2_931_548 3 0 2
     ∷ planned exactMinimum ⇒ shows (0 ∷ 0 ∷ 1 ∷ []) 32_940_000 28_620_000 45_092_745 1 0 1
     ∷ planned twicePicked ⇒ shows (0 ∷ 1 ∷ 1 ∷ 1 ∷ []) 21_000_000 21_000_000 21_005_600 3 2 0
+    ∷ planned roundedRatios ⇒ shows (1 ∷ 0 ∷ []) 65 63 128 1 0 1
+    ∷ planned roundedShares ⇒ shows (1 ∷ 0 ∷ 1 ∷ []) 9_000 9_000 17_001 2 1 0
+    ∷ planned singleChanges ⇒ shows (1 ∷ 0 ∷ 1 ∷ []) 15_600 10_400 20_000 5 0 2
+    ∷ planned equalCeilings ⇒ shows (2 ∷ 0 ∷ []) 27_000 6_000 30_000 1 0 1
     ∷ []
 
 pub further : Agree furtherCases
