@@ -7,7 +7,7 @@ use mathlib.Core.List.{List, [], _∷_}
 use lib.IntN.{pos, negsuc}
 use Rattle.rules.specs.Lists.{Load, SetRating}
 use Rattle.rules.specs.Writer.{Roads, strategy, nothingDemanded, segment, barring, fileOf}
-use Rattle.rules.specs.Results.{shown, effects, planned, shows, resultOf, WorkedCase, _⇒_, Agree}
+use Rattle.rules.specs.Results.{shown, initialRating, effects, planned, shows, resultOf, WorkedCase, _⇒_, Agree}
 use Rattle.rules.specs.Marked.{card, oneSegment}
 
 -- steps, a pick-up and changes, with a strategy barred
@@ -238,6 +238,8 @@ abbrev pub furtherCases : List WorkedCase
 furtherCases =
     -- M9 with a second year
     effects (Load (fileOf (oneSegment 101 (pos 1) (90 ∷ 90 ∷ []))) ∷ []) ⇒ (pos 179 ∷ [])
+    -- rating 5 and gain 15 in year 0, whatever the indexes and percents
+    ∷ initialRating (Load (fileOf (oneSegment 1_000 (pos 15) (0 ∷ []))) ∷ []) ⇒ (pos 20_000_000 ∷ [])
     -- segment 2 has the greater benefit and the smaller ratio
     ∷ shown (Load card ∷ SetRating 2 1 9 ∷ []) ⇒ shows (2 ∷ 1 ∷ []) 7_200_000 7_200_000 8_940_986 1 0 0
     ∷ planned fourSegments ⇒ shows (1 ∷ 2 ∷ 0 ∷ 1 ∷ []) 72_366_927 38_408_400 96_383_157 3 1 2

@@ -25,9 +25,11 @@ use Rattle.rules.specs.Lists
 use Rattle.rules.specs.Writer
 
 infix 70 _⇒_
--- after the calls: what is shown, or what segment 1 comes to under strategy 1 for distress 1
+-- after the calls: what is shown, or what segment 1 comes to under strategy 1 for distress 1: its rating in year 0; ratings, and survivals, in
+-- years 1 to T; the effect
 pub data Case : Type 0 where
   shown : List Lists.Call → Case
+  initialRating : List Lists.Call → Case
   ratings : List Lists.Call → Case
   survivals : List Lists.Call → Case
   effects : List Lists.Call → Case
@@ -47,12 +49,14 @@ shownBy n p =
 
 unfoldable pub resultIn : Case → Unit → List ℤ
 resultIn (shown cs) u = shownBy (District.segmentsOf (u .district)) (Calls.showOf u)
+resultIn (initialRating cs) u = Rating.rating (u .district) 1 1 1 0 ∷ []
 resultIn (ratings cs) u = Over.listed (District.yearsOf (u .district)) (Rating.rating (u .district) 1 1 1)
 resultIn (survivals cs) u = Over.listed (District.yearsOf (u .district)) (λ t. pos (Rating.survival (u .district) 1 1 1 t))
 resultIn (effects cs) u = Rating.effect (u .district) 1 1 ∷ []
 
 unfoldable pub callsOf : Case → List Lists.Call
 callsOf (shown cs) = cs
+callsOf (initialRating cs) = cs
 callsOf (ratings cs) = cs
 callsOf (survivals cs) = cs
 callsOf (effects cs) = cs

@@ -2,7 +2,7 @@
 use Prim.Native.Nat.{ℕ}
 use mathlib.Core.Path.{_≡_, refl}
 use mathlib.Core.List.{List, [], _∷_, _++_, map}
-use lib.ListN.{length, replicate}
+use lib.ListN.{replicate}
 use Rattle.base.specs.Over.{listed}
 use Rattle.rules.specs.Survey.{surveyOf}
 use Rattle.rules.specs.Results.{resultOf}
@@ -51,10 +51,6 @@ answers b = extents b 0 ++ extents b 1 ++ extents b 2 ++ extents b 3
 abbrev pub printed : Block → List Answer
 printed b = map (λ x. Accepted x) (0 ∷ 0 ∷ 0 ∷ b .entries)
 
-pub table : map answers blocks ≡ map printed blocks
-unfolding resultOf
-table = refl
-
 -- code, degree, extent and seal
 abbrev pub unprinted : List Answer
 unprinted =
@@ -73,6 +69,6 @@ unprinted =
     ∷ surveyOf 257 1 1 0 ∷ surveyOf 1 257 1 0 ∷ surveyOf 1 1 257 0 ∷ surveyOf 7 1 1 257
     ∷ []
 
-pub no-entry : unprinted ≡ replicate 40 (Refused 10)
+pub points : unprinted ∷ map answers blocks ≡ replicate 40 (Refused 10) ∷ map printed blocks
 unfolding resultOf
-no-entry = refl
+points = refl
