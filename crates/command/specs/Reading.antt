@@ -152,10 +152,14 @@ called (r ∷ rs) line =
 unfoldable pub isComment : List ℕ → Bool
 isComment line = eqb (at line 0) 35
 
+-- a longer line is no command
+abbrev pub longestLine : ℕ
+longestLine = 512
+
 unfoldable pub commandIn : List ℕ → Command
 commandIn line =
     pick (isComment line) Command.Nothing
-    (pick (ltb 512 (length line)) Command.Unknown
+    (pick (ltb longestLine (length line)) Command.Unknown
     (pick (every Space line) Command.Nothing
     (called rows line)))
 

@@ -6,6 +6,9 @@ ghost use lib.ListN.{length, drop};
 ghost use Rattle.command.specs.Reading.{same as Reading·same, every as Reading·every, isSpace, isOf, wordOf, numberIn, firstNumber, afterNumber, arguments, at, placed, pathOf, isPath, rows, made, taken, meant, called as Reading·called, isComment, commandIn, numberOf, numbersOf, countOf};
 use rules::Edit;
 
+// A longer line is no command, unless it is to be passed over.
+pub const LONGEST_LINE: usize = 512;
+
 pub enum Command {
     // A line to pass over, and one that is no command.
     Nothing,
@@ -342,7 +345,7 @@ pub fn parse(line: &[u8]) -> Command
     if is_comment(line) {
         return Command::Nothing;
     }
-    if 512 < line.len() {
+    if LONGEST_LINE < line.len() {
         return Command::Unknown;
     }
     if every(Kind::Space, line) {

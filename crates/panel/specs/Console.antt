@@ -5,6 +5,7 @@ use mathlib.Core.Path.{_≡_}
 use lib.ListN.{length}
 use Rattle.base.specs.Text.{text, Put}
 use Rattle.rules.specs.Calls.{loadOf, alterOf, exportOf}
+use Rattle.rules.specs.File.{longestFile}
 use Rattle.rules.specs.Survey.{surveyOf}
 use Rattle.rules.specs.declared.Unit.{Unit}
 use Rattle.command.specs.Reading.{pathOf, commandIn}
@@ -46,9 +47,9 @@ pub data Loads (u : Unit) (path : List ℕ) : Unit → List ℕ → Type 0 where
   unopened : Loads u path u (failed (text "cannot open ") path)
   unread : Loads u path u (failed (text "cannot read ") path)
 
--- an export leaves the unit as it is; every file of a district has room in 4,096 bytes
+-- an export leaves the unit as it is; every file of a district has room in the longest
 pub data Exports (u : Unit) (path : List ℕ) : Unit → List ℕ → Type 0 where
-  written : (buffer : List ℕ) → length buffer ≡ 4096 → Exports u path u (valued (text "ok ") (exportOf u buffer .answer))
+  written : (buffer : List ℕ) → length buffer ≡ longestFile → Exports u path u (valued (text "ok ") (exportOf u buffer .answer))
   unwritten : Exports u path u (failed (text "cannot write ") path)
 
 -- ---- lines

@@ -1,9 +1,10 @@
 // Reading a file and putting another in its place.
-ghost use Prim.Native.Nat.{_≤_};
+ghost use Prim.Native.Nat.{_+_, _≤_};
 ghost use mathlib.Core.List.{_++_};
 ghost use lib.ListN.{length};
 ghost use Rattle.base.specs.Text.{text, Put};
 ghost use Rattle.io.specs.Counts.{Counts};
+ghost use Rattle.panel.specs.Lines.{keptBytes};
 
 pub struct Got {
     pub failed: bool,
@@ -52,7 +53,7 @@ pub fn read_all(fd: i32, file: &mut [u8]) -> Got
 
 // The name of the new file beside the path. What stands for the X's is found when the file is made.
 fn new_name(path: &[u8], name: &mut [u8]) -> usize
-    requires { ⌜ (length (now path) ≤ 513) × (520 ≤ length (now name)) ⌝ }
+    requires { ⌜ (length (now path) ≤ keptBytes) × (keptBytes + 7 ≤ length (now name)) ⌝ }
     ensures { λ r. ⌜ Counts r (now (name .exit)) ⌝ }
     ensures { λ r. ⌜ Put (now (path .entry) ++ text ".XXXXXX") (now (name .entry)) (now (name .exit)) r ⌝ }
 {
@@ -99,7 +100,7 @@ fn replace(path: &[u8], name: &mut [u8], bytes: &[u8]) -> bool {
 // Puts the bytes in the place of the file at the path. The old file stays as it was until all of the new one is on the
 // disk, and for good where that fails.
 pub fn save(path: &[u8], bytes: &[u8]) -> bool
-    requires { ⌜ length (now path) ≤ 513 ⌝ }
+    requires { ⌜ length (now path) ≤ keptBytes ⌝ }
 {
     let mut name = io::buffer();
     let n = new_name(path, &mut name);
