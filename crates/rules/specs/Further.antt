@@ -1,13 +1,14 @@
 -- Further districts, worked out by an independent program (reference/) and computed from these rules.
 -- Two of the plausible mistakes pass M1 to M9: the effect divided term by term (each effect there has one term or divides evenly), and the
 -- smallest benefit dropped instead of the smallest ratio. And the marked cases have no pick-up, no change, no requirement that a strategy
--- misses, no second distress type and no second limit that does not hold. These districts have them.
+-- misses, no second distress type and no second limit that does not hold. These districts have them. The last four tell apart readings that
+-- come to the same everywhere else: how a ratio is rounded, what a surplus is taken from, how single changes are ordered, when a price stays.
 use mathlib.Core.Path.{refl}
 use mathlib.Core.List.{List, [], _∷_}
-use lib.IntN.{pos, negsuc}
+use lib.IntN.{pos}
 use Rattle.rules.specs.Lists.{Load, Alter}
 use Rattle.rules.specs.declared.Edit.the-variants.{SetRating}
-use Rattle.rules.specs.Writer.{Roads, strategy, nothingDemanded, segment, barring, fileOf}
+use Rattle.rules.specs.Writer.{Roads, minus, strategy, nothingDemanded, segment, barring, fileOf}
 use Rattle.rules.specs.Results.{shown, initialRating, effects, planned, shows, resultOf, WorkedCase, _⇒_, Agree}
 use Rattle.rules.specs.Marked.{card, oneSegment}
 
@@ -136,7 +137,7 @@ exactMinimum =
       greatest = 30 ∷ 30 ∷ [];
       strategies =
           record { requirements = 1000 ∷ []; gains = pos 20 ∷ pos 5 ∷ []; percents = (100 ∷ 90 ∷ []) ∷ (100 ∷ 100 ∷ []) ∷ [] }
-          ∷ record { requirements = 1500 ∷ []; gains = negsuc 6 ∷ pos 15 ∷ []; percents = (100 ∷ 90 ∷ []) ∷ (100 ∷ 100 ∷ []) ∷ [] }
+          ∷ record { requirements = 1500 ∷ []; gains = minus 7 ∷ pos 15 ∷ []; percents = (100 ∷ 90 ∷ []) ∷ (100 ∷ 100 ∷ []) ∷ [] }
           ∷ [];
       pavements = record { overall = 0; minima = (0 ∷ 4 ∷ []) ∷ (19 ∷ 0 ∷ []) ∷ [] } ∷ [];
       segments =

@@ -1,6 +1,6 @@
 -- A district by names, and its file byte for byte by document 01, "The district and its file". The computed cases are written so.
 -- It does not go by Format and File, which are what the cases try.
-use Prim.Native.Nat.{ℕ, _+_, _-_, _/_, _%_, _^_}
+use Prim.Native.Nat.{ℕ, zero, suc, _+_, _-_, _/_, _%_, _^_}
 use mathlib.Core.List.{List, [], _∷_, _++_, foldr}
 use lib.ListN.{length, take, replicate}
 use lib.IntN.{ℤ, pos, negsuc}
@@ -41,6 +41,11 @@ pub record Roads : Type 0 where
   pub segments : List Segment
 
 -- ---- what is usual
+
+-- −n
+abbrev pub minus : ℕ → ℤ
+minus zero = pos 0
+minus (suc n) = negsuc n
 
 -- for one distress type and one year: requirements, gain, percent
 abbrev pub strategy : List ℕ → ℤ → ℕ → Strategy

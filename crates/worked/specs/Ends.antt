@@ -3,10 +3,10 @@ use Prim.Native.Nat.{ℕ, _+_}
 use mathlib.Core.Path.{_≡_, refl}
 use mathlib.Core.List.{List, [], _∷_, _++_, map}
 use lib.ListN.{length, take, drop, replicate}
-use lib.IntN.{pos, negsuc}
+use lib.IntN.{pos}
 use Rattle.base.specs.Over.{listed}
 use Rattle.rules.specs.Calls.{loadRefusal}
-use Rattle.rules.specs.Writer.{Roads, strategy, nothingDemanded, segment, twoBytes, fourBytes, signedByte, fileOf}
+use Rattle.rules.specs.Writer.{Roads, minus, strategy, nothingDemanded, segment, twoBytes, fourBytes, signedByte, fileOf}
 use Rattle.rules.specs.Results.{resultOf}
 use Rattle.rules.specs.Marked.{card}
 
@@ -17,7 +17,7 @@ least =
       years = 1;
       limits = 0 ∷ [];
       greatest = 1 ∷ [];
-      strategies = strategy (0 ∷ []) (negsuc 49) 0 ∷ [];
+      strategies = strategy (0 ∷ []) (minus 50) 0 ∷ [];
       pavements = nothingDemanded ∷ [];
       segments = segment 1 1 (0 ∷ []) ∷ [];
     }
@@ -75,7 +75,7 @@ past =
     ∷ put 22 (0 ∷ []) ∷ put 22 (51 ∷ [])
     -- kind 4, the first and the second: requirement, gains −51 and 51, percents of two years
     ∷ put 27 (fourBytes 1_000_000) ∷ put 38 (fourBytes 1_000_000)
-    ∷ put 31 (signedByte (negsuc 50) ∷ []) ∷ put 42 (signedByte (pos 51) ∷ [])
+    ∷ put 31 (signedByte (minus 51) ∷ []) ∷ put 42 (signedByte (pos 51) ∷ [])
     ∷ put 32 (101 ∷ []) ∷ put 33 (101 ∷ []) ∷ put 44 (101 ∷ [])
     -- kind 5: overall requirement, minimum ratings of two years
     ∷ put 49 (twoBytes 451) ∷ put 51 (51 ∷ []) ∷ put 52 (51 ∷ [])
