@@ -1,8 +1,6 @@
 -- `command::first_number` meets its contract.
-use Prim.Native.Nat.{ℕ, _-_}
-use mathlib.Core.Path.{_≡_, sym, ap, _∙_}
+use mathlib.Core.Path.{sym, ap, _∙_}
 use native.Mathlib.Omega.{arith}
-use lib.ListN.{length, take, drop}
 use Rattle.base.proofs.Buffers.{whole-tail}
 use Rattle.command.specs.Reading.{wordOf, numberIn, numberOf}
 use Rattle.command.proofs.Laws.{first-none, first-other, first-blank, word-taken, word-size}

@@ -5,8 +5,7 @@ use lib.Dec.{ltb}
 use lib.ListN.{length}
 use borrow.Author.Needs.{needs}
 use borrow.Author.Tests.{lt-ltb, le-ltb}
-use Rattle.command.specs.Reading.{every, isComment, commandIn}
-use Rattle.command.specs.declared.Kind.the-variants.{Space}
+use Rattle.command.specs.Reading.{isComment, commandIn}
 use Rattle.command.proofs.parse.Statement.{statement}
 use Rattle.command.proofs.parse.Tie as tie
 
