@@ -20,7 +20,7 @@ use Rattle.grammar.specs.Places.{InRange}
 use Rattle.grammar.specs.Ranges.{Ranges}
 use Rattle.grammar.proofs.Slots.{slot-strategy, slot-pavement, slot-segment, start-strategy, start-pavement, start-segment}
 use Rattle.grammar.proofs.InRange.{in-range}
-use Rattle.grammar.proofs.Bounds.{Between, between-pick, between-number, betweens, inside-between, gain-most}
+use Rattle.grammar.proofs.Bounds.{Between, between-pick, between-number, betweens, inside-between, gain-most, rating-field}
 
 module _ (d : District) (ok : InRange d) where
   -- ---- the numbers of one record, at the district's own places
@@ -158,11 +158,10 @@ module _ (d : District) (ok : InRange d) where
   rating i k a b p q =
       let n = ratingsAt + (k - 1) in
       let g = greatestOf d k in
-      let e : n - (ratingsAt - 1) ≡ k = omega arith in
       let c : segmentPlace i + n ≡ segmentPlace i + ratingsAt + (k - 1) = omega arith in
       let f : Between 0 g (segmentField d n) =
-      rw (ne-eqb n 0 (λ z. omega arith), le-ltb n lengthAt (omega arith), ne-eqb n lengthAt (λ z. omega arith), ne-eqb n widthAt (λ z. omega arith), ne-eqb n barsAt (λ z. omega arith), e)
-      (between-pick 0 g (ltb (n - ratingsAt) (distressesOf d)) (number 1 0 g) absent (between-number 0 g 1 0 g (le-leb 0 g (omega arith)) (omega arith) (omega arith)) (between-number 0 g 0 0 0 refl (omega arith) (omega arith))) in
+      rw (rating-field d k p)
+      (between-pick 0 g (ltb (k - 1) (distressesOf d)) (number 1 0 g) absent (between-number 0 g 1 0 g (le-leb 0 g (omega arith)) (omega arith) (omega arith)) (between-number 0 g 0 0 0 refl (omega arith) (omega arith))) in
       at-most g (slot 6 perSegment (i - 1)) n (ratingOf d i k) f (rw c at (segment-in i n a b (omega arith)))
 
   mile-length : (i : ℕ) → 1 ≤ i → i ≤ mostSegments → lengthOf d i ≤ 9_999
