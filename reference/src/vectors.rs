@@ -463,6 +463,21 @@ fn plain(limits: &[u32], strategies: &[(i8, &[u32])], segments: &[(u16, u8)]) ->
     }
 }
 
+/// One year, one distress type of at most 50 and rating 0 everywhere, indexes of
+/// 100, nothing demanded. Strategies have requirements, a gain and a percent;
+/// segments a length, a width and bars.
+pub fn small(limits: &[u32], strategies: &[(&[u32], i8, u8)], segments: &[(u16, u8, u16)]) -> District {
+    let lasting: Vec<(i8, &[u32])> = strategies.iter().map(|&(requirements, gain, _)| (gain, requirements)).collect();
+    let mut district = plain(limits, &lasting, &vec![(1, 0); segments.len()]);
+    for (made, &(_, _, percent)) in district.strategies.iter_mut().zip(strategies) {
+        made.survival[0] = percent;
+    }
+    for (made, &(length, width, bars)) in district.segments.iter_mut().zip(segments) {
+        (made.length, made.width, made.bars) = (length, width, bars);
+    }
+    district
+}
+
 /// The first districts, from a seed, whose plan is as wanted.
 fn found(
     seed: u64,

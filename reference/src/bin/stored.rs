@@ -1,0 +1,175 @@
+//! Runs the cases that are stored with the proved programs, and the computed
+//! ones that no program prints, through this library. Prints how many come to
+//! something else than what is stored, and ends with a failure if one does.
+//!
+//! It is what a wrong reading of the rules is held against: see `wrong/`.
+
+use reference::unit::Unit;
+use reference::{calls, console, file, frames, listing, options::Given, rating};
+use std::panic::{catch_unwind, AssertUnwindSafe};
+use std::path::Path;
+use std::process::ExitCode;
+use std::{fs, io};
+
+const USAGE: &str = "usage: stored --crates DIR --computed FILE --work DIR\n";
+
+fn main() -> ExitCode {
+    let arguments: Vec<String> = std::env::args().skip(1).collect();
+    // A reading may be so wrong that it panics; that is an answer too.
+    std::panic::set_hook(Box::new(|_| ()));
+    match run(&arguments) {
+        Ok(0) => ExitCode::SUCCESS,
+        Ok(_) => ExitCode::FAILURE,
+        Err(message) => {
+            eprint!("stored: {message}\n{USAGE}");
+            ExitCode::from(2)
+        }
+    }
+}
+
+fn run(arguments: &[String]) -> Result<usize, String> {
+    let given = Given::read(arguments, &["crates", "computed", "work"])?;
+    let crates = Path::new(given.needed("crates")?);
+    let (computed_cases, work) = (given.needed("computed")?, Path::new(given.needed("work")?));
+    let error = |error: io::Error| error.to_string();
+    let stored = |program: &str, name: &str| fs::read(crates.join(program).join(name)).map_err(error);
+
+    let mut different = 0;
+    let plan = vec![answer(|| listing::answer(&stored("plan", "stdin").unwrap_or_default()))];
+    different += told("plan", &plan, &[text(&stored("plan", "stdout")?)]);
+
+    let lists: Vec<String> =
+        split(&stored("vectors", "stdin")?).iter().map(|list| answer(|| calls::worked(list))).collect();
+    different += told("vectors", &lists, &listings(&text(&stored("vectors", "stdout")?)));
+
+    let files: Vec<String> = split(&stored("transcode", "stdin")?).iter().map(|file| answer(|| codec(file))).collect();
+    different += told("transcode", &[files.concat()], &[hex(&stored("transcode", "stdout")?)]);
+
+    copy(&crates.join("panel/data"), work).map_err(error)?;
+    let input = stored("panel", "stdin")?;
+    let lines = answer(|| {
+        let mut output = Vec::new();
+        let done = console::run(&mut &input[..], &mut output, work);
+        done.map_or_else(|error| error.to_string(), |()| text(&output))
+    });
+    different += told("panel", &by_line(&lines), &by_line(&text(&stored("panel", "stdout")?)));
+
+    let (worked, wanted): (Vec<String>, Vec<String>) =
+        fs::read_to_string(computed_cases).map_err(error)?.lines().filter_map(computed).unzip();
+    different += told("computed", &worked, &wanted);
+    Ok(different)
+}
+
+/// Says how many answers differ, if any do, and which is the first.
+fn told(program: &str, worked: &[String], stored: &[String]) -> usize {
+    let most = worked.len().max(stored.len());
+    let different: Vec<usize> = (0..most).filter(|&at| worked.get(at) != stored.get(at)).collect();
+    if let Some(first) = different.first() {
+        println!("{program}: {} of {most} differ, the first is {}", different.len(), first + 1);
+    }
+    different.len()
+}
+
+fn answer(work: impl FnOnce() -> String) -> String {
+    catch_unwind(AssertUnwindSafe(work)).unwrap_or_else(|_| "panic".to_string())
+}
+
+fn text(bytes: &[u8]) -> String {
+    String::from_utf8_lossy(bytes).into_owned()
+}
+
+fn by_line(text: &str) -> Vec<String> {
+    text.lines().map(str::to_string).collect()
+}
+
+/// The frames up to the end, or to one that is cut short or too long.
+fn split(mut bytes: &[u8]) -> Vec<Vec<u8>> {
+    let mut all = Vec::new();
+    while let Ok(Some(frame)) = frames::next(&mut bytes) {
+        all.push(frame);
+    }
+    all
+}
+
+/// What `vectors` printed, list by list: a refusal, or a listing up to its counts.
+fn listings(text: &str) -> Vec<String> {
+    let mut all = Vec::new();
+    let mut one = String::new();
+    for line in text.lines() {
+        one.push_str(line);
+        one.push('\n');
+        if line.starts_with("refused") || line.starts_with("steps") {
+            all.push(std::mem::take(&mut one));
+        }
+    }
+    all
+}
+
+/// What `transcode` answers to a frame, in hexadecimal.
+fn codec(bytes: &[u8]) -> String {
+    match file::decode(bytes) {
+        Err(refusal) => hex(&[refusal.number()]),
+        Ok(district) => {
+            let mut answer = vec![0];
+            frames::put(&mut answer, &file::encode(&district));
+            hex(&answer)
+        }
+    }
+}
+
+fn hex(bytes: &[u8]) -> String {
+    bytes.iter().map(|byte| format!("{byte:02x}")).collect()
+}
+
+fn unhex(text: &str) -> Vec<u8> {
+    (0..text.len() / 2).filter_map(|at| u8::from_str_radix(text.get(2 * at..2 * at + 2)?, 16).ok()).collect()
+}
+
+/// A line `CASE: ANSWER`, where the case ends with a file in hexadecimal: what
+/// the library makes of it, and what stands there. Ratings, survivals and
+/// effects are those of segment 1 under strategy 1, for distress type 1.
+fn computed(line: &str) -> Option<(String, String)> {
+    let (case, wanted) = line.split_once(": ").filter(|_| !line.starts_with('#'))?;
+    let words: Vec<&str> = case.split(' ').collect();
+    let worked = answer(|| {
+        let mut unit = Unit::fresh();
+        let _ = unit.load(&unhex(words.last().unwrap_or(&"")));
+        let district = unit.district();
+        let one = || (&district.segments[0], &district.strategies[0]);
+        match words[..] {
+            ["fresh"] => hex(&file::encode(district)),
+            ["places", _] => numbers(unit.show().strategies),
+            ["after", _] => unit.show().total_after_phase_two.to_string(),
+            ["export", length, _] => export(&unit, length.parse().unwrap_or(0)),
+            ["ratings", _] => numbers((0..=district.years).map(|t| rating::rating(district, one().0, one().1, 0, t))),
+            ["survivals", _] => numbers(one().1.survival.iter().map(|&percent| rating::survival(one().0, percent))),
+            ["effect", _] => rating::effect(district, one().0, one().1).to_string(),
+            _ => "unknown case".to_string(),
+        }
+    });
+    Some((worked, wanted.to_string()))
+}
+
+fn numbers<T: ToString>(all: impl IntoIterator<Item = T>) -> String {
+    all.into_iter().map(|one| one.to_string()).collect::<Vec<_>>().join(" ")
+}
+
+/// An export into a buffer of ones: its answer, and the bytes that have changed.
+fn export(unit: &Unit, length: usize) -> String {
+    let mut buffer = vec![255; length];
+    let answer = unit.export(&mut buffer);
+    let written = buffer.iter().rposition(|&byte| byte != 255).map_or(0, |at| at + 1);
+    match answer {
+        Ok(length) => format!("{length}, {written} written"),
+        Err(refusal) => format!("refused {}, {written} written", refusal.number()),
+    }
+}
+
+fn copy(from: &Path, to: &Path) -> io::Result<()> {
+    fs::create_dir_all(to)?;
+    for entry in fs::read_dir(from)? {
+        let entry = entry?;
+        fs::copy(entry.path(), to.join(entry.file_name()))?;
+    }
+    Ok(())
+}
