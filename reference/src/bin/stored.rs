@@ -1,6 +1,6 @@
 //! Runs the cases that are stored with the proved programs, and the computed
-//! ones that no program prints, through this library. Prints how many come to
-//! something else than what is stored, and ends with a failure if one does.
+//! ones that no program prints, through this library. Prints the first that
+//! comes to something else than what is stored, and then ends with a failure.
 //!
 //! It is what a wrong reading of the rules is held against: see `wrong/`.
 
@@ -17,9 +17,12 @@ fn main() -> ExitCode {
     let arguments: Vec<String> = std::env::args().skip(1).collect();
     // A reading may be so wrong that it panics; that is an answer too.
     std::panic::set_hook(Box::new(|_| ()));
-    match run(&arguments) {
-        Ok(0) => ExitCode::SUCCESS,
-        Ok(_) => ExitCode::FAILURE,
+    match first_different(&arguments) {
+        Ok(None) => ExitCode::SUCCESS,
+        Ok(Some(case)) => {
+            println!("{case}");
+            ExitCode::FAILURE
+        }
         Err(message) => {
             eprint!("stored: {message}\n{USAGE}");
             ExitCode::from(2)
@@ -27,47 +30,52 @@ fn main() -> ExitCode {
     }
 }
 
-fn run(arguments: &[String]) -> Result<usize, String> {
+fn first_different(arguments: &[String]) -> Result<Option<String>, String> {
     let given = Given::read(arguments, &["crates", "computed", "work"])?;
-    let crates = Path::new(given.needed("crates")?);
-    let (computed_cases, work) = (given.needed("computed")?, Path::new(given.needed("work")?));
+    let (crates, work) = (Path::new(given.needed("crates")?), Path::new(given.needed("work")?));
     let error = |error: io::Error| error.to_string();
-    let stored = |program: &str, name: &str| fs::read(crates.join(program).join(name)).map_err(error);
+    let read = |name: &str| fs::read(crates.join(name)).map_err(error);
 
-    let mut different = 0;
-    let plan = vec![answer(|| listing::answer(&stored("plan", "stdin").unwrap_or_default()))];
-    different += told("plan", &plan, &[text(&stored("plan", "stdout")?)]);
+    let file = read("plan/stdin")?;
+    let worked = [answer(|| listing::answer(&file))];
+    if let Some(at) = differs(worked, &[text(&read("plan/stdout")?)]) {
+        return Ok(Some(format!("plan {at}")));
+    }
 
-    let lists: Vec<String> =
-        split(&stored("vectors", "stdin")?).iter().map(|list| answer(|| calls::worked(list))).collect();
-    different += told("vectors", &lists, &listings(&text(&stored("vectors", "stdout")?)));
+    let lists = split(&read("vectors/stdin")?);
+    let worked = lists.iter().map(|list| answer(|| calls::worked(list)));
+    if let Some(at) = differs(worked, &listings(&text(&read("vectors/stdout")?))) {
+        return Ok(Some(format!("list {at} of vectors")));
+    }
 
-    let files: Vec<String> = split(&stored("transcode", "stdin")?).iter().map(|file| answer(|| codec(file))).collect();
-    different += told("transcode", &[files.concat()], &[hex(&stored("transcode", "stdout")?)]);
+    let files = split(&read("transcode/stdin")?);
+    let worked = [files.iter().map(|file| answer(|| codec(file))).collect()];
+    if differs(worked, &[hex(&read("transcode/stdout")?)]).is_some() {
+        return Ok(Some("transcode".to_string()));
+    }
 
     copy(&crates.join("panel/data"), work).map_err(error)?;
-    let input = stored("panel", "stdin")?;
-    let lines = answer(|| {
+    let input = read("panel/stdin")?;
+    let worked = answer(|| {
         let mut output = Vec::new();
         let done = console::run(&mut &input[..], &mut output, work);
         done.map_or_else(|error| error.to_string(), |()| text(&output))
     });
-    different += told("panel", &by_line(&lines), &by_line(&text(&stored("panel", "stdout")?)));
+    if let Some(at) = differs(by_line(&worked), &by_line(&text(&read("panel/stdout")?))) {
+        return Ok(Some(format!("line {at} of panel")));
+    }
 
-    let (worked, wanted): (Vec<String>, Vec<String>) =
-        fs::read_to_string(computed_cases).map_err(error)?.lines().filter_map(computed).unzip();
-    different += told("computed", &worked, &wanted);
-    Ok(different)
+    let lines = fs::read_to_string(given.needed("computed")?).map_err(error)?;
+    let (worked, stored): (Vec<String>, Vec<String>) = lines.lines().filter_map(computed).unzip();
+    Ok(differs(worked, &stored).map(|at| format!("computed {at}")))
 }
 
-/// Says how many answers differ, if any do, and which is the first.
-fn told(program: &str, worked: &[String], stored: &[String]) -> usize {
-    let most = worked.len().max(stored.len());
-    let different: Vec<usize> = (0..most).filter(|&at| worked.get(at) != stored.get(at)).collect();
-    if let Some(first) = different.first() {
-        println!("{program}: {} of {most} differ, the first is {}", different.len(), first + 1);
-    }
-    different.len()
+/// The number of the first answer that is not the stored one. No further ones
+/// are worked out.
+fn differs(worked: impl IntoIterator<Item = String>, stored: &[String]) -> Option<usize> {
+    let mut worked = worked.into_iter();
+    let other = stored.iter().position(|stored| worked.next().as_ref() != Some(stored));
+    other.or_else(|| worked.next().map(|_| stored.len())).map(|at| at + 1)
 }
 
 fn answer(work: impl FnOnce() -> String) -> String {

@@ -105,7 +105,7 @@ fn list(sketch: &Sketch) -> Vec<u8> {
 
 fn sketch(random: &mut Random, most: usize) -> Sketch {
     let (segments, strategies) = (random.size(1, most), random.size(1, 3));
-    let resources = random.size(1, 2);
+    let resources = random.size(1, 3);
     let scale = *random.pick(&[10, 1_000, 60_000]);
     let manner = random.below(4);
     let gain = *random.pick(&[3, 20, 50]);
@@ -113,7 +113,11 @@ fn sketch(random: &mut Random, most: usize) -> Sketch {
         limits: vec![0; resources],
         strategies: (0..strategies)
             .map(|_| {
-                let requirements = (0..resources).map(|_| random.within(0, scale) as u32).collect();
+                let requirement = |random: &mut Random| match manner {
+                    0 => 1_000 * random.below(5) as u32,
+                    _ => random.within(0, scale) as u32,
+                };
+                let requirements = (0..resources).map(|_| requirement(random)).collect();
                 let percent = if manner < 2 { 100 } else { random.within(60, 100) as u8 };
                 (requirements, random.within(1, gain) as i8, percent)
             })
@@ -130,7 +134,11 @@ fn sketch(random: &mut Random, most: usize) -> Sketch {
     for (r, limit) in made.limits.iter_mut().enumerate() {
         let area: u64 = made.segments.iter().map(|segment| u64::from(segment.0) * u64::from(segment.1)).sum();
         let dearest = made.strategies.iter().map(|strategy| u64::from(strategy.0[r])).max().unwrap_or(0);
-        *limit = (area * dearest * random.within(20, 110) / 10_000_000 + random.below(2)).min(999_999_999) as u32;
+        *limit = match manner {
+            // Shares that are round, and sums of them that are just 10,000.
+            0 => 10 * random.within(1, 12) as u32,
+            _ => (area * dearest * random.within(20, 110) / 10_000_000 + random.below(2)).min(999_999_999) as u32,
+        };
     }
     made
 }
