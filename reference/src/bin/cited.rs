@@ -192,7 +192,8 @@ impl Tree {
                     // Signs of the notation, file names and numbers.
                     _ => true,
                 };
-                (!holds).then(|| format!("no `{text}` {}", context.join(" ")))
+                let of = if is_name(text) { context.join(" ") } else { String::new() };
+                (!holds).then(|| format!("no `{text}` {of}"))
             }
         }
     }
