@@ -9,16 +9,25 @@ use reference::{calls, console, file, frames, listing, options::Given, rating};
 use std::panic::{catch_unwind, AssertUnwindSafe};
 use std::path::Path;
 use std::process::ExitCode;
+use std::sync::atomic::{AtomicUsize, Ordering};
 use std::{fs, io};
 
 const USAGE: &str = "usage: stored --crates DIR --computed FILE --work DIR\n";
 
+static PANICS: AtomicUsize = AtomicUsize::new(0);
+
 fn main() -> ExitCode {
     let arguments: Vec<String> = std::env::args().skip(1).collect();
-    // A reading may be so wrong that it panics; that is an answer too.
-    std::panic::set_hook(Box::new(|_| ()));
+    // A wrong reading may panic. Such a case tells nothing, and the next is looked at.
+    std::panic::set_hook(Box::new(|_| {
+        PANICS.fetch_add(1, Ordering::Relaxed);
+    }));
     match first_different(&arguments) {
-        Ok(None) => ExitCode::SUCCESS,
+        Ok(None) if PANICS.load(Ordering::Relaxed) == 0 => ExitCode::SUCCESS,
+        Ok(None) => {
+            println!("no case differs, but some panic");
+            ExitCode::from(2)
+        }
         Ok(Some(case)) => {
             println!("{case}");
             ExitCode::FAILURE
@@ -49,7 +58,7 @@ fn first_different(arguments: &[String]) -> Result<Option<String>, String> {
     }
 
     let files = split(&read("transcode/stdin")?);
-    let worked = [files.iter().map(|file| answer(|| codec(file))).collect()];
+    let worked = [answer(|| files.iter().map(|file| codec(file)).collect())];
     if differs(worked, &[hex(&read("transcode/stdout")?)]).is_some() {
         return Ok(Some("transcode".to_string()));
     }
@@ -61,25 +70,28 @@ fn first_different(arguments: &[String]) -> Result<Option<String>, String> {
         let done = console::run(&mut &input[..], &mut output, work);
         done.map_or_else(|error| error.to_string(), |()| text(&output))
     });
-    if let Some(at) = differs(by_line(&worked), &by_line(&text(&read("panel/stdout")?))) {
-        return Ok(Some(format!("line {at} of panel")));
+    if let Some(worked) = worked {
+        if let Some(at) = differs(by_line(&worked).into_iter().map(Some), &by_line(&text(&read("panel/stdout")?))) {
+            return Ok(Some(format!("line {at} of panel")));
+        }
     }
 
     let lines = fs::read_to_string(given.needed("computed")?).map_err(error)?;
-    let (worked, stored): (Vec<String>, Vec<String>) = lines.lines().filter_map(computed).unzip();
+    let (worked, stored): (Vec<_>, Vec<_>) = lines.lines().filter_map(computed).unzip();
     Ok(differs(worked, &stored).map(|at| format!("computed {at}")))
 }
 
-/// The number of the first answer that is not the stored one. No further ones
-/// are worked out.
-fn differs(worked: impl IntoIterator<Item = String>, stored: &[String]) -> Option<usize> {
+/// The number of the first answer that is not the stored one; no further ones
+/// are worked out. An answer that is missing is one that panicked.
+fn differs(worked: impl IntoIterator<Item = Option<String>>, stored: &[String]) -> Option<usize> {
     let mut worked = worked.into_iter();
-    let other = stored.iter().position(|stored| worked.next().as_ref() != Some(stored));
+    let holds = |stored: &String| worked.next().is_some_and(|answer| answer.is_none_or(|answer| answer == *stored));
+    let other = stored.iter().map(holds).position(|holds| !holds);
     other.or_else(|| worked.next().map(|_| stored.len())).map(|at| at + 1)
 }
 
-fn answer(work: impl FnOnce() -> String) -> String {
-    catch_unwind(AssertUnwindSafe(work)).unwrap_or_else(|_| "panic".to_string())
+fn answer(work: impl FnOnce() -> String) -> Option<String> {
+    catch_unwind(AssertUnwindSafe(work)).ok()
 }
 
 fn text(bytes: &[u8]) -> String {
@@ -136,7 +148,7 @@ fn unhex(text: &str) -> Vec<u8> {
 /// A line `CASE: ANSWER`, where the case ends with a file in hexadecimal: what
 /// the library makes of it, and what stands there. Ratings, survivals and
 /// effects are those of segment 1 under strategy 1, for distress type 1.
-fn computed(line: &str) -> Option<(String, String)> {
+fn computed(line: &str) -> Option<(Option<String>, String)> {
     let (case, wanted) = line.split_once(": ").filter(|_| !line.starts_with('#'))?;
     let words: Vec<&str> = case.split(' ').collect();
     let worked = answer(|| {
