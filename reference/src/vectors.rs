@@ -37,6 +37,10 @@ fn scripts() -> Vec<Vec<u8>> {
     refused_exports(&mut cases);
     what_a_refusal_leaves(&mut cases);
     long_lists(&mut cases);
+    ends_of_fields(&mut cases);
+    files_cut(&mut cases);
+    losses(&mut cases);
+    readings(&mut cases);
     cases.scripts
 }
 
@@ -384,7 +388,99 @@ fn long_lists(cases: &mut Cases) {
     }
 }
 
+/// Each number of a file at the ends of its range, which loads.
+fn ends_of_fields(cases: &mut Cases) {
+    for change in within() {
+        let mut district = one_of_each();
+        change(&mut district);
+        cases.district(&district);
+    }
+    // The greatest rating a step below its range, with a rating that it allows.
+    let mut district = one_of_each();
+    (district.greatest[0], district.segments[0].ratings[0]) = (0, 0);
+    cases.district(&district);
+}
+
+/// Cut just before each record, and within a head whose kind is wrong already.
+fn files_cut(cases: &mut Cases) {
+    let bytes = file::encode(&one_of_each());
+    for start in make::record_starts(&bytes) {
+        cases.file(bytes[..start].to_vec());
+        cases.file(with(&bytes, start + 2, 9)[..start + 3].to_vec());
+    }
+}
+
+/// What is lost at once and what is gained late: ratings below 0, and ratings
+/// that are lowest right after the work.
+fn losses(cases: &mut Cases) {
+    let lossy = |years: usize, percents: [u8; 4], ratings: [u8; 2]| {
+        let mut district = plain(&[100], &[(-4, &[1_000])], &[(1, 0)]);
+        district.years = years;
+        district.greatest = vec![50; 2];
+        district.strategies[0].gains = vec![-4, 42];
+        district.strategies[0].survival = percents[..2 * years].to_vec();
+        district.types[0].minimum = vec![0; 2 * years];
+        district.segments[0].ratings = ratings.to_vec();
+        district
+    };
+    // A minimum that holds in year 1 and would not in year 0.
+    let mut district = lossy(1, [0, 100, 0, 0], [4, 0]);
+    district.types[0].minimum[0] = 4;
+    cases.district(&district);
+    // Ratings of less than 0 together in year 1, where nothing is demanded.
+    let late = [100, 0, 0, 100];
+    cases.district(&lossy(2, late, [0, 0]));
+    // A rating below 0 counts as what it is beside the others.
+    for overall in [1, 2, 5] {
+        let mut district = lossy(2, late, [0, 5]);
+        district.types[0].overall = overall;
+        cases.district(&district);
+    }
+}
+
+/// Small districts that a wrong reading of one rule plans otherwise: see `wrong/`.
+fn readings(cases: &mut Cases) {
+    for district in [
+        // Phase 1: a ratio by ten times as much, not rounded, to the nearest, rounded up.
+        small(&[4], &[(&[56_441], 3, 100)], &[(7, 1, 0), (1, 1, 0)]),
+        small(&[1], &[(&[9_395], 1, 100)], &[(4, 1, 0), (7, 1, 0)]),
+        small(&[599], &[(&[40_000], 2, 100)], &[(246, 3, 0), (300, 3, 0)]),
+        small(&[1], &[(&[60_000], 1, 65), (&[70_000], 1, 63)], &[(1, 1, 2), (1, 1, 1)]),
+        // A surplus of the exact use, rounded up and rounded down.
+        small(&[8], &[(&[57_151], 5, 100)], &[(7, 1, 0), (8, 1, 0)]),
+        small(&[4], &[(&[56_441], 1, 100)], &[(7, 1, 0), (1, 1, 0)]),
+        // Phase 2: of equal benefits the lower strategy before the lower segment.
+        small(&[6], &[(&[82], 1, 100), (&[121], 2, 100)], &[(290, 10, 0), (100, 10, 0), (300, 10, 0), (200, 10, 0)]),
+        // Phase 3: single changes by strategy before segment; in pairs nothing as the last of the second.
+        small(&[120], &[(&[2_000], 9, 100), (&[2_481], 10, 100), (&[999], 1, 100)], &[(297, 7, 0), (400, 10, 0)]),
+        small(&[3_415], &[(&[0], 1, 100), (&[49_898], 5, 100)], &[(386, 10, 0), (299, 10, 0)]),
+        // The ceiling: a price lowered, and raised, where it stays equal.
+        small(&[100, 30], &[(&[3_000, 500], 1, 100), (&[1_697, 1_777], 4, 100)], &[(299, 10, 0), (100, 9, 0)]),
+        small(&[40, 2], &[(&[1_000, 51], 1, 100)], &[(200, 10, 0), (200, 10, 0)]),
+        dearest(),
+    ] {
+        cases.district(&district);
+    }
+}
+
 // ---- districts
+
+/// Benefits as great as they can be, and shares as small as bind: its price is
+/// between 2 to the power 32 and 33, and no district's is higher.
+fn dearest() -> District {
+    let mut district = plain(&[LIMIT_MOST], &[(GAIN_MOST, &[800_000])], &[(1, 0); MOST_SEGMENTS]);
+    let cells = MOST_DISTRESS_TYPES * MOST_YEARS;
+    district.years = MOST_YEARS;
+    district.greatest = vec![RATING_MOST; MOST_DISTRESS_TYPES];
+    district.strategies[0].gains = vec![GAIN_MOST; MOST_DISTRESS_TYPES];
+    district.strategies[0].survival = vec![100; cells];
+    district.types[0].minimum = vec![0; cells];
+    for segment in &mut district.segments {
+        (segment.length, segment.width) = (LENGTH_MOST, WIDTH_MOST);
+        segment.ratings = vec![0; MOST_DISTRESS_TYPES];
+    }
+    district
+}
 
 fn card() -> District {
     let mut card = plain(&[130], &[(5, &[1_000]), (15, &[3_000])], &[(1, 5), (2, 15)]);
@@ -463,6 +559,21 @@ fn plain(limits: &[u32], strategies: &[(i8, &[u32])], segments: &[(u16, u8)]) ->
     }
 }
 
+/// One year, one distress type of at most 50 and rating 0 everywhere, indexes of
+/// 100, nothing demanded. Strategies have requirements, a gain and a percent;
+/// segments a length, a width and bars.
+pub fn small(limits: &[u32], strategies: &[(&[u32], i8, u8)], segments: &[(u16, u8, u16)]) -> District {
+    let lasting: Vec<(i8, &[u32])> = strategies.iter().map(|&(requirements, gain, _)| (gain, requirements)).collect();
+    let mut district = plain(limits, &lasting, &vec![(1, 0); segments.len()]);
+    for (made, &(_, _, percent)) in district.strategies.iter_mut().zip(strategies) {
+        made.survival[0] = percent;
+    }
+    for (made, &(length, width, bars)) in district.segments.iter_mut().zip(segments) {
+        (made.length, made.width, made.bars) = (length, width, bars);
+    }
+    district
+}
+
 /// The first districts, from a seed, whose plan is as wanted.
 fn found(
     seed: u64,
@@ -517,5 +628,31 @@ fn beyond() -> Vec<fn(&mut District)> {
         |d| d.segments[0].width = WIDTH_MOST + 1,
         |d| d.segments[0].bars = 2,
         |d| d.segments[0].ratings[0] = 51,
+    ]
+}
+
+/// Ways to put one value of a district of one of each at an end of its range.
+fn within() -> Vec<fn(&mut District)> {
+    vec![
+        |d| d.limits[0] = 0,
+        |d| d.limits[0] = LIMIT_MOST,
+        |d| (d.greatest[0], d.segments[0].ratings[0]) = (1, 1),
+        |d| d.greatest[0] = RATING_MOST,
+        |d| d.strategies[0].requirements[0] = 0,
+        |d| d.strategies[0].requirements[0] = REQUIREMENT_MOST,
+        |d| d.strategies[0].gains[0] = GAIN_MOST,
+        |d| d.strategies[0].gains[0] = -GAIN_MOST,
+        |d| d.strategies[0].survival[0] = 0,
+        |d| d.types[0].overall = OVERALL_MOST,
+        |d| d.types[0].minimum[0] = RATING_MOST,
+        |d| d.segments[0].traffic = INDEX_MOST,
+        |d| d.segments[0].environment = INDEX_MOST,
+        |d| d.segments[0].length = 1,
+        |d| d.segments[0].length = LENGTH_MOST,
+        |d| d.segments[0].width = 1,
+        |d| d.segments[0].width = WIDTH_MOST,
+        |d| d.segments[0].bars = 1,
+        |d| d.segments[0].ratings[0] = 0,
+        |d| d.segments[0].ratings[0] = 50,
     ]
 }
