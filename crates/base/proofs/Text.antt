@@ -6,6 +6,7 @@ use native.Mathlib.Nat.{pow-succ'}
 use native.Mathlib.Omega.{arith}
 use lib.Dec.{ltb}
 use lib.ListN.{length, take, drop, length-append, length-drop}
+use lib.Seq.{take-at, length-take-le}
 use borrow.Author.Tests.{lt-ltb, le-ltb}
 use borrow.Rule.Slice.PartMut.{putMid}
 use Rattle.base.specs.Choice.{pick}
@@ -83,3 +84,14 @@ module _ {old whole bs : List ℕ} {at : ℕ} {out : List ℕ} (w : Written old 
 -- where the whole has room, so has its first piece
 pub front-fits : (a b : List ℕ) {n : ℕ} → length (a ++ b) ≤ n → length a ≤ n
 front-fits a b h = omega (arith, length-append a b)
+
+-- ---- what was put is within the buffer, so that it can be lent as a part, and is the buffer's front
+
+pub put-within : {bs old new : List ℕ} {n : ℕ} → Put bs old new n → n ≤ length new
+put-within {bs} {old} {new} p = omega (arith, p .count, ap length (p .bytes), length-append bs (drop (length bs) old))
+
+pub put-part : {bs old new : List ℕ} {n : ℕ} → Put bs old new n → n ≡ length (take n new)
+put-part {bs} {old} {new} {n} p = sym (length-take-le n new (put-within p))
+
+pub put-taken : {bs old new : List ℕ} {n : ℕ} → Put bs old new n → take n new ≡ bs
+put-taken {bs} {old} {new} {n} p = ap (take n) (p .bytes) ∙ take-at bs (drop (length bs) old) n (sym (p .count))

@@ -1,10 +1,9 @@
 -- Demand 2, of the unit after any list of calls: district and programme are those of the rules, the search of each phase has ended by
 -- itself, and the export gives both back.
-use Prim.Native.Nat.{ℕ, _≤_}
 use mathlib.Core.Path.{_≡_, refl}
 use mathlib.Core.Bool.{true}
-use Rattle.rules.specs.District.{District, segmentsOf}
-use Rattle.rules.specs.File.{decode, encode, inRange}
+use Rattle.rules.specs.District.{District}
+use Rattle.rules.specs.File.{encode, inRange}
 use Rattle.rules.specs.Answers.{answerOf, accepting}
 use Rattle.rules.specs.Calls.{loadRefusalOf, loadRefusal, loadedOf, districtIn, unitOf, answered, loadOf}
 use Rattle.rules.specs.Lists.{districtAfter}

@@ -7,7 +7,7 @@ use native.Mathlib.Omega.{arith}
 use lib.ListN.{length, take, drop, getD, set, length-append, drop-of-length-le}
 use lib.Seq.{take-all, take-at, take-suc-set, drop-cons, length-take-le}
 use Rattle.rules.specs.declared.Unit.{Unit}
-use Rattle.panel.specs.Console.{Leads}
+use Rattle.panel.specs.Console.{LineLeads}
 use Rattle.panel.specs.Lines.{keptBytes, keeping, Feeds, end, answer, keep}
 
 -- ---- of a line
@@ -31,7 +31,7 @@ fed-all bytes i h = rw (drop-of-length-le bytes h) end
 module _ (bytes : List ℕ) (i : ℕ) (more : i < length bytes) {u x w : Unit} {line last : List ℕ} where
   -- a line feed
   pub fed-line :
-      getD bytes i 0 ≡ 10 → {v : Unit} {said front : List ℕ} → Leads u line v said → x ≡ v → front ≡ []
+      getD bytes i 0 ≡ 10 → {v : Unit} {said front : List ℕ} → LineLeads u line v said → x ≡ v → front ≡ []
       → Feeds x front (drop (i + 1) bytes) w last → Feeds u line (drop i bytes) w last
   fed-line e l same none f = rw (drop-cons bytes i 0 more, e) (answer l (rw (same, none, add-one i) at f))
 

@@ -55,12 +55,12 @@ pub data Exports (u : Unit) (path : List ℕ) : Unit → List ℕ → Type 0 whe
 -- ---- lines
 
 -- a line leads from u to v and says bs
-pub data Leads (u : Unit) (line : List ℕ) : Unit → List ℕ → Type 0 where
-  load : {v : Unit} {bs : List ℕ} → commandIn line ≡ Load → Loads u (pathOf line) v bs → Leads u line v bs
-  export : {v : Unit} {bs : List ℕ} → commandIn line ≡ Export → Exports u (pathOf line) v bs → Leads u line v bs
+pub data LineLeads (u : Unit) (line : List ℕ) : Unit → List ℕ → Type 0 where
+  load : {v : Unit} {bs : List ℕ} → commandIn line ≡ Load → Loads u (pathOf line) v bs → LineLeads u line v bs
+  export : {v : Unit} {bs : List ℕ} → commandIn line ≡ Export → Exports u (pathOf line) v bs → LineLeads u line v bs
   other :
       ¬ (commandIn line ≡ Load) → ¬ (commandIn line ≡ Export)
-      → Leads u line (after u (commandIn line)) (said u (commandIn line))
+      → LineLeads u line (after u (commandIn line)) (said u (commandIn line))
 
 -- the bytes that one of these says with the unit after, over the front of a buffer
 pub record Puts (R : Unit → List ℕ → Type 0) (old new : List ℕ) (r : Said) : Type 0 where

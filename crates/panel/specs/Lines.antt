@@ -8,19 +8,19 @@ use Rattle.rules.specs.Demands.{Sound}
 use Rattle.rules.specs.Lists.{Call, unitAfter}
 use Rattle.rules.specs.declared.Unit.{Unit}
 use Rattle.command.specs.Reading.{longestLine}
-use Rattle.panel.specs.Console.{Leads}
+use Rattle.panel.specs.Console.{LineLeads}
 use Rattle.panel.specs.declared.Said.{Said}
 
 -- a unit that a list of calls leads to
-pub record Reached (u : Unit) : Type 0 where
+pub record ByCalls (u : Unit) : Type 0 where
   pub calls : List Call
   pub same : u ≡ unitAfter calls
 
 -- v is the unit after a line, with these bytes said, and calls lead to it too
 pub record Answered (u : Unit) (line : List ℕ) (v : Unit) : Type 0 where
   pub bytes : List ℕ
-  pub leads : Leads u line v bytes
-  pub reached : Reached v
+  pub leads : LineLeads u line v bytes
+  pub reached : ByCalls v
   -- demand 3, of the programme that a show prints
   pub sound : Sound (u .district) (showOf u)
 
@@ -40,7 +40,7 @@ pub record Keeps (line : List ℕ) (b : ℕ) (buffer : List ℕ) (n : ℕ) : Typ
 pub data Feeds : Unit → List ℕ → List ℕ → Unit → List ℕ → Type 0 where
   end : {u : Unit} {line : List ℕ} → Feeds u line [] u line
   answer :
-      {u v w : Unit} {line said bs last : List ℕ} → Leads u line v said → Feeds v [] bs w last
+      {u v w : Unit} {line said bs last : List ℕ} → LineLeads u line v said → Feeds v [] bs w last
       → Feeds u line (10 ∷ bs) w last
   keep :
       {u w : Unit} {b : ℕ} {line bs last : List ℕ} → ¬ (b ≡ 10) → Feeds u (keeping line b) bs w last
@@ -50,4 +50,4 @@ pub data Feeds : Unit → List ℕ → List ℕ → Unit → List ℕ → Type 0
 pub record Fed (u : Unit) (line bytes buffer : List ℕ) (r : Said) : Type 0 where
   pub within : r .length ≤ length buffer
   pub feeds : Feeds u line bytes (r .unit) (take (r .length) buffer)
-  pub reached : Reached (r .unit)
+  pub reached : ByCalls (r .unit)

@@ -6,8 +6,8 @@ ghost use Prim.Native.Nat.{_≤_};
 ghost use mathlib.Core.Path.{_≡_};
 ghost use lib.ListN.{length, take};
 ghost use Rattle.listing.specs.Listing.{longestListing, done, failed as Listing·failed};
-ghost use Rattle.panel.specs.Console.{said, after, Says, Loads, Exports, Leads, Puts};
-ghost use Rattle.panel.specs.Lines.{keptBytes, Reached, Answered, Keeps, Fed};
+ghost use Rattle.panel.specs.Console.{said, after, Says, Loads, Exports, LineLeads, Puts};
+ghost use Rattle.panel.specs.Lines.{keptBytes, ByCalls, Answered, Keeps, Fed};
 use command::Command;
 use libc::STDIN_FILENO;
 use libc::STDOUT_FILENO;
@@ -118,7 +118,7 @@ fn export(u: Unit, path: &[u8], out: &mut [u8]) -> Said
 
 fn respond(u: Unit, line: &[u8], out: &mut [u8]) -> Said
     requires { ⌜ (length (now line) ≤ keptBytes) × (longestListing ≤ length (now out)) ⌝ }
-    ensures { λ r. ⌜ Puts (Leads u (now (line .entry))) (now (out .entry)) (now (out .exit)) r ⌝ }
+    ensures { λ r. ⌜ Puts (LineLeads u (now (line .entry))) (now (out .entry)) (now (out .exit)) r ⌝ }
 {
     let command = command::parse(line);
     match command {
@@ -130,7 +130,7 @@ fn respond(u: Unit, line: &[u8], out: &mut [u8]) -> Said
 
 // The answer to a line goes to standard output.
 fn answer(u: Unit, line: &[u8]) -> Unit
-    requires { ⌜ (length (now line) ≤ keptBytes) × Reached u ⌝ }
+    requires { ⌜ (length (now line) ≤ keptBytes) × ByCalls u ⌝ }
     ensures { λ r. ⌜ Answered u (now (line .entry)) r ⌝ }
 {
     let mut out = [0u8; listing::LONGEST_LISTING];
@@ -154,7 +154,7 @@ fn keep(line: &mut [u8], kept: usize, byte: u8) -> usize
 
 // What was read goes to the line, and each line that ends is answered.
 fn feed(u: Unit, line: &mut [u8], kept: usize, bytes: &[u8]) -> Said
-    requires { ⌜ (kept ≤ length (now line)) × (length (now line) ≡ keptBytes) × Reached u ⌝ }
+    requires { ⌜ (kept ≤ length (now line)) × (length (now line) ≡ keptBytes) × ByCalls u ⌝ }
     ensures { λ r. ⌜ Fed u (take kept (now (line .entry))) (now (bytes .entry)) (now (line .exit)) r ⌝ }
 {
     let mut unit = u;

@@ -2,7 +2,6 @@
 use Prim.Native.Nat.{ℕ}
 use mathlib.Core.List.{List}
 use Rattle.rules.specs.Calls.{freshUnit, loadOf}
-use Rattle.rules.specs.declared.Reply.{Reply}
 use Rattle.listing.specs.Listing.{planned}
 
 unfoldable pub printed : List ℕ → List ℕ

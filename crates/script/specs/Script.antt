@@ -1,7 +1,6 @@
 -- The list of calls that a row of bytes stands for, and what the last of them answers. A call is 13 bytes: its kind, and three numbers of four bytes each, low byte first.
 -- A load is followed by its file, whose length is its first number.
 use Prim.Native.Nat.{ℕ, zero, suc, _+_}
-use mathlib.Core.Bool.{Bool, true, false}
 use mathlib.Core.List.{List, [], _∷_}
 use lib.Dec.{leb, eqb}
 use lib.ListN.{length, getD, take, drop, replicate}

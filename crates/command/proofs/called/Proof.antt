@@ -9,7 +9,7 @@ use borrow.Author.Needs.{needs}
 use Rattle.base.specs.Choice.{pick}
 use Rattle.command.specs.Reading.{row, rows, taken, meant, called}
 use Rattle.command.specs.declared.Row.{Row}
-use Rattle.command.proofs.Laws.{few, few-next}
+use Rattle.command.proofs.Reading.{few, few-next}
 use Rattle.command.proofs.called.Statement.{statement}
 use Rattle.command.proofs.called.Tie as tie
 

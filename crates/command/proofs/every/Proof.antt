@@ -6,7 +6,7 @@ use lib.ListN.{length, drop, drop-of-length-le}
 use borrow.Author.Needs.{needs}
 use borrow.Author.Tests.{not-true, not-false}
 use Rattle.command.specs.Reading.{every}
-use Rattle.command.proofs.Laws.{every-next}
+use Rattle.command.proofs.Reading.{every-next}
 use Rattle.command.proofs.every.Statement.{statement}
 use Rattle.command.proofs.every.Tie as tie
 

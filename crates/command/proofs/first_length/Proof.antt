@@ -7,7 +7,7 @@ use lib.ListN.{length, drop, length-drop}
 use lib.Seq.{drop-drop}
 use Rattle.base.proofs.Buffers.{whole-tail}
 use Rattle.command.specs.Reading.{wordOf}
-use Rattle.command.proofs.Laws.{after-none, after-some, word-dropped, word-fits}
+use Rattle.command.proofs.Reading.{after-none, after-some, word-dropped, word-fits}
 use borrow.Author.Needs.{needs}
 use Rattle.command.proofs.first_length.Statement.{statement}
 use Rattle.command.proofs.first_length.Tie as tie

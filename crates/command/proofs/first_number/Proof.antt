@@ -3,7 +3,7 @@ use mathlib.Core.Path.{sym, ap, _∙_}
 use native.Mathlib.Omega.{arith}
 use Rattle.base.proofs.Buffers.{whole-tail}
 use Rattle.command.specs.Reading.{wordOf, numberIn, numberOf}
-use Rattle.command.proofs.Laws.{first-none, first-other, first-blank, word-taken, word-size}
+use Rattle.command.proofs.Reading.{first-none, first-other, first-blank, word-taken, word-size}
 use borrow.Author.Needs.{needs}
 use Rattle.command.proofs.first_number.Statement.{statement}
 use Rattle.command.proofs.first_number.Tie as tie

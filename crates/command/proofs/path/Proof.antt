@@ -4,7 +4,7 @@ use mathlib.Core.Path.{sym, _∙_}
 use native.Mathlib.Omega.{arith}
 use lib.ListN.{length, drop-of-length-le}
 use Rattle.base.proofs.Buffers.{whole-tail}
-use Rattle.command.proofs.Laws.{word-fits, path-drop}
+use Rattle.command.proofs.Reading.{word-fits, path-drop}
 use borrow.Author.Needs.{needs}
 use Rattle.command.proofs.path.Statement.{statement}
 use Rattle.command.proofs.path.Tie as tie

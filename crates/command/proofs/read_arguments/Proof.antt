@@ -12,7 +12,7 @@ use lib.Seq.{take-suc-set, drop-drop}
 use borrow.Author.Needs.{needs}
 use Rattle.base.proofs.Buffers.{whole-tail}
 use Rattle.command.specs.Reading.{firstNumber, afterNumber, arguments, placed, numberOf, numbersOf}
-use Rattle.command.proofs.Laws.{Blank, blank-all, blank-set, at-front, placed-only, prefixed, prefixed-none, arguments-more, arguments-stop, arguments-end}
+use Rattle.command.proofs.Reading.{Blank, blank-all, blank-set, at-front, placed-only, prefixed, prefixed-none, arguments-more, arguments-stop, arguments-end}
 use Rattle.command.proofs.read_arguments.Statement.{statement}
 use Rattle.command.proofs.read_arguments.Tie as tie
 

@@ -6,7 +6,7 @@ use lib.ListN.{length, drop, drop-of-length-le}
 use borrow.Author.Needs.{needs}
 use borrow.Author.Tests.{le-leb, lt-leb}
 use Rattle.command.specs.Reading.{numberIn, numberFrom, numberOf}
-use Rattle.command.proofs.Laws.{number-next, number-low, number-high, number-over}
+use Rattle.command.proofs.Reading.{number-next, number-low, number-high, number-over}
 use Rattle.command.proofs.read_number.Statement.{statement}
 use Rattle.command.proofs.read_number.Tie as tie
 

@@ -1,5 +1,5 @@
 -- `command::same_word` meets its contract.
-use Rattle.command.proofs.Laws.{word-taken, word-size}
+use Rattle.command.proofs.Reading.{word-taken, word-size}
 use borrow.Author.Needs.{needs}
 use Rattle.command.proofs.same_word.Statement.{statement}
 use Rattle.command.proofs.same_word.Tie as tie

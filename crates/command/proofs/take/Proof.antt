@@ -2,7 +2,7 @@
 use mathlib.Core.Path.{ap, _∙_}
 use native.Mathlib.Omega.{arith}
 use Rattle.command.specs.Reading.{isPath, taken, numbersOf}
-use Rattle.command.proofs.Laws.{word-fits, word-dropped, blank-all, at-front}
+use Rattle.command.proofs.Reading.{word-fits, word-dropped, blank-all, at-front}
 use borrow.Author.Needs.{needs}
 use Rattle.command.proofs.take.Statement.{statement}
 use Rattle.command.proofs.take.Tie as tie

@@ -7,7 +7,7 @@ use lib.ListN.{length, getD, drop, drop-of-length-le}
 use borrow.Author.Needs.{needs}
 use borrow.Author.Tests.{eq-eqb, ne-eqb}
 use Rattle.command.specs.Reading.{wordOf}
-use Rattle.command.proofs.Laws.{word-next}
+use Rattle.command.proofs.Reading.{word-next}
 use Rattle.command.proofs.word_length.Statement.{statement}
 use Rattle.command.proofs.word_length.Tie as tie
 

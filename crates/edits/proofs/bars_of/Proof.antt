@@ -2,7 +2,7 @@
 use borrow.Author.Needs.{needs}
 use native.Mathlib.Omega.{arith}
 use Rattle.rules.specs.District.{barsOf, barsPlace}
-use Rattle.edits.proofs.Laws.{past}
+use Rattle.edits.proofs.Places.{past}
 use Rattle.edits.proofs.bars_of.Statement.{statement}
 use Rattle.edits.proofs.bars_of.Tie as tie
 

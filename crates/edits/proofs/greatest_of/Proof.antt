@@ -1,6 +1,6 @@
 -- `edits::greatest_of` meets its contract. Assumes nothing.
 use borrow.Author.Needs.{needs}
-use Rattle.edits.proofs.Laws.{past}
+use Rattle.edits.proofs.Places.{past}
 use Prim.Native.Nat.{_+_, _-_}
 use native.Mathlib.Omega.{arith}
 use Rattle.rules.specs.District.{greatestPlace, greatestOf}

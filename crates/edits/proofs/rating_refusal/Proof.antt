@@ -1,7 +1,7 @@
 -- `edits::rating_refusal` meets its contract. Assumes nothing.
 use borrow.Author.Needs.{needs}
 use Rattle.rules.specs.Calls.{ratingRefusal}
-use Rattle.edits.proofs.Laws.{rating-range}
+use Rattle.edits.proofs.Places.{rating-range}
 use Rattle.edits.proofs.rating_refusal.Statement.{statement}
 use Rattle.edits.proofs.rating_refusal.Tie as tie
 

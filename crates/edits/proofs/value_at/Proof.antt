@@ -1,6 +1,6 @@
 -- `edits::value_at` meets its contract. Assumes nothing.
 use borrow.Author.Needs.{needs}
-use Rattle.edits.proofs.Laws.{past}
+use Rattle.edits.proofs.Places.{past}
 use native.Mathlib.Omega.{arith}
 use Rattle.edits.proofs.value_at.Statement.{statement}
 use Rattle.edits.proofs.value_at.Tie as tie

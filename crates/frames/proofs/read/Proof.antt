@@ -1,7 +1,7 @@
 -- `frames::read` meets its contract. Assumes nothing.
 use borrow.Author.Needs.{needs}
 use native.Mathlib.Omega.{arith}
-use Rattle.frames.proofs.Laws.{counts}
+use Rattle.frames.proofs.Counts.{counts}
 use Rattle.frames.proofs.read.Statement.{statement}
 use Rattle.frames.proofs.read.Tie as tie
 

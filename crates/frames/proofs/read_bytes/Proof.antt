@@ -3,7 +3,7 @@ use mathlib.Core.Path.{sym}
 use lib.Seq.{length-take-le}
 use borrow.Author.Needs.{needs}
 use native.Mathlib.Omega.{arith}
-use Rattle.frames.proofs.Laws.{counts}
+use Rattle.frames.proofs.Counts.{counts}
 use Rattle.frames.proofs.read_bytes.Statement.{statement}
 use Rattle.frames.proofs.read_bytes.Tie as tie
 

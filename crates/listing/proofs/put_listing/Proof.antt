@@ -7,7 +7,7 @@ use Rattle.base.proofs.Buffers.{Written}
 use Rattle.base.proofs.Text.{put-front, put-last, last-fits, front-fits}
 use Rattle.rules.specs.District.{mostSegments}
 use Rattle.listing.specs.Listing.{segmentLines, results, listing}
-use Rattle.listing.proofs.Laws.{listing-few}
+use Rattle.listing.proofs.Lengths.{listing-few}
 use Rattle.listing.proofs.put_listing.Statement.{statement}
 use Rattle.listing.proofs.put_listing.Tie as tie
 

@@ -2,7 +2,7 @@
 use native.Mathlib.Omega.{arith}
 use Rattle.base.specs.Text.{text}
 use Rattle.listing.specs.Listing.{refusal}
-use Rattle.listing.proofs.Laws.{refusal-few}
+use Rattle.listing.proofs.Lengths.{refusal-few}
 use borrow.Author.Needs.{needs}
 use Rattle.listing.proofs.put_refusal.Statement.{statement}
 use Rattle.listing.proofs.put_refusal.Tie as tie

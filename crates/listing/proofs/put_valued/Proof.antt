@@ -1,7 +1,7 @@
 -- `listing::put_valued` meets its contract. Assumes nothing.
 use native.Mathlib.Omega.{arith}
 use Rattle.listing.specs.Listing.{valued}
-use Rattle.listing.proofs.Laws.{line-fits}
+use Rattle.listing.proofs.Lengths.{line-fits}
 use borrow.Author.Needs.{needs}
 use Rattle.listing.proofs.put_valued.Statement.{statement}
 use Rattle.listing.proofs.put_valued.Tie as tie

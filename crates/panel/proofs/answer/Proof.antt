@@ -1,6 +1,6 @@
 -- `panel::answer` meets its contract. Assumes nothing.
-use Rattle.listing.proofs.Laws.{put-within, put-part}
-use Rattle.panel.proofs.Reached.{reached-line, sound-at}
+use Rattle.base.proofs.Text.{put-within, put-part}
+use Rattle.panel.proofs.ByCalls.{by-calls-line, sound-at}
 use borrow.Author.Needs.{needs}
 use Rattle.panel.proofs.answer.Statement.{statement}
 use Rattle.panel.proofs.answer.Tie as tie
@@ -15,7 +15,7 @@ returns : tie.Need-returns
 returns c =
     let p = c .before .before .before .before .respond .ensures in
     let known = c .before .before .before .before .before .before .before .pre .1 in
-    record { bytes = p .bytes; leads = p .leads; reached = reached-line (p .leads) known; sound = sound-at known }
+    record { bytes = p .bytes; leads = p .leads; reached = by-calls-line (p .leads) known; sound = sound-at known }
 
 pub answer-spec : {M : Type 1} → statement M
 answer-spec =

@@ -8,7 +8,7 @@ use Prim.Native.Nat.{_≤_}
 use Rattle.base.specs.Text.{text}
 use Rattle.rules.specs.Calls.{Export}
 use Rattle.panel.specs.Console.{written, unwritten}
-use Rattle.panel.proofs.Laws.{export-fits, puts}
+use Rattle.panel.proofs.Says.{export-fits, puts}
 use borrow.Author.Needs.{needs}
 use Rattle.panel.proofs.export.Statement.{statement}
 use Rattle.panel.proofs.export.Tie as tie

@@ -1,6 +1,6 @@
 -- `panel::failed` meets its contract. Assumes nothing.
 use native.Mathlib.Omega.{arith}
-use Rattle.panel.proofs.Laws.{failed-length}
+use Rattle.panel.proofs.Says.{failed-length}
 use borrow.Author.Needs.{needs}
 use Rattle.panel.proofs.failed.Statement.{statement}
 use Rattle.panel.proofs.failed.Tie as tie

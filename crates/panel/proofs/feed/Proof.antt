@@ -7,7 +7,7 @@ use mathlib.Core.Path.{_≡_, refl, sym, ap, _∙_}
 use lib.ListN.{length, take, drop, getD}
 use lib.Seq.{length-take-le}
 use Rattle.rules.specs.declared.Unit.{Unit}
-use Rattle.panel.specs.Lines.{Reached, keeping, Feeds}
+use Rattle.panel.specs.Lines.{ByCalls, keeping, Feeds}
 use Rattle.panel.proofs.Feeds.{fed-all, fed-line, fed-byte}
 use borrow.Author.Needs.{needs}
 use Rattle.panel.proofs.feed.Statement.{statement}
@@ -15,7 +15,7 @@ use Rattle.panel.proofs.feed.Tie as tie
 
 abbrev Inv-loop : tie.InvT-loop
 Inv-loop line₀ kept bytes unit₀ n₀ i₀ line unit n i =
-    (i ≤ length bytes) × (n ≤ length line) × (length line ≡ length line₀) × Reached unit
+    (i ≤ length bytes) × (n ≤ length line) × (length line ≡ length line₀) × ByCalls unit
     × ((w : Unit) (last : List ℕ) → Feeds unit (take n line) (drop i bytes) w last → Feeds unit₀ (take n₀ line₀) bytes w last)
 
 abbrev μ-loop : tie.MeasureT-loop

@@ -1,7 +1,7 @@
 -- `panel::load` meets its contract. Assumes nothing.
 use Rattle.base.specs.Text.{text}
 use Rattle.panel.specs.Console.{read, unopened, unread}
-use Rattle.panel.proofs.Laws.{puts}
+use Rattle.panel.proofs.Says.{puts}
 use borrow.Author.Needs.{needs}
 use Rattle.panel.proofs.load.Statement.{statement}
 use Rattle.panel.proofs.load.Tie as tie

@@ -4,20 +4,20 @@ use Prim.Native.Nat.{_≤_}
 use mathlib.Core.Path.{_≡_, refl, sym, _∙_}
 use lib.ListN.{length}
 use lib.Seq.{length-take-le}
-use Rattle.panel.specs.Lines.{keptBytes, Reached}
-use Rattle.panel.proofs.Reached.{reached-fresh}
+use Rattle.panel.specs.Lines.{keptBytes, ByCalls}
+use Rattle.panel.proofs.ByCalls.{by-calls-fresh}
 use borrow.Author.Needs.{needs}
 use Rattle.panel.proofs.main.Statement.{statement}
 use Rattle.panel.proofs.main.Tie as tie
 
 abbrev Inv-loop : tie.InvT-loop
-Inv-loop unit₀ line₀ n₀ turns₀ unit line n turns = (length line ≡ keptBytes) × (n ≤ keptBytes) × Reached unit
+Inv-loop unit₀ line₀ n₀ turns₀ unit line n turns = (length line ≡ keptBytes) × (n ≤ keptBytes) × ByCalls unit
 
 abbrev μ-loop : tie.MeasureT-loop
 μ-loop unit₀ line₀ n₀ turns₀ unit line n turns = turns
 
 loop-holds : tie.Need-loop-holds Inv-loop μ-loop
-loop-holds c = (refl, omega arith, reached-fresh (c .fresh .ensures .0))
+loop-holds c = (refl, omega arith, by-calls-fresh (c .fresh .ensures .0))
 
 slice-aggregate-feed : tie.Need-slice-aggregate-feed Inv-loop μ-loop
 slice-aggregate-feed c = sym (c .before .before .before .before .before .before .before .before .before .loop .inv .0)

@@ -7,7 +7,7 @@ use types.Run.{miss}
 use Rattle.command.specs.Reading.{commandIn}
 use Rattle.command.specs.declared.Command.the-variants.{Load, Export}
 use Rattle.panel.specs.Console.{load, export}
-use Rattle.panel.proofs.Laws.{path-short, puts-as, puts-other}
+use Rattle.panel.proofs.Says.{path-short, puts-as, puts-other}
 use borrow.Author.Needs.{needs}
 use Rattle.panel.proofs.respond.Statement.{statement}
 use Rattle.panel.proofs.respond.Tie as tie

@@ -1,6 +1,6 @@
 -- `plan::main` is safe and ends. Assumes nothing.
 use borrow.Author.Needs.{needs}
-use Rattle.listing.proofs.Laws.{put-within, put-part}
+use Rattle.base.proofs.Text.{put-within, put-part}
 use Rattle.plan.proofs.main.Statement.{statement}
 use Rattle.plan.proofs.main.Tie as tie
 

@@ -2,7 +2,7 @@
 use borrow.Author.Needs.{needs}
 use Rattle.rules.specs.Survey.{blockOf}
 use Rattle.base.proofs.Choice.{cases}
-use Rattle.survey.proofs.Laws.{no-code, no-seal}
+use Rattle.survey.proofs.Points.{no-code, no-seal}
 use Rattle.survey.proofs.block_of.Statement.{statement}
 use Rattle.survey.proofs.block_of.Tie as tie
 

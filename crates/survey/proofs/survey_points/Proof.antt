@@ -3,7 +3,7 @@ use borrow.Author.Needs.{needs}
 use borrow.Author.Tests.{ne-eqb}
 use Rattle.rules.specs.Survey.{pointsOf}
 use Rattle.base.proofs.Choice.{cases}
-use Rattle.survey.proofs.Laws.{no-entry, points}
+use Rattle.survey.proofs.Points.{no-entry, points}
 use Rattle.survey.proofs.survey_points.Statement.{statement}
 use Rattle.survey.proofs.survey_points.Tie as tie
 

@@ -5,7 +5,7 @@ use borrow.Author.Needs.{needs}
 use Rattle.file.proofs.Longest.{longest}
 use Rattle.file.proofs.Refusals.{refusal-most}
 use Rattle.file.specs.declared.Loaded.{Loaded}
-use Rattle.transcode.proofs.Laws.{answered-refusal, answered-file}
+use Rattle.transcode.proofs.Framed.{answered-refusal, answered-file}
 use Rattle.transcode.proofs.answer.Statement.{statement}
 use Rattle.transcode.proofs.answer.Tie as tie
 

@@ -3,8 +3,9 @@ use lib.ListN.{replicate, length-replicate}
 use borrow.Author.Needs.{needs}
 use Rattle.base.specs.Text.{Put}
 use Rattle.rules.specs.File.{encode, longestFile}
-use Rattle.listing.proofs.Laws.{put-within, put-part}
-use Rattle.transcode.proofs.Laws.{file-put, put-taken}
+use Rattle.base.proofs.Text.{put-within, put-part}
+use Rattle.base.proofs.Text.{put-taken}
+use Rattle.transcode.proofs.Framed.{file-put}
 use Rattle.transcode.proofs.put_district.Statement.{statement}
 use Rattle.transcode.proofs.put_district.Tie as tie
 

@@ -7,7 +7,7 @@ use borrow.Author.Needs.{needs}
 use Rattle.base.proofs.Buffers.{Written}
 use Rattle.base.proofs.Text.{put-front, put-last}
 use Rattle.transcode.specs.Transcoded.{headOf, framed}
-use Rattle.transcode.proofs.Laws.{framed-length}
+use Rattle.transcode.proofs.Framed.{framed-length}
 use Rattle.transcode.proofs.put_framed.Statement.{statement}
 use Rattle.transcode.proofs.put_framed.Tie as tie
 

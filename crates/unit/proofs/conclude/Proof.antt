@@ -2,7 +2,7 @@
 use borrow.Author.Needs.{needs}
 use Rattle.rules.specs.Answers.{answerOf, accepting}
 use Rattle.rules.specs.Calls.{answered}
-use Rattle.unit.proofs.Laws.{answer-refused, old-kept}
+use Rattle.unit.proofs.Refused.{answer-refused, old-kept}
 use Rattle.unit.proofs.conclude.Statement.{statement}
 use Rattle.unit.proofs.conclude.Tie as tie
 

@@ -1,6 +1,6 @@
 -- `vectors::next_frame` is safe. Assumes nothing.
 use borrow.Author.Needs.{needs}
-use Rattle.listing.proofs.Laws.{put-within, put-part}
+use Rattle.base.proofs.Text.{put-within, put-part}
 use Rattle.vectors.proofs.next_frame.Statement.{statement}
 use Rattle.vectors.proofs.next_frame.Tie as tie
 

@@ -5,7 +5,7 @@ use lib.ListN.{length, length-append}
 use Prim.Native.Nat.{_≤_}
 use Rattle.base.specs.Text.{text}
 use Rattle.base.proofs.Text.{put-front, put-last}
-use Rattle.listing.proofs.Laws.{put-within, put-part}
+use Rattle.base.proofs.Text.{put-within, put-part}
 use borrow.Author.Needs.{needs}
 use Rattle.panel.proofs.files.new_name.Statement.{statement}
 use Rattle.panel.proofs.files.new_name.Tie as tie

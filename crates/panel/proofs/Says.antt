@@ -15,11 +15,11 @@ use Rattle.rules.specs.File.{encode}
 use Rattle.rules.specs.declared.Answer.{Answer}
 use Rattle.rules.specs.declared.Answer.the-variants.{Accepted}
 use Rattle.rules.specs.declared.Unit.{Unit}
-use Rattle.command.proofs.Laws.{path-fits}
+use Rattle.command.proofs.Reading.{path-fits}
 use Rattle.command.specs.Reading.{pathOf, commandIn}
 use Rattle.command.specs.declared.Command as Command
 use Rattle.command.specs.declared.Command.{Command}
-use Rattle.panel.specs.Console.{said, after, Says, Leads, other, Puts}
+use Rattle.panel.specs.Console.{said, after, Says, LineLeads, other, Puts}
 use Rattle.panel.specs.declared.Said.{Said}
 
 -- an export that is accepted has room
@@ -56,5 +56,5 @@ puts-as {r = r} f p = record { bytes = p .bytes; leads = f (r .unit) (p .bytes) 
 -- of a line without a file
 pub puts-other :
     {u : Unit} {command : Command} {line old new : List ℕ} {r : Said} → command ≡ commandIn line → ¬ (command ≡ Command.Load) → ¬ (command ≡ Command.Export)
-    → Says (after u command) (said u command) old new r → Puts (Leads u line) old new r
+    → Says (after u command) (said u command) old new r → Puts (LineLeads u line) old new r
 puts-other e l x s = puts (rw e at s) (other (λ h. l (e ∙ h)) (λ h. x (e ∙ h)))

@@ -1,10 +1,9 @@
 -- What an export with room leaves, and what a load's refusal or district is answered with. Assumes nothing.
 use Prim.Native.Nat.{ℕ, zero, suc, _+_, _≤_}
 use mathlib.Core.Path.{_≡_, refl, sym, ap, _∙_}
-use mathlib.Core.List.{List, [], _∷_, _++_}
+use mathlib.Core.List.{List, [], _∷_}
 use native.Mathlib.Omega.{arith}
-use lib.ListN.{length, take, drop, length-append}
-use lib.Seq.{take-at}
+use lib.ListN.{length, length-append}
 use Rattle.base.specs.Text.{Put}
 use Rattle.rules.specs.Answers.{accepting}
 use Rattle.rules.specs.Calls.{Export, exportRefusal, exported, loadRefusal, districtIn}
@@ -26,10 +25,6 @@ unfolding lengthIn
 file-put d old new answer n room e count =
     let whole = e ∙ sym (export-fits d old room) in
     record { count = count ∙ ap (λ (x : Export). lengthIn (x .answer)) whole; bytes = ap (λ (x : Export). x .buffer) whole }
-
--- what was put is the front of the buffer
-pub put-taken : {bs old new : List ℕ} {n : ℕ} → Put bs old new n → take n new ≡ bs
-put-taken {bs} {old} {new} {n} p = ap (take n) (p .bytes) ∙ take-at bs (drop (length bs) old) n (sym (p .count))
 
 -- ---- the answer to what a load gives
 

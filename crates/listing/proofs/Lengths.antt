@@ -1,11 +1,9 @@
--- How many bytes a listing has at most, and that what was put is within its buffer. Assumes nothing.
+-- How many bytes a listing has at most. Assumes nothing.
 use Prim.Native.Nat.{ℕ, zero, suc, _+_, _-_, _*_, _≤_, min}
 use mathlib.Core.List.{List, _++_}
-use mathlib.Core.Path.{_≡_, sym, ap}
 use native.Mathlib.Omega.{arith}
-use lib.ListN.{length, getD, take, drop, length-append}
-use lib.Seq.{length-take-le}
-use Rattle.base.specs.Text.{text, mostDigits, decimal, Put}
+use lib.ListN.{length, getD, length-append}
+use Rattle.base.specs.Text.{text, mostDigits, decimal}
 use Rattle.base.proofs.Text.{decimal-few}
 use Rattle.rules.specs.District.{mostSegments}
 use Rattle.rules.specs.declared.Programme.{Programme}
@@ -55,11 +53,3 @@ results-few p =
 pub listing-few : (p : Programme) (n : ℕ) → length (listing p n) ≤ longestListing
 unfolding listing
 listing-few p n = omega (arith, length-append (segmentLines (min n mostSegments) 1 (p .strategies)) (results p), segments-few (min n mostSegments) 1 (p .strategies), results-few p)
-
--- ---- what was put is within the buffer, so that it can be lent as a part
-
-pub put-within : {bs old new : List ℕ} {n : ℕ} → Put bs old new n → n ≤ length new
-put-within {bs} {old} {new} p = omega (arith, p .count, ap length (p .bytes), length-append bs (drop (length bs) old))
-
-pub put-part : {bs old new : List ℕ} {n : ℕ} → Put bs old new n → n ≡ length (take n new)
-put-part {bs} {old} {new} {n} p = sym (length-take-le n new (put-within p))
