@@ -1,4 +1,4 @@
--- The arrays filled from a district are its table, and are sound. Assumes nothing.
+-- The arrays filled from a district hold its table. Assumes nothing.
 use Prim.Native.Nat.{ℕ, _+_, _-_, _*_, _/_, _%_, _^_, _≤_, _<_}
 use mathlib.Core.Path.{_≡_, refl, ap, ap₂, sym, fun-ext, _∙_}
 use mathlib.Core.Bool.{Bool, true, false, _&&_, and-false, true≢false}
@@ -15,7 +15,7 @@ use Rattle.rules.specs.Rating.{candidate}
 use Rattle.rules.specs.Table.{has, candidateBenefit, usageIn, limitIn, tableOf}
 use Rattle.laws.specs.Tables.{FitAlone}
 use Rattle.theorems.proofs.Entries.{table-fit}
-use Rattle.tables.specs.Arrays.{entry, benefitAt, usageAt, limitAt, tables, Sound}
+use Rattle.tables.specs.Arrays.{entry, benefitAt, usageAt, limitAt, tables, Tabled}
 use Rattle.rating.specs.Numbers.{Segment, Resource}
 use Rattle.rating.proofs.Entries.{between-in, has-within, resource-within, candidate-benefit-le, usage-in-le, limit-in-le}
 use Rattle.fill.specs.Lists.{sizeOf, benefitEntry, benefitList, usageEntry, usageList, limitList}
@@ -99,14 +99,12 @@ module _ (d : District) (ok : Ranges d) where
       let s : limitAt (limitList d) ≡ limitIn d = fun-ext limit-is in
       cc
 
-  pub sound : Sound (sizeOf d) (benefitList d) (usageList d) (limitList d)
+  pub tabled : Tabled (sizeOf d) (benefitList d) (usageList d) (limitList d)
   unfolding benefitList usageList limitList benefitEntry usageEntry candidateBenefit usageIn
-  sound =
+  tabled =
       record {
-        segments = ok .segments;
-        strategies = ok .strategies;
-        resources = ok .resources;
-        gains = record {
+        bounded = record { segments = ok .segments; strategies = ok .strategies; resources = ok .resources };
+        benefits = record {
           places = listed-length (benefitEntry d) 768 0;
           small = listed-each (λ v. v < 2 ^ 40) 768 0 (benefitEntry d) (lit< tt) (λ n. omega (arith, candidate-benefit-le d ok (n / 12 + 1) (n % 12)));
           nothing = λ i l h. benefit-entry d i 0 (l, h) (omega arith) ∙ simp and-false;

@@ -1,4 +1,4 @@
--- What filled arrays hold: the district's table, sound, and its shares at the places of the uses.
+-- What filled arrays hold: the district's table, and its shares at the places of the uses.
 use Prim.Native.Nat.{ℕ, _+_, _-_, _*_, _≤_}
 use mathlib.Core.Path.{_≡_}
 use mathlib.Core.List.{List}
@@ -9,11 +9,11 @@ use Rattle.rules.specs.Phases.{share}
 use Rattle.rules.specs.Ceiling.{downShare}
 use Rattle.laws.specs.Tables.{FitAlone}
 use Rattle.tables.specs.declared.Size.{Size}
-use Rattle.tables.specs.Arrays.{entry, tables, Sound, Cell}
+use Rattle.tables.specs.Arrays.{entry, tables, Tabled, Cell}
 
 pub record Filled (d : District) (z : Size) (b u l s e : List ℕ) : Type 0 where
   pub table : tables z b u l ≡ tableOf d
-  pub sound : Sound z b u l
+  pub tabled : Tabled z b u l
   pub fit : FitAlone (tables z b u l)
   pub shares-length : length s ≡ 12_288
   pub shares : (i j r : ℕ) → Cell i j → 1 ≤ r → r ≤ 16 → getD s (16 * entry i j + (r - 1)) 0 ≡ share (tables z b u l) i j r

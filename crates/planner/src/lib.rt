@@ -8,7 +8,7 @@ ghost use Rattle.rules.specs.Ceiling.{ceiling};
 ghost use Rattle.rules.specs.File.{inRange};
 ghost use Rattle.rules.specs.Plan.{programmeOf, noProgramme, planOf};
 ghost use Rattle.rules.specs.Table.{tableOf};
-ghost use Rattle.tables.specs.Arrays.{tables, Sound};
+ghost use Rattle.tables.specs.Arrays.{tables, Tabled};
 use rules::District;
 use rules::Programme;
 use tables::Size;
@@ -22,13 +22,13 @@ fn phases(
     shares: &[u64],
     bound: u64,
 ) -> Programme
-    requires { ⌜ Sound z (now benefits) (now uses) (now limits) × FitAlone (tables z (now benefits) (now uses) (now limits)) × Shares z (now benefits) (now uses) (now limits) (now shares) ⌝ }
+    requires { ⌜ Tabled z (now benefits) (now uses) (now limits) × FitAlone (tables z (now benefits) (now uses) (now limits)) × Shares z (now benefits) (now uses) (now limits) (now shares) ⌝ }
     requires { ⌜ bound ≡ ceiling (tables z (now benefits) (now uses) (now limits)) ⌝ }
     ensures { λ r. ⌜ r ≡ programmeOf (tables z (now (benefits .entry)) (now (uses .entry)) (now (limits .entry))) ⌝ }
 {
     let mut choice = [0usize; 64];
     let mut sums = [0u64; 16];
-    phase1::start(z, benefits, uses, limits, &mut choice, &mut sums);
+    phase1::start(z, benefits, uses, &mut choice, &mut sums);
     let steps = phase1::reduce(z, benefits, uses, limits, shares, &mut choice, &mut sums);
     let pickups = phase2::pick_up(z, benefits, uses, limits, &mut choice, &mut sums);
     let after_pickups = tables::total_of(z, benefits, &choice);

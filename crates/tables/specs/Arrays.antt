@@ -35,7 +35,7 @@ tables z b u l =
     }
 
 -- benefits, uses and limits: how many, bounds under which no sum wraps, and nothing's entries
-pub record Gains (b : List ℕ) : Type 0 where
+pub record Benefits (b : List ℕ) : Type 0 where
   pub places : length b ≡ 768
   pub small : (k : ℕ) → getD b k 0 < 2 ^ 40
   pub nothing : (i : ℕ) → 1 ≤ i → i ≤ 64 → getD b (entry i 0) 0 ≡ 0
@@ -49,12 +49,16 @@ pub record Limits (l : List ℕ) : Type 0 where
   pub places : length l ≡ 16
   pub small : (k : ℕ) → getD l k 0 < 2 ^ 47
 
--- arrays that hold a table
-pub record Sound (z : Size) (b u l : List ℕ) : Type 0 where
+-- no more segments, strategies and resources than the arrays have places for
+pub record Bounded (z : Size) : Type 0 where
   pub segments : z .segments ≤ 64
   pub strategies : z .strategies ≤ 11
   pub resources : z .resources ≤ 16
-  pub gains : Gains b
+
+-- arrays that hold a table
+pub record Tabled (z : Size) (b u l : List ℕ) : Type 0 where
+  pub bounded : Bounded z
+  pub benefits : Benefits b
   pub uses : Uses u
   pub limits : Limits l
 
@@ -69,9 +73,10 @@ pub record Chosen (z : Size) (c : List ℕ) : Type 0 where
   pub places : length c ≡ 64
   pub numbers : (i : ℕ) → strategyAt c i ≤ z .strategies
 
--- a programme over sound tables, with the running sum of what it uses of each resource
-pub record Ready (z : Size) (b u l c sums : List ℕ) : Type 0 where
-  pub sound : Sound z b u l
+-- a programme with the running sum of what it uses of each resource, whatever the benefits and limits are
+pub record Running (z : Size) (u c sums : List ℕ) : Type 0 where
+  pub bounded : Bounded z
+  pub uses : Uses u
   pub chosen : Chosen z c
   pub sums-length : length sums ≡ 16
-  pub sums-are : (r : ℕ) → 1 ≤ r → r ≤ z .resources → getD sums (r - 1) 0 ≡ used (tables z b u l) c r
+  pub sums-are : (b l : List ℕ) (r : ℕ) → 1 ≤ r → r ≤ z .resources → getD sums (r - 1) 0 ≡ used (tables z b u l) c r

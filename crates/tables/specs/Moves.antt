@@ -13,7 +13,7 @@ pub record Budgets (resources : ℕ) (u l : List ℕ) (i x k y : ℕ) (budgets :
   pub each : (r : ℕ) → 1 ≤ r → r ≤ resources → getD budgets (r - 1) 0 ≡ getD l (r - 1) 0 + (usageAt u i x r + usageAt u k y r)
 
 -- what a test of the first resources reads, and bounds under which no sum wraps
-pub record Room (resources : ℕ) (u sums budgets : List ℕ) : Type 0 where
+pub record Testable (resources : ℕ) (u sums budgets : List ℕ) : Type 0 where
   pub few : resources ≤ 16
   pub uses : Uses u
   pub sums-length : length sums ≡ 16

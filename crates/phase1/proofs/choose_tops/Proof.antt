@@ -9,7 +9,7 @@ use lib.ListN.{length, length-set}
 use Rattle.base.proofs.All.{each-none, each-set}
 use Rattle.rules.specs.Phases.{strategyAt, topCandidate}
 use Rattle.tables.specs.Arrays.{tables}
-use Rattle.phase1.proofs.Laws.{start-is}
+use Rattle.phase1.proofs.Candidates.{start-is}
 use Rattle.phase1.proofs.choose_tops.Statement.{statement}
 use Rattle.phase1.proofs.choose_tops.Tie as tie
 

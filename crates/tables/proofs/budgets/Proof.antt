@@ -1,11 +1,11 @@
--- `tables::budgets` meets its contract: the budgets passed are right, and no sum wraps. Assumes nothing.
+-- `tables::budgets` meets its contract: the budgets passed are right, and no sum wraps.
 use Prim.Native.Nat.{ℕ, _+_, _-_, _≤_}
 use mathlib.Core.Path.{_≡_, refl}
 use native.Mathlib.Omega.{arith}
 use lib.ListN.{getD, length, length-set}
 use Rattle.base.proofs.All.{each-none, each-set}
 use Rattle.tables.specs.Arrays.{usageAt}
-use Rattle.tables.proofs.Laws.{usage-lt}
+use Rattle.tables.proofs.Arrays.{usage-lt}
 use borrow.Author.Needs.{needs}
 use Rattle.tables.proofs.budgets.Statement.{statement}
 use Rattle.tables.proofs.budgets.Tie as tie
@@ -24,14 +24,14 @@ loop-holds c = (search needs, refl, each-none _)
 add-each : tie.Need-add-each Inv-loop μ-loop
 add-each c =
     let s = c .before .before .before .before .before .before .before in
-    let small = usage-lt _ (s .pre .0 .1) in
+    let small = usage-lt (s .pre .0 .1) in
     let r = c .before .before .before .before .loop .r + 1 in
     omega (arith, c .before .usage .ensures, c .usage2 .ensures, small (s .args .i) (s .args .x) r, small (s .args .k) (s .args .y) r)
 
 add-each-2 : tie.Need-add-each-2 Inv-loop μ-loop
 add-each-2 c =
     let s = c .before .before .before .before .before .before .before in
-    let small = usage-lt _ (s .pre .0 .1) in
+    let small = usage-lt (s .pre .0 .1) in
     let r = c .before .before .before .before .loop .r + 1 in
     omega (arith, c .before .usage .ensures, c .usage2 .ensures, small (s .args .i) (s .args .x) r, small (s .args .k) (s .args .y) r, s .pre .0 .2 .small (c .before .before .before .before .loop .r))
 
