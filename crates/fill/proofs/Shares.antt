@@ -11,7 +11,6 @@ use Rattle.rules.specs.Table.{Table}
 use Rattle.rules.specs.Phases.{share}
 use Rattle.rules.specs.Ceiling.{downShare}
 use Rattle.laws.specs.Tables.{FitAlone}
-use Rattle.laws.proofs.Shares.{divide-up-small}
 use Rattle.tables.specs.declared.Size.{Size}
 use Rattle.tables.specs.Arrays.{entry, usageAt, limitAt, tables, Uses, Cell}
 use Rattle.tables.proofs.Arrays.{usage-at, limit-at}
@@ -67,10 +66,6 @@ divide-small a (suc b) h =
     omega arith
 
 module _ (t : Table) (fit : FitAlone t) (i j r : ℕ) (li : 1 ≤ i) (hi : i ≤ t .segments) (lj : 1 ≤ j) (hj : j ≤ t .strategies) (lr : 1 ≤ r) (hr : r ≤ t .resources) (worth : 1 ≤ t .benefit i j) where
-  pub share-le : share t i j r ≤ 10_000
-  unfolding share
-  share-le = divide-up-small (t .usage i j r) (t .limit r) (fit .fits i j r li hi lj hj lr hr worth)
-
   pub down-share-le : downShare t i j r ≤ 10_000
   unfolding downShare
   down-share-le = divide-small (t .usage i j r) (t .limit r) (fit .fits i j r li hi lj hj lr hr worth)

@@ -64,6 +64,10 @@ weakAt t c i = record { segment = i; ratio = ratio t c i }
 abbrev pub weakerOf : Table → List ℕ → ℕ → ℕ → ℕ
 weakerOf t c k i = betterOf (pulls t c) (lesserRatio t c) k i
 
+-- whatever segment w stands for, v stands for the weaker of it and segment i
+abbrev pub IsWeaker : Table → List ℕ → ℕ → Weak → Weak → Type 0
+IsWeaker t c i w v = (k : ℕ) → w ≡ weakAt t c k → v ≡ weakAt t c (weakerOf t c k i)
+
 -- by falling benefit, of value and old, and among equals by number, j comes after a
 unfoldable pub follows : ℕ → ℕ → ℕ → ℕ → Bool
 follows value old a j = ltb value old || (eqb value old && ltb a j)

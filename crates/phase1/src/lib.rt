@@ -4,6 +4,7 @@ ghost use mathlib.Core.List.{List};
 ghost use Prim.Native.Nat.{ℕ, _-_, _*_, _/_, _^_, _<_, _≤_};
 ghost use lib.ListN.{getD, length};
 ghost use Rattle.base.specs.Over.{sum};
+ghost use Rattle.rules.specs.Table.{Table};
 ghost use Rattle.rules.specs.Phases.{
   strategyAt,
   used,
@@ -15,7 +16,7 @@ ghost use Rattle.rules.specs.Phases.{
   phase1,
 };
 ghost use Rattle.tables.specs.Arrays.{usageAt, tables, Benefits, Uses, Limits, Bounded, Cell, Chosen, Running};
-ghost use Rattle.phase1.specs.Reduce.{shareAt, heldShare, heldPull, Shares, Measured, Held, Surplus, Surpluses, weakAt, weakerOf, follows};
+ghost use Rattle.phase1.specs.Reduce.{shareAt, heldShare, heldPull, Shares, Measured, Held, Surplus, Surpluses, IsWeaker, follows};
 use tables::Size;
 
 // A segment with its ratio; segment 0 is none.
@@ -173,7 +174,7 @@ fn weaker(
     requires { ⌜ Benefits (now benefits) × Measured z (now shares) (now choice) ⌝ }
     requires { ⌜ ((r : ℕ) → 1 ≤ r → r ≤ z .resources → getD (now over) (r - 1) 0 ≤ 640_000) ⌝ }
     requires { ⌜ (1 ≤ i) × (i ≤ z .segments) ⌝ }
-    ensures { λ v. ⌜ ((u l : List ℕ) → Shares z (now (benefits .entry)) u l (now (shares .entry)) → Surpluses z (now (benefits .entry)) u l (now (choice .entry)) (now (over .entry)) → (k : ℕ) → w ≡ weakAt (tables z (now (benefits .entry)) u l) (now (choice .entry)) k → v ≡ weakAt (tables z (now (benefits .entry)) u l) (now (choice .entry)) (weakerOf (tables z (now (benefits .entry)) u l) (now (choice .entry)) k i)) ⌝ }
+    ensures { λ v. ⌜ ((u l : List ℕ) → Shares z (now (benefits .entry)) u l (now (shares .entry)) → Surpluses z (now (benefits .entry)) u l (now (choice .entry)) (now (over .entry)) → IsWeaker (tables z (now (benefits .entry)) u l) (now (choice .entry)) i w v) ⌝ }
 {
     let pulled = pull_of(z, shares, choice, over, i);
     if pulled == 0 {
@@ -243,10 +244,12 @@ pub fn reduce(
     choice: &mut [usize],
     sums: &mut [u64],
 ) -> u64
-    requires { ⌜ Held z (now benefits) (now uses) (now limits) (now shares) (now choice) (now sums) ⌝ }
-    ensures { λ m. ⌜ Running z (now (uses .entry)) (now (choice .exit)) (now (sums .exit)) ⌝ }
-    ensures { λ m. ⌜ now (choice .exit) ≡ phase1 (tables z (now (benefits .entry)) (now (uses .entry)) (now (limits .entry))) (now (choice .entry)) .last ⌝ }
-    ensures { λ m. ⌜ m ≡ phase1 (tables z (now (benefits .entry)) (now (uses .entry)) (now (limits .entry))) (now (choice .entry)) .count ⌝ }
+    ghost { Table }
+    requires { λ t. ⌜ tables z (now benefits) (now uses) (now limits) ≡ t ⌝ }
+    requires { λ _. ⌜ Held z (now benefits) (now uses) (now limits) (now shares) (now choice) (now sums) ⌝ }
+    ensures { λ _ m. ⌜ Running z (now (uses .entry)) (now (choice .exit)) (now (sums .exit)) ⌝ }
+    ensures { λ t m. ⌜ now (choice .exit) ≡ phase1 t (now (choice .entry)) .last ⌝ }
+    ensures { λ t m. ⌜ m ≡ phase1 t (now (choice .entry)) .count ⌝ }
 {
     let mut steps: u64 = 0;
     let bound = (z.segments * z.strategies) as u64;

@@ -2,6 +2,7 @@
 use tables::Size;
 ghost use mathlib.Core.Path.{_≡_};
 ghost use Prim.Native.Nat.{_≤_};
+ghost use Rattle.rules.specs.Table.{Table};
 ghost use Rattle.rules.specs.Phases.{offer, bestOffer, phase2};
 ghost use Rattle.tables.specs.Arrays.{tables, Benefits, Limits, Running};
 
@@ -15,9 +16,11 @@ fn offer_of(
     sums: &[u64],
     i: usize,
 ) -> usize
-    requires { ⌜ Benefits (now benefits) × Limits (now limits) × Running z (now uses) (now choice) (now sums) ⌝ }
-    requires { ⌜ (1 ≤ i) × (i ≤ z .segments) ⌝ }
-    ensures { λ j. ⌜ j ≡ offer (tables z (now (benefits .entry)) (now (uses .entry)) (now (limits .entry))) (now (choice .entry)) i ⌝ }
+    ghost { Table }
+    requires { λ t. ⌜ tables z (now benefits) (now uses) (now limits) ≡ t ⌝ }
+    requires { λ _. ⌜ Benefits (now benefits) × Limits (now limits) × Running z (now uses) (now choice) (now sums) ⌝ }
+    requires { λ _. ⌜ (1 ≤ i) × (i ≤ z .segments) ⌝ }
+    ensures { λ t j. ⌜ j ≡ offer t (now (choice .entry)) i ⌝ }
 {
     let mut top: usize = 0;
     let mut most: u64 = 0;
@@ -44,8 +47,10 @@ fn best_offer(
     choice: &[usize],
     sums: &[u64],
 ) -> usize
-    requires { ⌜ Benefits (now benefits) × Limits (now limits) × Running z (now uses) (now choice) (now sums) ⌝ }
-    ensures { λ i. ⌜ i ≡ bestOffer (tables z (now (benefits .entry)) (now (uses .entry)) (now (limits .entry))) (now (choice .entry)) ⌝ }
+    ghost { Table }
+    requires { λ t. ⌜ tables z (now benefits) (now uses) (now limits) ≡ t ⌝ }
+    requires { λ _. ⌜ Benefits (now benefits) × Limits (now limits) × Running z (now uses) (now choice) (now sums) ⌝ }
+    ensures { λ t i. ⌜ i ≡ bestOffer t (now (choice .entry)) ⌝ }
 {
     let mut top: usize = 0;
     let mut most: u64 = 0;
@@ -73,10 +78,12 @@ pub fn pick_up(
     choice: &mut [usize],
     sums: &mut [u64],
 ) -> u64
-    requires { ⌜ Benefits (now benefits) × Limits (now limits) × Running z (now uses) (now choice) (now sums) ⌝ }
-    ensures { λ m. ⌜ Running z (now (uses .entry)) (now (choice .exit)) (now (sums .exit)) ⌝ }
-    ensures { λ m. ⌜ now (choice .exit) ≡ phase2 (tables z (now (benefits .entry)) (now (uses .entry)) (now (limits .entry))) (now (choice .entry)) .last ⌝ }
-    ensures { λ m. ⌜ m ≡ phase2 (tables z (now (benefits .entry)) (now (uses .entry)) (now (limits .entry))) (now (choice .entry)) .count ⌝ }
+    ghost { Table }
+    requires { λ t. ⌜ tables z (now benefits) (now uses) (now limits) ≡ t ⌝ }
+    requires { λ _. ⌜ Benefits (now benefits) × Limits (now limits) × Running z (now uses) (now choice) (now sums) ⌝ }
+    ensures { λ _ m. ⌜ Running z (now (uses .entry)) (now (choice .exit)) (now (sums .exit)) ⌝ }
+    ensures { λ t m. ⌜ now (choice .exit) ≡ phase2 t (now (choice .entry)) .last ⌝ }
+    ensures { λ t m. ⌜ m ≡ phase2 t (now (choice .entry)) .count ⌝ }
 {
     let mut picks: u64 = 0;
     loop {

@@ -5,6 +5,7 @@ ghost use mathlib.Core.Bool.{true};
 ghost use mathlib.Core.List.{List};
 ghost use lib.ListN.{getD, length};
 ghost use Rattle.base.specs.Over.{most};
+ghost use Rattle.rules.specs.Table.{Table};
 ghost use Rattle.rules.specs.Phases.{strategyAt, another, firstSingle, firstPair, change, phase3};
 use tables::Size;
 ghost use Rattle.tables.specs.declared.Size.{Size};
@@ -144,9 +145,11 @@ fn counts_one(
     i: usize,
     a: usize,
 ) -> bool
-    requires { ⌜ Benefits (now benefits) × Limits (now limits) × Running z (now uses) (now choice) (now sums) ⌝ }
-    requires { ⌜ (1 ≤ i) × (i ≤ z .segments) × (a ≤ z .strategies) ⌝ }
-    ensures { λ ok. ⌜ ok ≡ countsOne (tables z (now (benefits .entry)) (now (uses .entry)) (now (limits .entry))) (now (choice .entry)) i a ⌝ }
+    ghost { Table }
+    requires { λ t. ⌜ tables z (now benefits) (now uses) (now limits) ≡ t ⌝ }
+    requires { λ _. ⌜ Benefits (now benefits) × Limits (now limits) × Running z (now uses) (now choice) (now sums) ⌝ }
+    requires { λ _. ⌜ (1 ≤ i) × (i ≤ z .segments) × (a ≤ z .strategies) ⌝ }
+    ensures { λ t ok. ⌜ ok ≡ countsOne t (now (choice .entry)) i a ⌝ }
 {
     if tables::benefit(benefits, i, a) <= tables::chosen_benefit(benefits, choice, i) {
         return false;
@@ -190,8 +193,10 @@ fn first_one(
     choice: &[usize],
     sums: &[u64],
 ) -> Change
-    requires { ⌜ Benefits (now benefits) × Limits (now limits) × Running z (now uses) (now choice) (now sums) ⌝ }
-    ensures { λ x. ⌜ Found z (now (choice .entry)) x (firstSingle (tables z (now (benefits .entry)) (now (uses .entry)) (now (limits .entry))) (now (choice .entry))) ⌝ }
+    ghost { Table }
+    requires { λ t. ⌜ tables z (now benefits) (now uses) (now limits) ≡ t ⌝ }
+    requires { λ _. ⌜ Benefits (now benefits) × Limits (now limits) × Running z (now uses) (now choice) (now sums) ⌝ }
+    ensures { λ t x. ⌜ Found z (now (choice .entry)) x (firstSingle t (now (choice .entry))) ⌝ }
 {
     let mut found = Change::Nothing;
     let segments_end = z.segments + 1;
@@ -218,9 +223,11 @@ fn first_two(
     sums: &[u64],
     tops: &[u64],
 ) -> Change
-    requires { ⌜ Benefits (now benefits) × Limits (now limits) × Running z (now uses) (now choice) (now sums) ⌝ }
-    requires { ⌜ Tops z (now benefits) (now tops) ⌝ }
-    ensures { λ x. ⌜ Found z (now (choice .entry)) x (firstPair (tables z (now (benefits .entry)) (now (uses .entry)) (now (limits .entry))) (now (choice .entry))) ⌝ }
+    ghost { Table }
+    requires { λ t. ⌜ tables z (now benefits) (now uses) (now limits) ≡ t ⌝ }
+    requires { λ _. ⌜ Benefits (now benefits) × Limits (now limits) × Running z (now uses) (now choice) (now sums) ⌝ }
+    requires { λ _. ⌜ Tops z (now benefits) (now tops) ⌝ }
+    ensures { λ t x. ⌜ Found z (now (choice .entry)) x (firstPair t (now (choice .entry))) ⌝ }
 {
     let mut found = Change::Nothing;
     let segments_end = z.segments + 1;
@@ -266,9 +273,11 @@ fn first_change(
     sums: &[u64],
     tops: &[u64],
 ) -> Change
-    requires { ⌜ Benefits (now benefits) × Limits (now limits) × Running z (now uses) (now choice) (now sums) ⌝ }
-    requires { ⌜ Tops z (now benefits) (now tops) ⌝ }
-    ensures { λ x. ⌜ Found z (now (choice .entry)) x (change (tables z (now (benefits .entry)) (now (uses .entry)) (now (limits .entry))) (now (choice .entry))) ⌝ }
+    ghost { Table }
+    requires { λ t. ⌜ tables z (now benefits) (now uses) (now limits) ≡ t ⌝ }
+    requires { λ _. ⌜ Benefits (now benefits) × Limits (now limits) × Running z (now uses) (now choice) (now sums) ⌝ }
+    requires { λ _. ⌜ Tops z (now benefits) (now tops) ⌝ }
+    ensures { λ t x. ⌜ Found z (now (choice .entry)) x (change t (now (choice .entry))) ⌝ }
 {
     let one = first_one(z, benefits, uses, limits, choice, sums);
     if is_nothing(one) {
@@ -306,10 +315,12 @@ pub fn improve(
     choice: &mut [usize],
     sums: &mut [u64],
 ) -> u64
-    requires { ⌜ Benefits (now benefits) × Limits (now limits) × Running z (now uses) (now choice) (now sums) ⌝ }
-    ensures { λ _. ⌜ Running z (now (uses .entry)) (now (choice .exit)) (now (sums .exit)) ⌝ }
-    ensures { λ _. ⌜ now (choice .exit) ≡ phase3 (tables z (now (benefits .entry)) (now (uses .entry)) (now (limits .entry))) (now (choice .entry)) .last ⌝ }
-    ensures { λ n. ⌜ n ≡ phase3 (tables z (now (benefits .entry)) (now (uses .entry)) (now (limits .entry))) (now (choice .entry)) .count ⌝ }
+    ghost { Table }
+    requires { λ t. ⌜ tables z (now benefits) (now uses) (now limits) ≡ t ⌝ }
+    requires { λ _. ⌜ Benefits (now benefits) × Limits (now limits) × Running z (now uses) (now choice) (now sums) ⌝ }
+    ensures { λ _ _. ⌜ Running z (now (uses .entry)) (now (choice .exit)) (now (sums .exit)) ⌝ }
+    ensures { λ t _. ⌜ now (choice .exit) ≡ phase3 t (now (choice .entry)) .last ⌝ }
+    ensures { λ t n. ⌜ n ≡ phase3 t (now (choice .entry)) .count ⌝ }
 {
     let mut tops: [u64; 64] = [0; 64];
     fill_tops(z, benefits, &mut tops);

@@ -7,7 +7,7 @@ ghost use Rattle.laws.specs.Tables.{FitAlone};
 ghost use Rattle.rules.specs.Ceiling.{ceiling};
 ghost use Rattle.rules.specs.File.{inRange};
 ghost use Rattle.rules.specs.Plan.{programmeOf, noProgramme, planOf};
-ghost use Rattle.rules.specs.Table.{tableOf};
+ghost use Rattle.rules.specs.Table.{Table, tableOf};
 ghost use Rattle.tables.specs.Arrays.{tables, Tabled};
 use rules::District;
 use rules::Programme;
@@ -22,9 +22,11 @@ fn phases(
     shares: &[u64],
     bound: u64,
 ) -> Programme
-    requires { ⌜ Tabled z (now benefits) (now uses) (now limits) × FitAlone (tables z (now benefits) (now uses) (now limits)) × Shares z (now benefits) (now uses) (now limits) (now shares) ⌝ }
-    requires { ⌜ bound ≡ ceiling (tables z (now benefits) (now uses) (now limits)) ⌝ }
-    ensures { λ r. ⌜ r ≡ programmeOf (tables z (now (benefits .entry)) (now (uses .entry)) (now (limits .entry))) ⌝ }
+    ghost { Table }
+    requires { λ t. ⌜ tables z (now benefits) (now uses) (now limits) ≡ t ⌝ }
+    requires { λ t. ⌜ Tabled z (now benefits) (now uses) (now limits) × FitAlone t × Shares z (now benefits) (now uses) (now limits) (now shares) ⌝ }
+    requires { λ t. ⌜ bound ≡ ceiling t ⌝ }
+    ensures { λ t r. ⌜ r ≡ programmeOf t ⌝ }
 {
     let mut choice = [0usize; 64];
     let mut sums = [0u64; 16];
