@@ -16,9 +16,9 @@ use Rattle.base.proofs.Sums.{sum-bound, sum-change, sum-more, most-bound, most-
 use Rattle.rules.specs.Table.{Table}
 use Rattle.rules.specs.Ceiling.{priceAt, downShare, costBy, cost, net, margin, ceilingAt}
 use Rattle.laws.proofs.Give.{given, kept}
-use Rattle.tables.specs.Arrays.{entry}
+use Rattle.tables.specs.Arrays.{entry, useEntry}
 use Rattle.tables.specs.declared.Size.{Size}
-use Rattle.ceiling.specs.Prices.{shareEntry, In, Sized, shown, Prices, Costs, Trial}
+use Rattle.ceiling.specs.Prices.{In, Sized, shown, Prices, Costs, Trial}
 
 -- ---- resource r gets the price q
 
@@ -51,9 +51,9 @@ prices-small p prices n = sum-bound n (2 ^ 41) (priceAt p) (λ k l h. omega (ari
 -- ---- over arrays
 
 module _ (z : Size) (b d : List ℕ) where
-  pub share-is : (i j r : ℕ) → downShare (shown z b d) i j r ≡ getD d (shareEntry i j r) 0
+  pub share-is : (i j r : ℕ) → downShare (shown z b d) i j r ≡ getD d (useEntry i j r) 0
   unfolding downShare
-  share-is i j r = mul-div-cancel (getD d (shareEntry i j r) 0) (omega arith)
+  share-is i j r = mul-div-cancel (getD d (useEntry i j r) 0) (omega arith)
 
   module _ (sized : Sized z b d) where
     -- 16 × 2 ^ 41 × 10,000
@@ -92,7 +92,7 @@ module _ (z : Size) (b d p : List ℕ) (r price : ℕ) (m : Trial z b d p r pric
 
   module _ (i j : ℕ) (inside : In z i j) (worth : 0 < getD b (entry i j) 0) {c : ℕ} (old : c ≡ cost t p i j) where
     abbrev share : ℕ
-    share = getD d (shareEntry i j r) 0
+    share = getD d (useEntry i j r) 0
 
     change : cost t new i j + priceAt p r * share ≡ c + price * share
     change =

@@ -1,6 +1,6 @@
 -- What the search for the ceiling reads and keeps in arrays: benefits and down-shares, a price for each of 16 resources, and what each
 -- candidate costs at these prices.
-use Prim.Native.Nat.{ℕ, _+_, _-_, _*_, _^_, _≤_, _<_}
+use Prim.Native.Nat.{ℕ, _+_, _^_, _≤_, _<_}
 use mathlib.Core.Path.{_≡_}
 use mathlib.Core.List.{List}
 use lib.Dec.{ltb}
@@ -8,12 +8,8 @@ use lib.ListN.{getD, length}
 use Rattle.base.specs.Choice.{pick}
 use Rattle.rules.specs.Table.{Table}
 use Rattle.rules.specs.Ceiling.{downShare, cost, ceilingAt}
-use Rattle.tables.specs.Arrays.{entry}
+use Rattle.tables.specs.Arrays.{entry, useEntry}
 use Rattle.tables.specs.declared.Size.{Size}
-
--- where the down-share of resource r by strategy j on segment i stands
-abbrev pub shareEntry : ℕ → ℕ → ℕ → ℕ
-shareEntry i j r = 16 * entry i j + (r - 1)
 
 -- segment i and strategy j are of the sizes
 pub record In (z : Size) (i j : ℕ) : Type 0 where
@@ -28,7 +24,7 @@ pub record Priced (t : Table) (z : Size) (b d : List ℕ) : Type 0 where
   pub strategies : z .strategies ≡ t .strategies
   pub resources : z .resources ≡ t .resources
   pub benefits : (i j : ℕ) → In z i j → getD b (entry i j) 0 ≡ t .benefit i j
-  pub shares : (i j r : ℕ) → In z i j → 1 ≤ r → r ≤ z .resources → getD d (shareEntry i j r) 0 ≡ downShare t i j r
+  pub shares : (i j r : ℕ) → In z i j → 1 ≤ r → r ≤ z .resources → getD d (useEntry i j r) 0 ≡ downShare t i j r
 
 -- the sizes, and bounds under which no sum wraps: a candidate has no down-share above the whole limit
 pub record Sized (z : Size) (b d : List ℕ) : Type 0 where
@@ -39,7 +35,7 @@ pub record Sized (z : Size) (b d : List ℕ) : Type 0 where
   pub benefits-length : length b ≡ 768
   pub shares-length : length d ≡ 12_288
   pub benefit-small : (k : ℕ) → getD b k 0 < 2 ^ 40
-  pub share-small : (i j r : ℕ) → In z i j → 0 < getD b (entry i j) 0 → 1 ≤ r → r ≤ z .resources → getD d (shareEntry i j r) 0 ≤ 10_000
+  pub share-small : (i j r : ℕ) → In z i j → 0 < getD b (entry i j) 0 → 1 ≤ r → r ≤ z .resources → getD d (useEntry i j r) 0 ≤ 10_000
 
 -- a table with the arrays' benefits, whose uses are parts of limits of 10,000: its down-shares are the arrays'
 abbrev pub shown : Size → List ℕ → List ℕ → Table
@@ -49,7 +45,7 @@ shown z b d =
       strategies = z .strategies;
       resources = z .resources;
       benefit = λ i j. getD b (entry i j) 0;
-      usage = λ i j r. getD d (shareEntry i j r) 0;
+      usage = λ i j r. getD d (useEntry i j r) 0;
       limit = λ _. 10_000;
     }
 
@@ -72,7 +68,7 @@ pub record Trial (z : Size) (b d p : List ℕ) (r price : ℕ) : Type 0 where
   pub small : price < 2 ^ 41
 
 -- 16 prices, with room for a step of each
-pub record Room (step : ℕ) (p : List ℕ) : Type 0 where
+pub record Headroom (step : ℕ) (p : List ℕ) : Type 0 where
   pub places : length p ≡ 16
   pub room : (k : ℕ) → getD p k 0 + step < 2 ^ 41
 

@@ -6,7 +6,7 @@ ghost use lib.ListN.{set};
 ghost use Rattle.base.specs.Over.{sum};
 ghost use Rattle.rules.specs.Table.{Table};
 ghost use Rattle.rules.specs.Ceiling.{priceAt, margin, ceilingAt, priced, pricedAll, ceiling};
-ghost use Rattle.ceiling.specs.Prices.{Priced, Sized, shown, Prices, Costs, Trial, Room, Standing};
+ghost use Rattle.ceiling.specs.Prices.{Priced, Sized, shown, Prices, Costs, Trial, Headroom, Standing};
 
 fn larger(a: u64, b: u64) -> u64
     ensures { λ x. ⌜ x ≡ max a b ⌝ }
@@ -43,8 +43,8 @@ fn whole(z: Size, prices: &[u64]) -> u64
     10_000 * total
 }
 
-// The margin of segment i with the price of resource r at `price`. A strategy that gains no more than the best so far has left is passed
-// over, and so is one that is no candidate.
+// The margin of segment i with the price of resource r at `price`. A strategy whose benefit is no more than what the best so far
+// leaves is passed over, and so is one that is no candidate.
 fn margin_at(
     z: Size,
     benefits: &[u64],
@@ -190,7 +190,7 @@ fn price_all(
     present: u64,
     step: u64,
 ) -> u64
-    requires { ⌜ (Sized z (now benefits) (now downs)) × (Room step (now prices)) × (Standing z (now benefits) (now downs) (now prices) (now costs) present) ⌝ }
+    requires { ⌜ (Sized z (now benefits) (now downs)) × (Headroom step (now prices)) × (Standing z (now benefits) (now downs) (now prices) (now costs) present) ⌝ }
     ensures { λ x. ⌜ now (prices .exit) ≡ pricedAll (shown z (now (benefits .entry)) (now (downs .entry))) step (z .resources) (now (prices .entry)) ⌝ }
     ensures { λ x. ⌜ Standing z (now (benefits .entry)) (now (downs .entry)) (now (prices .exit)) (now (costs .exit)) x ⌝ }
 {

@@ -12,7 +12,7 @@ use Rattle.rules.specs.Phases.{share}
 use Rattle.rules.specs.Ceiling.{downShare}
 use Rattle.laws.specs.Tables.{FitAlone}
 use Rattle.tables.specs.declared.Size.{Size}
-use Rattle.tables.specs.Arrays.{entry, usageAt, limitAt, tables, Uses, Cell}
+use Rattle.tables.specs.Arrays.{useEntry, usageAt, limitAt, tables, Uses, Cell}
 use Rattle.tables.proofs.Arrays.{usage-at, limit-at}
 use Rattle.grammar.specs.Ranges.{Ranges}
 use Rattle.rules.specs.District.{District}
@@ -30,18 +30,18 @@ down-shares-length u l = listed-length (downShareEntry u l) 12_288 0
 
 module _ (z : Size) (b u l : List ℕ) (uses : Uses u) (i j r : ℕ) (cell : Cell i j) (low : 1 ≤ r) (high : r ≤ 16) where
   place : ℕ
-  place = 16 * entry i j + (r - 1)
+  place = useEntry i j r
 
   use-here : getD u (0 + place) 0 ≡ usageAt u i j r
   unfolding place
   use-here =
-      let e : 0 + (16 * entry i j + (r - 1)) ≡ 16 * entry i j + (r - 1) = omega arith in
+      let e : 0 + useEntry i j r ≡ useEntry i j r = omega arith in
       ap (λ n. getD u n 0) e ∙ usage-at uses i j r cell low high
 
   limit-here : getD l ((0 + place) % 16) 0 ≡ limitAt l r
   unfolding place
   limit-here =
-      let e : (0 + (16 * entry i j + (r - 1))) % 16 ≡ r - 1 = omega arith in
+      let e : (0 + useEntry i j r) % 16 ≡ r - 1 = omega arith in
       ap (λ n. getD l n 0) e ∙ sym (limit-at l r low high)
 
   -- i, j and r are within the arrays
@@ -49,11 +49,11 @@ module _ (z : Size) (b u l : List ℕ) (uses : Uses u) (i j r : ℕ) (cell : Cel
   unfolding place
   within = omega (arith, cell .low, cell .high, cell .number)
 
-  pub share-entry : getD (shareList u l) (16 * entry i j + (r - 1)) 0 ≡ share (tables z b u l) i j r
+  pub share-entry : getD (shareList u l) (useEntry i j r) 0 ≡ share (tables z b u l) i j r
   unfolding place shareList shareEntry share
   share-entry = listed-at 12_288 0 place (shareEntry u l) within ∙ ap₂ (λ a m. divideUp (a * 10_000) m) use-here limit-here
 
-  pub down-share-entry : getD (downShareList u l) (16 * entry i j + (r - 1)) 0 ≡ downShare (tables z b u l) i j r
+  pub down-share-entry : getD (downShareList u l) (useEntry i j r) 0 ≡ downShare (tables z b u l) i j r
   unfolding place downShareList downShareEntry downShare
   down-share-entry = listed-at 12_288 0 place (downShareEntry u l) within ∙ ap₂ (λ a m. a * 10_000 / m) use-here limit-here
 

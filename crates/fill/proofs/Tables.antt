@@ -1,5 +1,5 @@
 -- The arrays filled from a district hold its table. Assumes nothing.
-use Prim.Native.Nat.{ℕ, _+_, _-_, _*_, _/_, _%_, _^_, _≤_, _<_}
+use Prim.Native.Nat.{ℕ, _+_, _-_, _/_, _%_, _^_, _≤_, _<_}
 use mathlib.Core.Path.{_≡_, refl, ap, ap₂, sym, fun-ext, _∙_}
 use mathlib.Core.Bool.{Bool, true, false, _&&_, and-false, true≢false}
 use native.Mathlib.Omega.{arith}
@@ -15,7 +15,7 @@ use Rattle.rules.specs.Rating.{candidate}
 use Rattle.rules.specs.Table.{has, candidateBenefit, usageIn, limitIn, tableOf}
 use Rattle.laws.specs.Tables.{FitAlone}
 use Rattle.theorems.proofs.Entries.{table-fit}
-use Rattle.tables.specs.Arrays.{entry, benefitAt, usageAt, limitAt, tables, Tabled}
+use Rattle.tables.specs.Arrays.{entry, useEntry, benefitAt, usageAt, limitAt, tables, Tabled}
 use Rattle.rating.specs.Numbers.{Segment, Resource}
 use Rattle.rating.proofs.Entries.{between-in, has-within, resource-within, candidate-benefit-le, usage-in-le, limit-in-le}
 use Rattle.fill.specs.Lists.{sizeOf, benefitEntry, benefitList, usageEntry, usageList, limitList}
@@ -30,14 +30,14 @@ module _ (d : District) where
       let b : (0 + entry i j) % 12 ≡ j = omega arith in
       listed-at 768 0 (entry i j) (benefitEntry d) (omega arith) ∙ ap₂ (candidateBenefit d) a b
 
-  pub usage-entry : (i j r : ℕ) → Segment i → j ≤ 11 → Resource r → getD (usageList d) (16 * entry i j + (r - 1)) 0 ≡ usageIn d i j r
+  pub usage-entry : (i j r : ℕ) → Segment i → j ≤ 11 → Resource r → getD (usageList d) (useEntry i j r) 0 ≡ usageIn d i j r
   unfolding usageList usageEntry
   usage-entry i j r p q s =
-      let n = 0 + (16 * entry i j + (r - 1)) in
+      let n = 0 + useEntry i j r in
       let a : n / 192 + 1 ≡ i = omega arith in
       let b : n / 16 % 12 ≡ j = omega arith in
       let c : n % 16 + 1 ≡ r = omega arith in
-      listed-at 12_288 0 (16 * entry i j + (r - 1)) (usageEntry d) (omega arith) ∙ cc
+      listed-at 12_288 0 (useEntry i j r) (usageEntry d) (omega arith) ∙ cc
 
   pub limit-entry : (r : ℕ) → Resource r → getD (limitList d) (r - 1) 0 ≡ limitIn d r
   unfolding limitList
@@ -67,7 +67,7 @@ module _ (d : District) (ok : Ranges d) where
   unfolding usageAt usageIn
   usage-is i j r = go (between 1 64 i && (between 1 11 j && between 1 16 r)) refl
     where
-      go : (t : Bool) → (between 1 64 i && (between 1 11 j && between 1 16 r)) ≡ t → pick t (getD (usageList d) (16 * entry i j + (r - 1)) 0) 0 ≡ usageIn d i j r
+      go : (t : Bool) → (between 1 64 i && (between 1 11 j && between 1 16 r)) ≡ t → pick t (getD (usageList d) (useEntry i j r) 0) 0 ≡ usageIn d i j r
       go true e =
           let v = and-both (between 1 64 i) (between 1 11 j && between 1 16 r) e in
           let w = and-both (between 1 11 j) (between 1 16 r) (v .1) in

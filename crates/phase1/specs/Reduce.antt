@@ -1,5 +1,5 @@
 -- What the steps of phase 1 read and keep: shares at the places of uses, surpluses, and the weakest segment so far.
-use Prim.Native.Nat.{ℕ, _+_, _-_, _*_, _≤_}
+use Prim.Native.Nat.{ℕ, _-_, _*_, _≤_}
 use mathlib.Core.Path.{_≡_}
 use mathlib.Core.List.{List}
 use mathlib.Core.Bool.{Bool, _&&_, _||_}
@@ -10,12 +10,12 @@ use Rattle.rules.specs.Table.{Table}
 use Rattle.rules.specs.Phases.{strategyAt, share, surplus, pulls, ratio, lesserRatio}
 use Rattle.laws.specs.Tables.{FitAlone, OfCandidates}
 use Rattle.tables.specs.declared.Size.{Size}
-use Rattle.tables.specs.Arrays.{entry, tables, Benefits, Limits, Bounded, Chosen, Running}
+use Rattle.tables.specs.Arrays.{useEntry, tables, Benefits, Limits, Bounded, Chosen, Running}
 use Rattle.phase1.specs.declared.Weak.{Weak}
 
 -- what an array at the places of uses holds for resource r of strategy j on segment i
 abbrev pub shareAt : List ℕ → ℕ → ℕ → ℕ → ℕ
-shareAt s i j r = getD s (16 * entry i j + (r - 1)) 0
+shareAt s i j r = getD s (useEntry i j r) 0
 
 -- by such an array, the share of segment i's strategy in resource r, and by an array of surpluses what it adds to the pull
 abbrev pub heldShare : List ℕ → List ℕ → ℕ → ℕ → ℕ

@@ -1,5 +1,5 @@
 -- Laws of the search for changes: what raises nothing is no change, and how the nested loops find the first.
-use Prim.Native.Nat.{ℕ, zero, suc, _+_, _-_, _^_, _≤_, _<_}
+use Prim.Native.Nat.{ℕ, zero, suc, _+_, _^_, _≤_, _<_}
 use mathlib.Core.Path.{_≡_, refl, sym, ap, _∙_}
 use mathlib.Core.Bool.{Bool, true, false, and-false, or-true, true≢false}
 use mathlib.Core.List.{List}

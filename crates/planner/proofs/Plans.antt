@@ -17,12 +17,12 @@ use Rattle.theorems.proofs.Promises.{few-steps}
 use Rattle.laws.specs.Tables.{FitAlone, OfCandidates}
 use Rattle.laws.proofs.Steps.{start-allowed}
 use Rattle.grammar.specs.Ranges.{Ranges}
-use Rattle.tables.specs.Arrays.{entry, tables, benefitAt, Cell}
+use Rattle.tables.specs.Arrays.{entry, useEntry, tables, benefitAt, Cell}
 use Rattle.tables.specs.declared.Size.{Size}
 use Rattle.tables.proofs.Arrays.{benefit-at, cell-of}
 use Rattle.fill.specs.Filled.{Filled}
 use Rattle.fill.proofs.Shares.{down-share-le}
-use Rattle.ceiling.specs.Prices.{shareEntry, In, Priced, Sized}
+use Rattle.ceiling.specs.Prices.{In, Priced, Sized}
 use Rattle.phase1.specs.Reduce.{Shares}
 
 module _ {d : District} (ranges : Ranges d) {z : Size} {b u l s e : List ℕ} (filled : Filled d z b u l s e) where
@@ -40,7 +40,7 @@ module _ {d : District} (ranges : Ranges d) {z : Size} {b u l s e : List ℕ} (f
   entry-is : (i j : ℕ) → In z i j → getD b (entry i j) 0 ≡ benefitAt b i j
   entry-is i j within = benefit-at (filled .tabled .benefits) i j (inside within)
 
-  down-is : (i j r : ℕ) → In z i j → 1 ≤ r → r ≤ z .resources → getD e (shareEntry i j r) 0 ≡ downShare (tables z b u l) i j r
+  down-is : (i j r : ℕ) → In z i j → 1 ≤ r → r ≤ z .resources → getD e (useEntry i j r) 0 ≡ downShare (tables z b u l) i j r
   down-is i j r within from to = filled .downs i j r (inside within) from (omega (arith, filled .tabled .bounded .resources))
 
   pub priced : Priced (tables z b u l) z b e

@@ -1,5 +1,5 @@
 -- What arrays that hold a table give: its entries at their places, and bounds.
-use Prim.Native.Nat.{ℕ, zero, suc, _+_, _-_, _*_, _^_, _≤_, _<_}
+use Prim.Native.Nat.{ℕ, zero, suc, _-_, _*_, _^_, _≤_, _<_}
 use mathlib.Core.Path.{_≡_}
 use mathlib.Core.Bool.{_&&_, and-false}
 use mathlib.Core.List.{List}
@@ -11,7 +11,7 @@ use Rattle.base.proofs.Choice.{pick-all, between-yes}
 use Rattle.base.proofs.Sums.{sum-bound}
 use Rattle.rules.specs.Phases.{strategyAt, chosenBenefit, total, chosenUsage, used}
 use Rattle.tables.specs.declared.Size.{Size}
-use Rattle.tables.specs.Arrays.{entry, benefitAt, usageAt, limitAt, tables, Benefits, Uses, Bounded, Cell}
+use Rattle.tables.specs.Arrays.{entry, useEntry, benefitAt, usageAt, limitAt, tables, Benefits, Uses, Bounded, Cell}
 
 -- ---- what an array holds is the table's entry
 
@@ -20,7 +20,7 @@ unfolding benefitAt
 benefit-at held i zero cell = rw (between-yes 1 64 i (cell .low) (cell .high)) (held .nothing i (cell .low) (cell .high))
 benefit-at held i (suc j) cell = rw (between-yes 1 64 i (cell .low) (cell .high), between-yes 1 11 (suc j) (omega arith) (cell .number))
 
-pub usage-at : {u : List ℕ} → Uses u → (i j r : ℕ) → Cell i j → 1 ≤ r → r ≤ 16 → getD u (16 * entry i j + (r - 1)) 0 ≡ usageAt u i j r
+pub usage-at : {u : List ℕ} → Uses u → (i j r : ℕ) → Cell i j → 1 ≤ r → r ≤ 16 → getD u (useEntry i j r) 0 ≡ usageAt u i j r
 unfolding usageAt
 usage-at held i zero r cell l h = rw (between-yes 1 64 i (cell .low) (cell .high)) (held .nothing i r (cell .low) (cell .high) l h)
 usage-at held i (suc j) r cell l h =
@@ -49,7 +49,7 @@ benefit-lt {b} held i j =
 pub usage-lt : {u : List ℕ} → Uses u → (i j r : ℕ) → usageAt u i j r < 2 ^ 41
 unfolding usageAt
 usage-lt {u} held i j r =
-    pick-all (λ (n : ℕ). n < 2 ^ 41) (between 1 64 i && (between 1 11 j && between 1 16 r)) (getD u (16 * entry i j + (r - 1)) 0) 0 (held .small (16 * entry i j + (r - 1))) (lit< tt)
+    pick-all (λ (n : ℕ). n < 2 ^ 41) (between 1 64 i && (between 1 11 j && between 1 16 r)) (getD u (useEntry i j r) 0) 0 (held .small (useEntry i j r)) (lit< tt)
 
 -- the benefit of the first n segments, and what they use of resource r
 pub benefits-le : {b : List ℕ} → Benefits b → (c : List ℕ) (n : ℕ) → sum n (λ i. benefitAt b i (strategyAt c i)) ≤ n * 2 ^ 40

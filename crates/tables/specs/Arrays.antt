@@ -14,11 +14,15 @@ use Rattle.tables.specs.declared.Size.{Size}
 abbrev pub entry : ℕ → ℕ → ℕ
 entry i j = 12 * (i - 1) + j
 
+-- and its use of resource r
+abbrev pub useEntry : ℕ → ℕ → ℕ → ℕ
+useEntry i j r = 16 * entry i j + (r - 1)
+
 unfoldable pub benefitAt : List ℕ → ℕ → ℕ → ℕ
 benefitAt b i j = pick (between 1 64 i && between 1 11 j) (getD b (entry i j) 0) 0
 
 unfoldable pub usageAt : List ℕ → ℕ → ℕ → ℕ → ℕ
-usageAt u i j r = pick (between 1 64 i && (between 1 11 j && between 1 16 r)) (getD u (16 * entry i j + (r - 1)) 0) 0
+usageAt u i j r = pick (between 1 64 i && (between 1 11 j && between 1 16 r)) (getD u (useEntry i j r) 0) 0
 
 unfoldable pub limitAt : List ℕ → ℕ → ℕ
 limitAt l r = pick (between 1 16 r) (getD l (r - 1) 0) 0
@@ -43,7 +47,7 @@ pub record Benefits (b : List ℕ) : Type 0 where
 pub record Uses (u : List ℕ) : Type 0 where
   pub places : length u ≡ 12_288
   pub small : (k : ℕ) → getD u k 0 < 2 ^ 41
-  pub nothing : (i r : ℕ) → 1 ≤ i → i ≤ 64 → 1 ≤ r → r ≤ 16 → getD u (16 * entry i 0 + (r - 1)) 0 ≡ 0
+  pub nothing : (i r : ℕ) → 1 ≤ i → i ≤ 64 → 1 ≤ r → r ≤ 16 → getD u (useEntry i 0 r) 0 ≡ 0
 
 pub record Limits (l : List ℕ) : Type 0 where
   pub places : length l ≡ 16
