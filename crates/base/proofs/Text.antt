@@ -9,7 +9,7 @@ use lib.ListN.{length, take, drop, length-append, length-drop}
 use borrow.Author.Tests.{lt-ltb, le-ltb}
 use borrow.Rule.Slice.PartMut.{putMid}
 use Rattle.base.specs.Choice.{pick}
-use Rattle.base.specs.Text.{digitsOf, decimal, Put}
+use Rattle.base.specs.Text.{digitsOf, mostDigits, decimal, Put}
 use Rattle.base.proofs.Choice.{pick-all}
 use Rattle.base.proofs.Buffers.{Written, whole-tail, written-front, written-more, written-all, tail-room}
 
@@ -47,9 +47,9 @@ digits-few (suc k) n =
     let some = digits-few k (n / 10) in
     pick-all (λ (l : List ℕ). length l ≤ suc k) (ltb n 10) ((48 + n) ∷ []) (digitsOf k (n / 10) ++ ((48 + n % 10) ∷ [])) (omega arith) (simp length-append (omega arith))
 
-pub decimal-few : (n : ℕ) → length (decimal n) ≤ 20
+pub decimal-few : (n : ℕ) → length (decimal n) ≤ mostDigits
 unfolding decimal
-decimal-few n = digits-few 20 n
+decimal-few n = digits-few mostDigits n
 
 -- ---- pieces
 

@@ -1,12 +1,14 @@
 -- Text as bytes, and numbers in base ten.
-use Prim.Native.Nat.{ℕ, zero, suc, _+_, _/_, _%_}
+use Prim.Native.Nat.{ℕ, zero, suc, _+_, _-_, _*_, _/_, _%_, _≤_}
 use Prim.Native.Char.{code}
 use Prim.Native.String.{String, [] as []ˢ, _∷_ as _∷ˢ_}
 use mathlib.Core.List.{List, [], _∷_, _++_}
+use mathlib.Core.Option.{Option, none, some}
 use mathlib.Core.Path.{_≡_}
 use lib.Dec.{ltb}
-use lib.ListN.{length, drop}
+use lib.ListN.{length, getD, drop}
 use Rattle.base.specs.Choice.{pick}
+use Rattle.base.specs.Over.{between}
 
 -- the bytes of a text of plain letters
 unfoldable pub text : String → List ℕ
@@ -18,9 +20,24 @@ unfoldable pub digitsOf : ℕ → ℕ → List ℕ
 digitsOf zero n = []
 digitsOf (suc k) n = pick (ltb n 10) ((48 + n) ∷ []) (digitsOf k (n / 10) ++ ((48 + n % 10) ∷ []))
 
--- a number of 64 bits has at most 20
+-- of a number of 64 bits
+abbrev pub mostDigits : ℕ
+mostDigits = 20
+
 unfoldable pub decimal : ℕ → List ℕ
-decimal n = digitsOf 20 n
+decimal n = digitsOf mostDigits n
+
+-- what digits stand for, read from the first to the last, after v; nothing for another byte
+unfoldable pub valueFrom : ℕ → List ℕ → Option ℕ
+valueFrom v [] = some v
+valueFrom v (b ∷ bs) = pick (between 48 57 b) (valueFrom (v * 10 + (b - 48)) bs) none
+
+-- bs is the one way to write n in base ten: read back it is n; the first digit is no 0, but for the number 0, which is
+-- that digit alone
+pub record Writes (bs : List ℕ) (n : ℕ) : Type 0 where
+  pub value : valueFrom 0 bs ≡ some n
+  pub first : 1 ≤ n → 49 ≤ getD bs 0 0
+  pub alone : n ≡ 0 → bs ≡ 48 ∷ []
 
 -- bs is written over the front of a buffer that held `old` and then holds `new`; n counts the bytes
 pub record Put (bs old new : List ℕ) (n : ℕ) : Type 0 where

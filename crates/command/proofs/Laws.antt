@@ -1,47 +1,36 @@
 -- Laws of the reading of a line: one byte more, one number more. Assumes nothing.
 use Prim.Native.Nat.{ℕ, zero, suc, _+_, _-_, _*_, _^_, _≤_, _<_}
-use mathlib.Core.Bool.{Bool, true, false, _&&_, true≢false}
+use mathlib.Core.Bool.{Bool, true, false, _&&_, and-false}
 use mathlib.Core.List.{List, [], _∷_, _++_, append-nil, append-assoc}
 use mathlib.Core.Option.{Option, none, some}
-use mathlib.Core.Path.{_≡_, refl, sym, ap, _∙_}
+use mathlib.Core.Path.{_≡_, refl, sym, ap, _∙_, fun-ext}
 use native.Mathlib.Numerals.{add-one}
 use native.Mathlib.Omega.{arith}
 use lib.Dec.{leb, eqb}
-use lib.ListN.{length, getD, take, drop, length-append, length-drop}
-use lib.Seq.{drop-cons, getD-take, take-at, drop-at}
+use lib.ListN.{length, getD, take, drop, set, replicate, length-append, length-drop}
+use lib.Seq.{drop-cons, drop-drop, drop-set-lt, getD-drop, take-at, drop-at}
 use borrow.Author.Tests.{lt-ltb, le-ltb, le-leb, lt-leb, eq-eqb, ne-eqb, leb-true, leb-false}
 use Rattle.base.specs.Choice.{pick, only}
-use Rattle.command.specs.Reading.{begins, isOf, every, wordOf, restOf, numberIn, numberFrom, firstNumber, afterNumber, withNumber, arguments, numbersOf, made}
-use Rattle.command.specs.declared.Arguments.{Arguments}
+use Rattle.base.proofs.Choice.{and-both}
+use Rattle.command.specs.Reading.{same, isOf, every, wordOf, restOf, numberIn, numberFrom, firstNumber, afterNumber, withNumber, arguments, at, placed, pathOf, countOf}
 use Rattle.command.specs.declared.Kind.{Kind}
-use Rattle.command.specs.declared.Name.{Name}
-use Rattle.command.specs.declared.Name.the-variants.{Show, Bar, Unbar, Limit, Rating, Points}
+use Rattle.command.specs.declared.Row.{Row}
 
 drop-next : (bs : List ℕ) (i : ℕ) → i < length bs → drop i bs ≡ getD bs i 0 ∷ drop (i + 1) bs
 drop-next bs i h = rw (add-one) (drop-cons bs i 0 h)
 
 -- ---- bytes
 
-pub begins-next : (ws bs : List ℕ) (i : ℕ) → i < length ws → i < length bs → begins (drop i ws) (drop i bs) ≡ (eqb (getD bs i 0) (getD ws i 0) && begins (drop (i + 1) ws) (drop (i + 1) bs))
-unfolding begins
-begins-next ws bs i h k = rw (drop-next ws i h, drop-next bs i k)
+pub same-next : (xs bs : List ℕ) (i : ℕ) → i < length xs → i < length bs → same (drop i xs) (drop i bs) ≡ (eqb (getD xs i 0) (getD bs i 0) && same (drop (i + 1) xs) (drop (i + 1) bs))
+unfolding same
+same-next xs bs i h k = rw (drop-next xs i h, drop-next bs i k)
 
-and-false : (t : Bool) → (t && false) ≡ false
-and-false true = refl
-and-false false = refl
-
-pub begins-short : (ws bs : List ℕ) → length bs < length ws → begins ws bs ≡ false
-unfolding begins
-begins-short [] bs h = absurd (omega arith)
-begins-short (w ∷ ws) [] h = refl
-begins-short (w ∷ ws) (b ∷ bs) h = rw (begins-short ws bs (omega arith)) (and-false (eqb b w))
-
-pub begins-fits : (ws bs : List ℕ) → begins ws bs ≡ true → length ws ≤ length bs
-begins-fits ws bs e = go (leb (length ws) (length bs)) refl
-  where
-    go : (t : Bool) → leb (length ws) (length bs) ≡ t → length ws ≤ length bs
-    go true l = leb-true _ _ l
-    go false l = absurd (true≢false (sym e ∙ begins-short ws bs (leb-false _ _ l)))
+pub same-unlike : (xs bs : List ℕ) → ¬ (length xs ≡ length bs) → same xs bs ≡ false
+unfolding same
+same-unlike [] [] h = absurd (h refl)
+same-unlike [] (b ∷ bs) h = refl
+same-unlike (x ∷ xs) [] h = refl
+same-unlike (x ∷ xs) (b ∷ bs) h = rw (same-unlike xs bs (λ e. h (ap suc e))) (and-false (eqb x b))
 
 pub every-next : (kind : Kind) (bs : List ℕ) (i : ℕ) → i < length bs → every kind (drop i bs) ≡ (isOf kind (getD bs i 0) && every kind (drop (i + 1) bs))
 unfolding every
@@ -60,11 +49,15 @@ word-rest (b ∷ bs) = go (word-rest bs) (eqb b 32)
     go e true = refl
     go e false = ap (λ (l : List ℕ). b ∷ l) e
 
-pub word-taken : (bs : List ℕ) → take (length (wordOf bs)) bs ≡ wordOf bs
-word-taken bs = ap (take (length (wordOf bs))) (sym (word-rest bs)) ∙ take-at (wordOf bs) (restOf bs) (length (wordOf bs)) refl
+pub word-taken : (bs : List ℕ) (n : ℕ) → n ≡ length (wordOf bs) → take n bs ≡ wordOf bs
+word-taken bs n e = ap (take n) (sym (word-rest bs)) ∙ take-at (wordOf bs) (restOf bs) n (sym e)
 
-pub word-dropped : (bs : List ℕ) → drop (length (wordOf bs)) bs ≡ restOf bs
-word-dropped bs = ap (drop (length (wordOf bs))) (sym (word-rest bs)) ∙ drop-at (wordOf bs) (restOf bs) (length (wordOf bs)) refl
+pub word-dropped : (bs : List ℕ) (n : ℕ) → n ≡ length (wordOf bs) → drop n bs ≡ restOf bs
+word-dropped bs n e = ap (drop n) (sym (word-rest bs)) ∙ drop-at (wordOf bs) (restOf bs) n (sym e)
+
+-- a slice that holds it is as long
+pub word-size : (bs : List ℕ) (n : ℕ) → n ≡ length (wordOf bs) → n ≡ length (take n bs)
+word-size bs n e = e ∙ sym (ap length (word-taken bs n e))
 
 pub word-fits : (bs : List ℕ) → length (wordOf bs) ≤ length bs
 word-fits bs = omega (arith, ap length (word-rest bs), length-append (wordOf bs) (restOf bs))
@@ -150,29 +143,54 @@ arguments-end line at vs = go (leb (length line) at) refl
         let h = leb-false (length line) at l in
         rw (ne-eqb (length (drop at line)) 0 (λ e. omega (arith, length-drop at line)))
 
+-- ---- numbers by their places
+
+-- 0 from place n on
+abbrev pub Blank : ℕ → List ℕ → Type 0
+Blank n vs = (k : ℕ) → getD (drop n vs) k 0 ≡ 0
+
+pub blank-all : (n : ℕ) → Blank 0 (replicate n 0)
+blank-all zero k = refl
+blank-all (suc n) zero = refl
+blank-all (suc n) (suc k) = blank-all n k
+
+pub blank-set : (vs : List ℕ) (n v : ℕ) → Blank n vs → Blank (n + 1) (set vs n v)
+blank-set vs n v h k = ap (λ (l : List ℕ). getD l k 0) (drop-set-lt (n + 1) vs n v (omega arith) ∙ sym (drop-drop 1 n vs)) ∙ getD-drop 1 (drop n vs) k 0 ∙ h (1 + k)
+
+-- the numbers up to there say all
+pub at-front : (n : ℕ) (vs : List ℕ) → Blank n vs → at vs ≡ at (take n vs)
+at-front n vs h = fun-ext (go n vs h)
+  where
+    go : (n : ℕ) (vs : List ℕ) → Blank n vs → (k : ℕ) → at vs k ≡ at (take n vs) k
+    go zero vs h k = h k
+    go (suc n) [] h k = refl
+    go (suc n) (v ∷ vs) h zero = refl
+    go (suc n) (v ∷ vs) h (suc k) = go n vs h k
+
+pub placed-only : (t : Bool) (vs : List ℕ) → placed (only t vs) ≡ only t (at vs)
+unfolding placed
+placed-only true vs = refl
+placed-only false vs = refl
+
+-- ---- paths
+
+pub path-drop : (line : List ℕ) (n : ℕ) → n ≡ length (wordOf line) → drop (n + 1) line ≡ pathOf line
+unfolding pathOf
+path-drop line n e = sym (drop-drop 1 n line) ∙ ap (drop 1) (word-dropped line n e)
+
+-- it is no longer than its line
+pub path-fits : (line : List ℕ) → length (pathOf line) ≤ length line
+path-fits line = omega (arith, ap length (path-drop line (length (wordOf line)) refl), length-drop (length (wordOf line) + 1) line)
+
 -- ---- commands
 
-abbrev pub countOf : Name → ℕ
-countOf Show = 0
-countOf Bar = 2
-countOf Unbar = 2
-countOf Limit = 2
-countOf Rating = 3
-countOf Points = 4
+-- no command takes more than 4 numbers
+unfoldable pub few : List Row → Bool
+few [] = true
+few (r ∷ rs) = leb (countOf (r .2)) 4 && few rs
 
--- a command looks at no number behind those that it takes
-pub made-few : (name : Name) (a : Arguments) → made name (numbersOf (countOf name) a) ≡ made name (only (a .fit) (a .numbers))
-unfolding made numbersOf
-made-few name a = go name (a .fit)
-  where
-    few : (n i : ℕ) → i < n → getD (take n (a .numbers)) i 0 ≡ getD (a .numbers) i 0
-    few n i h = getD-take n (a .numbers) i 0 h
-
-    go : (name : Name) (t : Bool) → made name (only t (take (countOf name) (a .numbers))) ≡ made name (only t (a .numbers))
-    go name false = refl
-    go Show true = refl
-    go Bar true = rw (few 2 0 (omega arith), few 2 1 (omega arith))
-    go Unbar true = rw (few 2 0 (omega arith), few 2 1 (omega arith))
-    go Limit true = rw (few 2 0 (omega arith), few 2 1 (omega arith))
-    go Rating true = rw (few 3 0 (omega arith), few 3 1 (omega arith), few 3 2 (omega arith))
-    go Points true = rw (few 4 0 (omega arith), few 4 1 (omega arith), few 4 2 (omega arith), few 4 3 (omega arith))
+pub few-next : {rs rest : List Row} {r : Row} → rs ≡ r ∷ rest → few rs ≡ true → (countOf (r .2) ≤ 4) × (few rest ≡ true)
+unfolding few
+few-next {rest = rest} {r = r} e h =
+    let p = and-both (leb (countOf (r .2)) 4) (few rest) (sym (ap few e) ∙ h) in
+    (leb-true _ _ (p .0), p .1)

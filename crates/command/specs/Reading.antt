@@ -1,13 +1,15 @@
 -- A line of the panel as a command, for any bytes at all.
 use Prim.Native.Nat.{ℕ, zero, suc, _+_, _-_, _*_, _^_}
+use Prim.Native.String.{String}
 use mathlib.Core.Bool.{Bool, true, false, not, _&&_, _||_}
-use mathlib.Core.List.{List, [], _∷_}
+use mathlib.Core.List.{List, [], _∷_, _++_}
 use mathlib.Core.Option.{Option, none, some}
 use lib.Dec.{ltb, eqb}
-use lib.ListN.{length, getD, take, drop}
+use lib.ListN.{length, getD, take, drop, replicate}
 use Rattle.base.specs.Choice.{pick, only}
 use Rattle.base.specs.Over.{between}
 use Rattle.base.specs.Text.{text}
+use Rattle.rules.specs.declared.Edit.the-variants.{Bar, Unbar, SetLimit, SetRating}
 use Rattle.command.specs.declared.Arguments.{Arguments}
 use Rattle.command.specs.declared.Command as Command
 use Rattle.command.specs.declared.Command.{Command}
@@ -17,14 +19,18 @@ use Rattle.command.specs.declared.Name as Name
 use Rattle.command.specs.declared.Name.{Name}
 use Rattle.command.specs.declared.Number.{Number}
 use Rattle.command.specs.declared.Number.the-variants.{Is, Not}
+use Rattle.command.specs.declared.Row.{Row}
+use Rattle.command.specs.declared.Takes.{Takes}
+use Rattle.command.specs.declared.Takes.the-variants.{Numbers, Path}
 
 -- ---- bytes
 
--- the bytes begin with a word
-unfoldable pub begins : List ℕ → List ℕ → Bool
-begins [] bs = true
-begins (w ∷ ws) [] = false
-begins (w ∷ ws) (b ∷ bs) = eqb b w && begins ws bs
+-- the same bytes, as many of them
+unfoldable pub same : List ℕ → List ℕ → Bool
+same [] [] = true
+same [] (b ∷ bs) = false
+same (x ∷ xs) [] = false
+same (x ∷ xs) (b ∷ bs) = eqb x b && same xs bs
 
 -- a blank, a tab or a carriage return
 unfoldable pub isSpace : ℕ → Bool
@@ -78,41 +84,84 @@ unfoldable pub arguments : ℕ → List ℕ → Option (List ℕ)
 arguments zero bs = pick (eqb (length bs) 0) (some []) none
 arguments (suc n) bs = withNumber (firstNumber bs) (arguments n (afterNumber bs))
 
--- ---- commands
+-- numbers by their places, from 0; 0 behind the last
+abbrev pub at : List ℕ → ℕ → ℕ
+at vs i = getD vs i 0
+
+unfoldable pub placed : Option (List ℕ) → Option (ℕ → ℕ)
+placed none = none
+placed (some vs) = some (at vs)
+
+-- ---- paths
+
+-- what follows the first word and its blank
+unfoldable pub pathOf : List ℕ → List ℕ
+pathOf line = drop 1 (restOf line)
 
 -- a path is 1 to 255 bytes without a 0
 unfoldable pub isPath : List ℕ → Bool
 isPath path = between 1 255 (length path) && every Named path
 
-unfoldable pub made : Name → Option (List ℕ) → Command
-made name none = Command.Unknown
-made Name.Show (some vs) = Command.Show
-made Name.Bar (some vs) = Command.Bar (getD vs 0 0) (getD vs 1 0)
-made Name.Unbar (some vs) = Command.Unbar (getD vs 0 0) (getD vs 1 0)
-made Name.Limit (some vs) = Command.Limit (getD vs 0 0) (getD vs 1 0)
-made Name.Rating (some vs) = Command.Rating (getD vs 0 0) (getD vs 1 0) (getD vs 2 0)
-made Name.Points (some vs) = Command.Points (getD vs 0 0) (getD vs 1 0) (getD vs 2 0) (getD vs 3 0)
+-- ---- commands
 
--- with numbers: a name and as many of them as it takes
-unfoldable pub called : List ℕ → Command
-called line =
-    pick (begins (text "show") line) (made Name.Show (arguments 0 (drop 4 line)))
-    (pick (begins (text "bar") line) (made Name.Bar (arguments 2 (drop 3 line)))
-    (pick (begins (text "unbar") line) (made Name.Unbar (arguments 2 (drop 5 line)))
-    (pick (begins (text "limit") line) (made Name.Limit (arguments 2 (drop 5 line)))
-    (pick (begins (text "rating") line) (made Name.Rating (arguments 3 (drop 6 line)))
-    (pick (begins (text "points") line) (made Name.Points (arguments 4 (drop 6 line)))
-    Command.Unknown)))))
+-- a row of the table: a word, with blanks behind it up to 8 bytes; what it names; and what it takes, which stands behind it
+unfoldable pub row : String → Name → Takes → Row
+row word name takes = record { 0 = take 8 (text word ++ replicate 8 32); 1 = name; 2 = takes }
 
--- with a path: what follows the name and one blank
+-- every word that there is
+unfoldable pub rows : List Row
+rows =
+    row "load" Name.Load Path
+    ∷ row "export" Name.Export Path
+    ∷ row "bar" Name.Bar (Numbers 2)
+    ∷ row "unbar" Name.Unbar (Numbers 2)
+    ∷ row "limit" Name.Limit (Numbers 2)
+    ∷ row "rating" Name.Rating (Numbers 3)
+    ∷ row "show" Name.Show (Numbers 0)
+    ∷ row "points" Name.Points (Numbers 4)
+    ∷ []
+
+-- the command of a name, with its numbers
+abbrev pub made : Name → (ℕ → ℕ) → Command
+made Name.Load v = Command.Load
+made Name.Export v = Command.Export
+made Name.Bar v = Command.Alter (Bar (v 0) (v 1))
+made Name.Unbar v = Command.Alter (Unbar (v 0) (v 1))
+made Name.Limit v = Command.Alter (SetLimit (v 0) (v 1))
+made Name.Rating v = Command.Alter (SetRating (v 0) (v 1) (v 2))
+made Name.Show v = Command.Show
+made Name.Points v = Command.Points (v 0) (v 1) (v 2) (v 3)
+
+-- the numbers that stand behind the first word, where what stands there is what the word takes; a path has none
+unfoldable pub taken : Takes → List ℕ → Option (ℕ → ℕ)
+taken (Numbers n) line = placed (arguments n (restOf line))
+taken Path line = only (isPath (pathOf line)) (at [])
+
+-- a word without what it takes is no command
+unfoldable pub meant : Name → Option (ℕ → ℕ) → Command
+meant name none = Command.Unknown
+meant name (some v) = made name v
+
+-- by the row whose word is the line's first
+unfoldable pub called : List Row → List ℕ → Command
+called [] line = Command.Unknown
+called (r ∷ rs) line =
+    pick (same (wordOf line) (wordOf (r .0))) (meant (r .1) (taken (r .2) line)) (called rs line)
+
+-- it begins with "#"
+unfoldable pub isComment : List ℕ → Bool
+isComment line = eqb (at line 0) 35
+
+-- a longer line is no command
+abbrev pub longestLine : ℕ
+longestLine = 512
+
 unfoldable pub commandIn : List ℕ → Command
 commandIn line =
-    pick (begins (text "#") line) Command.Nothing
-    (pick (ltb 512 (length line)) Command.Unknown
+    pick (isComment line) Command.Nothing
+    (pick (ltb longestLine (length line)) Command.Unknown
     (pick (every Space line) Command.Nothing
-    (pick (begins (text "load ") line) (pick (isPath (drop 5 line)) Command.Load Command.Unknown)
-    (pick (begins (text "export ") line) (pick (isPath (drop 7 line)) Command.Export Command.Unknown)
-    (called line)))))
+    (called rows line)))
 
 -- ---- what the answers of the code stand for
 
@@ -120,5 +169,10 @@ unfoldable pub numberOf : Number → Option ℕ
 numberOf (Is v) = some v
 numberOf Not = none
 
-unfoldable pub numbersOf : ℕ → Arguments → Option (List ℕ)
-numbersOf n a = only (a .fit) (take n (a .numbers))
+unfoldable pub numbersOf : Arguments → Option (ℕ → ℕ)
+numbersOf a = only (a .fit) (at (a .numbers))
+
+-- how many numbers a word takes
+abbrev pub countOf : Takes → ℕ
+countOf (Numbers n) = n
+countOf Path = 0

@@ -1,34 +1,58 @@
 // A line of the panel as a command, for any bytes at all and any number of them.
 ghost use mathlib.Core.Path.{_≡_};
-ghost use Prim.Native.Nat.{_≤_};
+ghost use mathlib.Core.List.{_∷_};
+ghost use Prim.Native.Nat.{_+_, _≤_, _<_};
 ghost use lib.ListN.{length, drop};
-ghost use Rattle.base.specs.Choice.{pick, only};
-ghost use Rattle.command.specs.Reading.{begins as Reading·begins, every as Reading·every, isSpace, isOf, wordOf, numberIn, firstNumber, afterNumber, arguments, isPath, made, called as Reading·called, commandIn, numberOf, numbersOf};
+ghost use Rattle.command.specs.Reading.{same as Reading·same, every as Reading·every, isSpace, isOf, wordOf, numberIn, firstNumber, afterNumber, arguments, at, placed, pathOf, isPath, rows, made, taken, meant, called as Reading·called, isComment, commandIn, numberOf, numbersOf, countOf};
+use rules::Edit;
+
+// A longer line is no command, unless it is to be passed over.
+pub const LONGEST_LINE: usize = 512;
 
 pub enum Command {
     // A line to pass over, and one that is no command.
     Nothing,
     Unknown,
-    // The path is the rest of the line, from byte 5 and from byte 7.
+    // The path is what `path` finds in its line.
     Load,
     Export,
-    Bar(usize, usize),
-    Unbar(usize, usize),
-    Limit(usize, usize),
-    Rating(usize, usize, usize),
+    Alter(Edit),
     Show,
     Points(usize, usize, usize, usize),
 }
 
-// The commands that take numbers.
 pub enum Name {
-    Show,
+    Load,
+    Export,
     Bar,
     Unbar,
     Limit,
     Rating,
+    Show,
     Points,
 }
+
+// What a word takes: so many numbers, or a path.
+pub enum Takes {
+    Numbers(usize),
+    Path,
+}
+
+// A word, with blanks behind it up to 8 bytes; what it names; and what it takes.
+pub struct Row(pub [u8; 8], pub Name, pub Takes);
+
+const WORDS: usize = 8;
+
+const ROWS: [Row; WORDS] = [
+    Row(*b"load    ", Name::Load, Takes::Path),
+    Row(*b"export  ", Name::Export, Takes::Path),
+    Row(*b"bar     ", Name::Bar, Takes::Numbers(2)),
+    Row(*b"unbar   ", Name::Unbar, Takes::Numbers(2)),
+    Row(*b"limit   ", Name::Limit, Takes::Numbers(2)),
+    Row(*b"rating  ", Name::Rating, Takes::Numbers(3)),
+    Row(*b"show    ", Name::Show, Takes::Numbers(0)),
+    Row(*b"points  ", Name::Points, Takes::Numbers(4)),
+];
 
 pub enum Kind {
     Space,
@@ -40,7 +64,7 @@ pub enum Number {
     Not,
 }
 
-// The numbers, where what was read is as many as were asked for.
+// The numbers, where there are as many as the word takes; 0 behind them.
 pub struct Arguments {
     pub fit: bool,
     pub numbers: [usize; 4],
@@ -48,15 +72,15 @@ pub struct Arguments {
 
 // ---- bytes
 
-fn begins(bytes: &[u8], word: &[u8]) -> bool
-    ensures { λ r. ⌜ r ≡ Reading·begins (now (word .entry)) (now (bytes .entry)) ⌝ }
+fn same(a: &[u8], b: &[u8]) -> bool
+    ensures { λ r. ⌜ r ≡ Reading·same (now (a .entry)) (now (b .entry)) ⌝ }
 {
-    if bytes.len() < word.len() {
+    if a.len() != b.len() {
         return false;
     }
     let mut i = 0;
-    while i < word.len() {
-        if bytes[i] != word[i] {
+    while i < a.len() {
+        if a[i] != b[i] {
             return false;
         }
         i += 1;
@@ -172,7 +196,7 @@ fn first_length(bytes: &[u8]) -> usize
 // The numbers from byte `from` to the end, where there are `n`.
 fn read_arguments(line: &[u8], from: usize, n: usize) -> Arguments
     requires { ⌜ (from ≤ length (now line)) × (n ≤ 4) ⌝ }
-    ensures { λ r. ⌜ numbersOf n r ≡ arguments n (drop from (now (line .entry))) ⌝ }
+    ensures { λ r. ⌜ numbersOf r ≡ placed (arguments n (drop from (now (line .entry)))) ⌝ }
 {
     let mut numbers = [0usize; 4];
     let mut at = from;
@@ -199,7 +223,19 @@ fn read_arguments(line: &[u8], from: usize, n: usize) -> Arguments
     }
 }
 
-// ---- commands
+// ---- paths
+
+// What follows the first word and its blank.
+pub fn path(line: &[u8]) -> &[u8]
+    ensures { λ r. ⌜ now r ≡ pathOf (now (line .entry)) ⌝ }
+{
+    let end = word_length(line);
+    if line.len() <= end {
+        return &line[end..];
+    }
+    let start = end + 1;
+    &line[start..]
+}
 
 fn is_path(path: &[u8]) -> bool
     ensures { λ r. ⌜ r ≡ isPath (now (path .entry)) ⌝ }
@@ -213,76 +249,107 @@ fn is_path(path: &[u8]) -> bool
     every(Kind::Named, path)
 }
 
-fn make(name: Name, a: Arguments) -> Command
-    ensures { λ r. ⌜ r ≡ made name (only (a .fit) (a .numbers)) ⌝ }
+// ---- commands
+
+// A row of the table, counted from 0.
+fn nth(n: usize) -> Row
+    requires { ⌜ n < length rows ⌝ }
+    ensures { λ r. ⌜ drop n rows ≡ r ∷ drop (n + 1) rows ⌝ }
 {
-    let v = a.numbers;
-    if !a.fit {
-        return Command::Unknown;
-    }
+    ROWS[n]
+}
+
+fn same_word(a: &[u8], b: &[u8]) -> bool
+    ensures { λ r. ⌜ r ≡ Reading·same (wordOf (now (a .entry))) (wordOf (now (b .entry))) ⌝ }
+{
+    let m = word_length(a);
+    let n = word_length(b);
+    same(&a[..m], &b[..n])
+}
+
+fn make(name: Name, numbers: [usize; 4]) -> Command
+    ensures { λ r. ⌜ r ≡ made name (at numbers) ⌝ }
+{
+    let a = numbers[0];
+    let b = numbers[1];
+    let c = numbers[2];
+    let d = numbers[3];
     match name {
+        Name::Load => Command::Load,
+        Name::Export => Command::Export,
+        Name::Bar => Command::Alter(Edit::Bar(a, b)),
+        Name::Unbar => Command::Alter(Edit::Unbar(a, b)),
+        Name::Limit => Command::Alter(Edit::SetLimit(a, b)),
+        Name::Rating => Command::Alter(Edit::SetRating(a, b, c)),
         Name::Show => Command::Show,
-        Name::Bar => Command::Bar(v[0], v[1]),
-        Name::Unbar => Command::Unbar(v[0], v[1]),
-        Name::Limit => Command::Limit(v[0], v[1]),
-        Name::Rating => Command::Rating(v[0], v[1], v[2]),
-        Name::Points => Command::Points(v[0], v[1], v[2], v[3]),
+        Name::Points => Command::Points(a, b, c, d),
     }
 }
 
-// A command with numbers.
-fn called(line: &[u8]) -> Command
-    ensures { λ r. ⌜ r ≡ Reading·called (now (line .entry)) ⌝ }
+// The numbers behind the first word; a path has none.
+fn take(takes: Takes, line: &[u8]) -> Arguments
+    requires { ⌜ countOf takes ≤ 4 ⌝ }
+    ensures { λ r. ⌜ numbersOf r ≡ taken takes (now (line .entry)) ⌝ }
 {
-    if begins(line, b"show") {
-        return make(Name::Show, read_arguments(line, 4, 0));
+    match takes {
+        Takes::Numbers(n) => read_arguments(line, word_length(line), n),
+        Takes::Path => Arguments {
+            fit: is_path(path(line)),
+            numbers: [0; 4],
+        },
     }
-    if begins(line, b"bar") {
-        return make(Name::Bar, read_arguments(line, 3, 2));
+}
+
+// A word without what it takes is no command.
+fn mean(name: Name, a: Arguments) -> Command
+    ensures { λ r. ⌜ r ≡ meant name (numbersOf a) ⌝ }
+{
+    let numbers = a.numbers;
+    if a.fit {
+        make(name, numbers)
+    } else {
+        Command::Unknown
     }
-    if begins(line, b"unbar") {
-        return make(Name::Unbar, read_arguments(line, 5, 2));
-    }
-    if begins(line, b"limit") {
-        return make(Name::Limit, read_arguments(line, 5, 2));
-    }
-    if begins(line, b"rating") {
-        return make(Name::Rating, read_arguments(line, 6, 3));
-    }
-    if begins(line, b"points") {
-        return make(Name::Points, read_arguments(line, 6, 4));
+}
+
+// By the row whose word is the line's first.
+fn called(line: &[u8]) -> Command
+    ensures { λ r. ⌜ r ≡ Reading·called rows (now (line .entry)) ⌝ }
+{
+    let mut i = 0;
+    while i < WORDS {
+        let row = nth(i);
+        let word = row.0;
+        if same_word(line, &word) {
+            let name = row.1;
+            let takes = row.2;
+            return mean(name, take(takes, line));
+        }
+        i += 1;
     }
     Command::Unknown
+}
+
+fn is_comment(line: &[u8]) -> bool
+    ensures { λ r. ⌜ r ≡ isComment (now (line .entry)) ⌝ }
+{
+    if line.len() < 1 {
+        return false;
+    }
+    line[0] == 35
 }
 
 pub fn parse(line: &[u8]) -> Command
     ensures { λ r. ⌜ r ≡ commandIn (now (line .entry)) ⌝ }
 {
-    if begins(line, b"#") {
+    if is_comment(line) {
         return Command::Nothing;
     }
-    if 512 < line.len() {
+    if LONGEST_LINE < line.len() {
         return Command::Unknown;
     }
     if every(Kind::Space, line) {
         return Command::Nothing;
     }
-    if begins(line, b"load ") {
-        return with_path(Command::Load, &line[5..]);
-    }
-    if begins(line, b"export ") {
-        return with_path(Command::Export, &line[7..]);
-    }
     called(line)
-}
-
-// The command, where the path is one.
-fn with_path(command: Command, path: &[u8]) -> Command
-    ensures { λ r. ⌜ r ≡ pick (isPath (now (path .entry))) command Command.Unknown ⌝ }
-{
-    if is_path(path) {
-        command
-    } else {
-        Command::Unknown
-    }
 }

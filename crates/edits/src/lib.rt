@@ -6,9 +6,12 @@ ghost use lib.ListN.{getD, set};
 ghost use Rattle.base.specs.Bits.{setBit, clearBit};
 ghost use Rattle.base.specs.Over.{between};
 ghost use Rattle.rules.specs.Answers.{unless, oneTo};
-ghost use Rattle.rules.specs.Calls.{barRefusal, limitRefusal, ratingRefusal};
+ghost use Rattle.rules.specs.Calls.{barRefusal, limitRefusal, ratingRefusal, editRefusal, edited as Calls·edited};
 ghost use Rattle.rules.specs.District.{barsPlace, greatestOf, barsOf, withLimit, withBar, withoutBar, withRating, freshDistrict};
 use rules::District;
+use rules::Edit;
+use rules::places::*;
+use rules::refusals::*;
 
 // The place of the `n`-th of a row, where the first is 1.
 fn place(n: usize) -> usize
@@ -21,14 +24,14 @@ fn place(n: usize) -> usize
 fn value_at(d: District, at: usize) -> usize
     ensures { λ r. ⌜ r ≡ getD d at 0 ⌝ }
 {
-    if at < 2620 { d[at] } else { 0 }
+    if at < DISTRICT_PLACES { d[at] } else { 0 }
 }
 
 // The district with another number at a place; there is none past the last.
 fn with_value(d: District, at: usize, value: usize) -> District
     ensures { λ r. ⌜ r ≡ set d at value ⌝ }
 {
-    if 2620 <= at {
+    if DISTRICT_PLACES <= at {
         return d;
     }
     let mut e = d;
@@ -64,21 +67,21 @@ fn one_to(x: usize, count: usize, n: usize, rest: usize) -> usize
 
 // ---- limits
 
-pub fn limit_refusal(d: District, resource: usize, limit: usize) -> usize
+fn limit_refusal(d: District, resource: usize, limit: usize) -> usize
     ensures { λ r. ⌜ r ≡ limitRefusal d resource limit ⌝ }
 {
     let field = grammar::limit_field(&d, place(resource));
-    let range = refuse_unless(grammar::is_inside(field, limit), 8, 0);
-    one_to(resource, d[5], 7, range)
+    let range = refuse_unless(grammar::is_inside(field, limit), NEW_OUT_OF_RANGE, 0);
+    one_to(resource, d[RESOURCE_COUNT], NO_SUCH_NUMBER, range)
 }
 
-pub fn with_limit(d: District, resource: usize, limit: usize) -> District
+fn with_limit(d: District, resource: usize, limit: usize) -> District
     ensures { λ r. ⌜ r ≡ withLimit d resource limit ⌝ }
 {
-    if 2620 < resource {
+    if DISTRICT_PLACES < resource {
         return d;
     }
-    with_value(d, 6 + place(resource), limit)
+    with_value(d, LIMITS + place(resource), limit)
 }
 
 // ---- ratings
@@ -87,40 +90,44 @@ pub fn with_limit(d: District, resource: usize, limit: usize) -> District
 fn greatest_of(d: District, distress: usize) -> usize
     ensures { λ r. ⌜ r ≡ greatestOf d distress ⌝ }
 {
-    if 2620 < distress {
+    if DISTRICT_PLACES < distress {
         return 0;
     }
-    value_at(d, 22 + place(distress))
+    value_at(d, GREATEST + place(distress))
 }
 
-pub fn rating_refusal(d: District, segment: usize, distress: usize, rating: usize) -> usize
+fn rating_refusal(d: District, segment: usize, distress: usize, rating: usize) -> usize
     ensures { λ r. ⌜ r ≡ ratingRefusal d segment distress rating ⌝ }
 {
     let most = greatest_of(d, distress);
-    let range = refuse_unless(rating <= most, 8, 0);
-    let number = one_to(distress, d[3], 7, range);
-    one_to(segment, d[0], 6, number)
+    let range = refuse_unless(rating <= most, NEW_OUT_OF_RANGE, 0);
+    let number = one_to(distress, d[DISTRESS_COUNT], NO_SUCH_NUMBER, range);
+    one_to(segment, d[SEGMENT_COUNT], NO_SUCH_SEGMENT, number)
 }
 
-pub fn with_rating(d: District, segment: usize, distress: usize, rating: usize) -> District
+fn with_rating(d: District, segment: usize, distress: usize, rating: usize) -> District
     ensures { λ r. ⌜ r ≡ withRating d segment distress rating ⌝ }
 {
-    if 64 < segment {
+    if MOST_SEGMENTS < segment {
         return d;
     }
-    if 2620 < distress {
+    if DISTRICT_PLACES < distress {
         return d;
     }
-    with_value(d, 1660 + 15 * place(segment) + 6 + place(distress), rating)
+    with_value(
+        d,
+        SEGMENTS + PER_SEGMENT * place(segment) + RATINGS + place(distress),
+        rating,
+    )
 }
 
 // ---- bars
 
-pub fn bar_refusal(d: District, segment: usize, strategy: usize) -> usize
+fn bar_refusal(d: District, segment: usize, strategy: usize) -> usize
     ensures { λ r. ⌜ r ≡ barRefusal d segment strategy ⌝ }
 {
-    let number = one_to(strategy, d[1], 7, 0);
-    one_to(segment, d[0], 6, number)
+    let number = one_to(strategy, d[STRATEGY_COUNT], NO_SUCH_NUMBER, 0);
+    one_to(segment, d[SEGMENT_COUNT], NO_SUCH_SEGMENT, number)
 }
 
 // The mask with bit `n` set.
@@ -147,31 +154,55 @@ fn clear_bit(mask: usize, n: usize) -> usize
 fn bars_of(d: District, segment: usize) -> usize
     ensures { λ r. ⌜ r ≡ barsOf d segment ⌝ }
 {
-    if 64 < segment {
+    if MOST_SEGMENTS < segment {
         return 0;
     }
-    value_at(d, 1660 + 15 * place(segment) + 5)
+    value_at(d, SEGMENTS + PER_SEGMENT * place(segment) + BARS)
 }
 
 fn with_bars(d: District, segment: usize, bars: usize) -> District
     ensures { λ r. ⌜ r ≡ set d (barsPlace segment) bars ⌝ }
 {
-    if 64 < segment {
+    if MOST_SEGMENTS < segment {
         return d;
     }
-    with_value(d, 1660 + 15 * place(segment) + 5, bars)
+    with_value(d, SEGMENTS + PER_SEGMENT * place(segment) + BARS, bars)
 }
 
-pub fn with_bar(d: District, segment: usize, strategy: usize) -> District
+fn with_bar(d: District, segment: usize, strategy: usize) -> District
     ensures { λ r. ⌜ r ≡ withBar d segment strategy ⌝ }
 {
     with_bars(d, segment, set_bit(bars_of(d, segment), place(strategy)))
 }
 
-pub fn without_bar(d: District, segment: usize, strategy: usize) -> District
+fn without_bar(d: District, segment: usize, strategy: usize) -> District
     ensures { λ r. ⌜ r ≡ withoutBar d segment strategy ⌝ }
 {
     with_bars(d, segment, clear_bit(bars_of(d, segment), place(strategy)))
+}
+
+// ---- any edit
+
+pub fn refusal(d: District, e: Edit) -> usize
+    ensures { λ r. ⌜ r ≡ editRefusal d e ⌝ }
+{
+    match e {
+        Edit::Bar(i, j) => bar_refusal(d, i, j),
+        Edit::Unbar(i, j) => bar_refusal(d, i, j),
+        Edit::SetLimit(r, limit) => limit_refusal(d, r, limit),
+        Edit::SetRating(i, k, rating) => rating_refusal(d, i, k, rating),
+    }
+}
+
+pub fn edited(d: District, e: Edit) -> District
+    ensures { λ r. ⌜ r ≡ Calls·edited d e ⌝ }
+{
+    match e {
+        Edit::Bar(i, j) => with_bar(d, i, j),
+        Edit::Unbar(i, j) => without_bar(d, i, j),
+        Edit::SetLimit(r, limit) => with_limit(d, r, limit),
+        Edit::SetRating(i, k, rating) => with_rating(d, i, k, rating),
+    }
 }
 
 // ---- the fresh unit's district
@@ -179,12 +210,12 @@ pub fn without_bar(d: District, segment: usize, strategy: usize) -> District
 pub fn fresh_district() -> District
     ensures { λ r. ⌜ r ≡ freshDistrict ⌝ }
 {
-    let mut d = [0usize; 2620];
-    d[1] = 1;
-    d[2] = 1;
-    d[3] = 1;
-    d[4] = 1;
-    d[5] = 1;
-    d[22] = 1;
+    let mut d = [0usize; DISTRICT_PLACES];
+    d[STRATEGY_COUNT] = 1;
+    d[YEAR_COUNT] = 1;
+    d[DISTRESS_COUNT] = 1;
+    d[PAVEMENT_COUNT] = 1;
+    d[RESOURCE_COUNT] = 1;
+    d[GREATEST] = 1;
     d
 }

@@ -12,7 +12,7 @@ use Rattle.base.proofs.Bytes.{length-bytes, number-bytes}
 use Rattle.base.specs.Bytes.{bytesOf, numberOf}
 use Rattle.rules.specs.District.{District, valueAt, districtPlaces}
 use Rattle.rules.specs.File.{found, size, readNumbers, readRecord, readRecords, decode, numberBytes, recordBytes, recordsBytes, encode, inRange}
-use Rattle.rules.specs.Format.{slotOf, present, fieldAt, inside}
+use Rattle.rules.specs.Format.{slotOf, present, fieldAt, inside, fileRecords}
 use Rattle.rules.specs.declared.Slot.{Slot}
 use Rattle.grammar.specs.Places.{startOf, Ready, InRange}
 use Rattle.grammar.proofs.Fits.{value-fits}
@@ -71,10 +71,10 @@ module _ (d : District) (s : Slot) (place : ℕ) (r : Ready s place) (room : pla
 kind-small : (n : ℕ) → slotOf n .kind < 65536
 kind-small = slot-all (λ (s : Slot). s .kind < 65536) (omega arith) (omega arith) (omega arith) (λ n. omega arith) (λ n. omega arith) (λ n. omega arith) (omega arith)
 
-records-back : (d : District) → InRange d → (m n : ℕ) → n + m ≡ 83 → readRecords m n (take (startOf n) d) (recordsBytes m d n (startOf n)) ≡ found d []
+records-back : (d : District) → InRange d → (m n : ℕ) → n + m ≡ fileRecords → readRecords m n (take (startOf n) d) (recordsBytes m d n (startOf n)) ≡ found d []
 unfolding readRecords recordsBytes
 records-back d ok zero n e =
-    let z : n ≡ 83 = omega arith in
+    let z : n ≡ fileRecords = omega arith in
     rw z (ap (λ (l : List ℕ). found l []) (take-all districtPlaces d (omega (arith, ok .places))))
 records-back d ok (suc m) n e =
     let p = startOf n in
@@ -89,4 +89,4 @@ records-back d ok (suc m) n e =
 
 pub decode-encode : (d : District) → inRange d ≡ true → decode (encode d) ≡ found d []
 unfolding decode encode
-decode-encode d e = records-back d (in-range d e) 83 0 refl
+decode-encode d e = records-back d (in-range d e) fileRecords 0 refl

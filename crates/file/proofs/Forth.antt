@@ -15,20 +15,17 @@ use Rattle.base.proofs.Choice.{pick-yes}
 use Rattle.base.specs.Bytes.{bytesOf, numberOf}
 use Rattle.base.specs.Choice.{pick}
 use Rattle.rules.specs.Answers.{accepting}
-use Rattle.rules.specs.Calls.{loadRefusalOf, loadRefusal, loadedOf, districtIn, unitOf, answered, loadOf, exportRefusal, exported, exportOf}
-use Rattle.rules.specs.Demands.{ByteForByte}
+use Rattle.rules.specs.Calls.{loadRefusalOf, loadRefusal, loadedOf, districtIn}
 use Rattle.rules.specs.District.{District, valueAt, districtPlaces}
 use Rattle.rules.specs.File.{Read, refused, found, value, widths, size, readNumbers, readRecord, readRecords, decode, numberBytes, headerBytes, recordBytes, recordsBytes, encode, inRange}
-use Rattle.rules.specs.Format.{slotOf, present, fieldAt, inside}
-use Rattle.rules.specs.declared.Answer.the-variants.{Accepted}
+use Rattle.rules.specs.Format.{slotOf, present, fieldAt, inside, fileRecords}
 use Rattle.rules.specs.declared.Slot.{Slot}
-use Rattle.rules.specs.declared.Unit.{Unit}
 use Rattle.grammar.specs.Places.{startOf, Ready}
 use Rattle.grammar.proofs.InRange.{range-in}
 use Rattle.grammar.proofs.Slots.{start-next, ready}
 use Rattle.file.specs.Readings.{loadedFrom}
 use Rattle.file.specs.declared.Loaded.{Loaded}
-use Rattle.file.proofs.Refusals.{refusals, export-fits}
+use Rattle.file.proofs.Refusals.{refusals}
 use Rattle.file.proofs.Steps.{widths-none, widths-take, header-there, header-none, record-none, records-found, records-refused}
 
 -- ---- what is found was not refused
@@ -170,13 +167,13 @@ record TookAll (d : District) (m n : ℕ) (u bs end : List ℕ) : Type 0 where
   front : take (startOf n) d ≡ u
   all-of : length d ≡ districtPlaces
   bytes : Bytes bs → bs ≡ recordsBytes m d n (startOf n)
-  good : (q i : ℕ) → n ≤ q → q < 83 → i < slotOf q .places → inside (fieldAt d (slotOf q) i) (valueAt d (startOf q + i)) ≡ true
+  good : (q i : ℕ) → n ≤ q → q < fileRecords → i < slotOf q .places → inside (fieldAt d (slotOf q) i) (valueAt d (startOf q + i)) ≡ true
 
 header-take : {s : Slot} {place : ℕ} → Ready s place → (d : District) → headerBytes (take place d) s ≡ headerBytes d s
 header-take {s} {place} r d = rw (r .here d, widths-take r d (s .places) 0 (omega arith))
 
 -- one record in front
-module _ (d : District) (m n : ℕ) (lt : n < 83) (u bs vs rest end : List ℕ) (len : length u ≡ startOf n) (k : TookRecord u (slotOf n) bs vs rest) (ih : TookAll d m (n + 1) (u ++ vs) rest end) where
+module _ (d : District) (m n : ℕ) (lt : n < fileRecords) (u bs vs rest end : List ℕ) (len : length u ≡ startOf n) (k : TookRecord u (slotOf n) bs vs rest) (ih : TookAll d m (n + 1) (u ++ vs) rest end) where
   next-front : take (startOf n + slotOf n .places) d ≡ u ++ vs
   next-front = rw (start-next n) at (ih .front)
 
@@ -215,16 +212,16 @@ module _ (d : District) (m n : ℕ) (lt : n < 83) (u bs vs rest end : List ℕ) 
   took-record : TookAll d (suc m) n u bs end
   took-record = record { none = ih .none; front = this-front; all-of = ih .all-of; bytes = these-bytes; good = every }
     where
-      every : (q i : ℕ) → n ≤ q → q < 83 → i < slotOf q .places → inside (fieldAt d (slotOf q) i) (valueAt d (startOf q + i)) ≡ true
+      every : (q i : ℕ) → n ≤ q → q < fileRecords → i < slotOf q .places → inside (fieldAt d (slotOf q) i) (valueAt d (startOf q + i)) ≡ true
       every q i a b c =
           ⊎-elim (λ (e : n ≡ q). subst (λ (q : ℕ). i < slotOf q .places → inside (fieldAt d (slotOf q) i) (valueAt d (startOf q + i)) ≡ true) e (this-good i) c)
           (λ l. ih .good q i (omega arith) b c)
           (eq-or-lt-of-le a)
 
-records-forth : (d : District) (m n : ℕ) (u bs rest : List ℕ) → n + m ≡ 83 → length u ≡ startOf n → readRecords m n u bs ≡ found d rest → TookAll d m n u bs rest
+records-forth : (d : District) (m n : ℕ) (u bs rest : List ℕ) → n + m ≡ fileRecords → length u ≡ startOf n → readRecords m n u bs ≡ found d rest → TookAll d m n u bs rest
 unfolding readRecords recordsBytes
 records-forth d zero n u [] rest e l q =
-    let z : n ≡ 83 = omega arith in
+    let z : n ≡ fileRecords = omega arith in
     let a : length u ≡ districtPlaces = rw z at l in
     let v : u ≡ d = found-values u [] d rest q in
     record { none = sym (found-rest u [] d rest q); front = rw z (take-all districtPlaces d (omega (arith, ap length v)) ∙ sym v); all-of = omega (arith, ap length v); bytes = λ h. refl; good = λ q i x y w. absurd (omega arith) }
@@ -241,10 +238,10 @@ records-forth d (suc m) n u bs rest e l q = go (readRecord u (slotOf n) bs) refl
 pub encode-decode : (file d rest : List ℕ) → decode file ≡ found d rest → (Bytes file → encode d ≡ file) × (inRange d ≡ true) × (rest ≡ [])
 unfolding decode encode
 encode-decode file d rest e =
-    let k = records-forth d 83 0 [] file rest refl refl e in
+    let k = records-forth d fileRecords 0 [] file rest refl refl e in
     ((λ h. sym (k .bytes h)), range-in d (record { places = k .all-of; values = λ n i a b. k .good n i (omega arith) a b }), k .none)
 
--- ---- so the export that follows a load is the file
+-- ---- what a file loads as
 
 pub loads-as : (file : List ℕ) → loadRefusal file ≡ 0 → (Bytes file → encode (districtIn file) ≡ file) × (inRange (districtIn file) ≡ true)
 unfolding loadRefusal loadRefusalOf districtIn loadedOf
@@ -264,20 +261,3 @@ loaded-ranged file {r} q = (q, ranged)
         let z : loadRefusal file ≡ 0 = sym (ap (λ (r : Loaded). r .refusal) q) ∙ e in
         let d : r .district ≡ districtIn file = ap (λ (r : Loaded). r .district) q ∙ rw z in
         rw d (loads-as file z .1)
-
-module _ (u : Unit) (file buffer : List ℕ) (e : loadRefusal file ≡ 0) where
-  held : loadOf u file .unit .district ≡ districtIn file
-  unfolding loadOf answered accepting unitOf
-  held = rw e
-
-  exports : Bytes file → length file ≤ length buffer → exportOf (loadOf u file .unit) buffer ≡ record { answer = Accepted (length file); buffer = file ++ drop (length file) buffer }
-  unfolding exportOf
-  exports h l =
-      let d = districtIn file in
-      let same = loads-as file e .0 h in
-      ap (λ (d : District). exported (exportRefusal d buffer) (encode d) buffer) held
-      ∙ sym (export-fits d buffer (omega (arith, ap length same)))
-      ∙ ap (λ (f : List ℕ). record { answer = Accepted (length f); buffer = f ++ drop (length f) buffer }) same
-
-pub byte-for-byte : (file : List ℕ) → ByteForByte file
-byte-for-byte file = record { same = λ h e u buffer l. exports u file buffer e h l }

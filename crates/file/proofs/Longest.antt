@@ -1,5 +1,5 @@
--- The longest file has 3,788 bytes: that of a district with every count at its greatest. No number is wider in any other. Assumes nothing.
-use Prim.Native.Nat.{ℕ, zero, suc, _+_, _≤_}
+-- The longest file is that of a district with every count at its greatest. No number is wider in any other. Assumes nothing.
+use Prim.Native.Nat.{ℕ, zero, suc, _+_, _-_, _≤_}
 use mathlib.Core.Path.{_≡_, refl, sym, _∙_}
 use mathlib.Core.Bool.{Bool, true, false, true≢false}
 use mathlib.Core.List.{List, [], _∷_, _++_}
@@ -9,9 +9,9 @@ use lib.ListN.{length, replicate, length-append}
 use borrow.Author.Tests.{ltb-true, lt-ltb}
 use Rattle.base.specs.Bytes.{bytesOf}
 use Rattle.base.specs.Choice.{pick}
-use Rattle.rules.specs.District.{District, greatestOf}
-use Rattle.rules.specs.File.{widths, size, headerBytes, recordBytes, recordsBytes, encode, numbersInRange, recordsInRange, inRange}
-use Rattle.rules.specs.Format.{number, absent, ranged, slotOf, present, kindField, fieldAt}
+use Rattle.rules.specs.District.{District, greatestOf, mostResources, mostDistresses, mostSegments, strategiesAt, segmentsAt, barsAt, perSegment}
+use Rattle.rules.specs.File.{widths, size, headerBytes, recordBytes, recordsBytes, encode, numbersInRange, recordsInRange, inRange, longestFile}
+use Rattle.rules.specs.Format.{number, absent, ranged, slotOf, present, kindField, fieldAt, fileRecords, mostCounts}
 use Rattle.rules.specs.declared.Field.{Field}
 use Rattle.rules.specs.declared.Slot.{Slot}
 use Rattle.grammar.specs.Places.{InRange}
@@ -20,12 +20,12 @@ use Rattle.grammar.proofs.InRanges.{segments, strategies, years, distresses, pa
 use Rattle.file.proofs.Steps.{length-record}
 
 -- a district with every count at its greatest, and else the smallest numbers that the file may hold
-sixty-four : ℕ → List ℕ
-sixty-four zero = []
-sixty-four (suc n) = 1 ∷ 100 ∷ 100 ∷ 1 ∷ 1 ∷ replicate 10 0 ++ sixty-four n
+least-segments : ℕ → List ℕ
+least-segments zero = []
+least-segments (suc n) = 1 ∷ 100 ∷ 100 ∷ 1 ∷ 1 ∷ replicate (perSegment - barsAt) 0 ++ least-segments n
 
 pub full : District
-full = 64 ∷ 11 ∷ 10 ∷ 9 ∷ 4 ∷ 16 ∷ replicate 16 0 ++ (replicate 9 1 ++ (replicate 1629 0 ++ sixty-four 64))
+full = mostCounts ++ (replicate mostResources 0 ++ (replicate mostDistresses 1 ++ (replicate (segmentsAt - strategiesAt) 0 ++ least-segments mostSegments)))
 
 -- a field is no wider than another; a test passes only where another does
 record Le (f g : Field) : Type 0 where
@@ -61,10 +61,6 @@ imp-same false a b a′ b′ h k = k
 
 ruleset mono = (le-number, le-absent, le-imp, le-same, imp-refl, imp-ltb, imp-same)
 
--- the greatest counts
-top : District
-top = 64 ∷ 11 ∷ 10 ∷ 9 ∷ 4 ∷ 16 ∷ []
-
 -- the bytes of m records, from the n-th on
 total : ℕ → District → ℕ → ℕ
 total zero d n = 0
@@ -77,64 +73,62 @@ length-records d (suc m) n place =
     length-append (recordBytes d (slotOf n) place) (recordsBytes m d (n + 1) (place + slotOf n .places))
     ∙ omega (arith, length-record d (slotOf n) place, length-records d m (n + 1) (place + slotOf n .places))
 
-length-file : (d : District) → length (encode d) ≡ total 83 d 0
+length-file : (d : District) → length (encode d) ≡ total fileRecords d 0
 unfolding encode
-length-file d = length-records d 83 0 0
+length-file d = length-records d fileRecords 0 0
 
 module _ (d : District) (ok : InRange d) where
-  present-top : (s : Slot) → Imp (present d s) (present top s)
-  unfolding top
+  present-top : (s : Slot) → Imp (present d s) (present mostCounts s)
   present-top s =
       let N = segments d ok .1 in
       let S = strategies d ok .1 in
       let Y = pavements d ok .1 in
       search mono depth 20
 
-  kind-top : (k n : ℕ) → Le (kindField d k n) (kindField top k n)
-  unfolding top
+  kind-top : (k n : ℕ) → Le (kindField d k n) (kindField mostCounts k n)
   kind-top k n =
       let T = years d ok .1 in
       let D = distresses d ok .1 in
       let R = resources d ok .1 in
       search mono depth 30
 
-  field-top : (s : Slot) (n : ℕ) → fieldAt d s n .width ≤ fieldAt top s n .width
+  field-top : (s : Slot) (n : ℕ) → fieldAt d s n .width ≤ fieldAt mostCounts s n .width
   unfolding fieldAt
-  field-top s n = le-imp (present d s) (present top s) (kindField d (s .kind) n) (kindField top (s .kind) n) (present-top s) (kind-top (s .kind) n) .le
+  field-top s n = le-imp (present d s) (present mostCounts s) (kindField d (s .kind) n) (kindField mostCounts (s .kind) n) (present-top s) (kind-top (s .kind) n) .le
 
-  widths-top : (m : ℕ) (s : Slot) (n : ℕ) → widths m d s n ≤ widths m top s n
+  widths-top : (m : ℕ) (s : Slot) (n : ℕ) → widths m d s n ≤ widths m mostCounts s n
   widths-top zero s n = omega arith
   widths-top (suc m) s n = omega (arith, field-top s n, widths-top m s (n + 1))
 
-  header-top : (s : Slot) → length (headerBytes d s) ≤ length (headerBytes top s)
-  header-top s = go (present d s) (present top s) (present-top s) (bytesOf 2 (size d s) ++ bytesOf 2 (s .kind)) (bytesOf 2 (size top s) ++ bytesOf 2 (s .kind)) (omega arith)
+  header-top : (s : Slot) → length (headerBytes d s) ≤ length (headerBytes mostCounts s)
+  header-top s = go (present d s) (present mostCounts s) (present-top s) (bytesOf 2 (size d s) ++ bytesOf 2 (s .kind)) (bytesOf 2 (size mostCounts s) ++ bytesOf 2 (s .kind)) (omega arith)
     where
       go : (a b : Bool) → Imp a b → (x y : List ℕ) → length x ≤ length y → length (pick a x []) ≤ length (pick b y [])
       go true true i x y h = h
       go true false i x y h = absurd (true≢false (sym (i .imp refl)))
       go false b i x y h = omega arith
 
-  total-top : (m n : ℕ) → total m d n ≤ total m top n
+  total-top : (m n : ℕ) → total m d n ≤ total m mostCounts n
   unfolding total
   total-top zero n = omega arith
   total-top (suc m) n = omega (arith, header-top (slotOf n), widths-top (slotOf n .places) (slotOf n) 0, total-top m (n + 1))
 
-total-most : total 83 top 0 ≡ 3788
-unfolding total top fieldAt
+total-most : total fileRecords mostCounts 0 ≡ longestFile
+unfolding total fieldAt
 total-most = refl
 
 chain : {a b c m : ℕ} → a ≡ b → b ≤ c → c ≡ m → a ≤ m
 chain e h f = omega arith
 
-pub longest : (d : District) → inRange d ≡ true → length (encode d) ≤ 3788
-longest d e = chain (length-file d) (total-top d (in-range d e) 83 0) total-most
+pub longest : (d : District) → inRange d ≡ true → length (encode d) ≤ longestFile
+longest d e = chain (length-file d) (total-top d (in-range d e) fileRecords 0) total-most
 
 -- ---- one is as long
 
 pub full-in-range : inRange full ≡ true
-unfolding full sixty-four greatestOf ranged fieldAt numbersInRange recordsInRange inRange
+unfolding full least-segments greatestOf ranged fieldAt numbersInRange recordsInRange inRange
 full-in-range = refl
 
-pub full-long : length (encode full) ≡ 3788
-unfolding total full sixty-four fieldAt
+pub full-long : length (encode full) ≡ longestFile
+unfolding total full least-segments fieldAt
 full-long = length-file full ∙ refl

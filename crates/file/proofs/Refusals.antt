@@ -1,4 +1,4 @@
--- A file that does not load has a refusal from 1 to 5; what a load and an export give. Assumes nothing.
+-- A file that does not load has one of the refusals for files; what a load and an export give. Assumes nothing.
 use Prim.Native.Nat.{ℕ, zero, suc, _+_, _-_, _≤_, _<_}
 use mathlib.Core.Path.{_≡_, refl, subst}
 use mathlib.Core.List.{List, [], _∷_, _++_}
@@ -8,18 +8,18 @@ use borrow.Author.Tests.{le-leb, lt-leb}
 use lib.ListN.{length, take, drop, replicate}
 use Rattle.base.proofs.Choice.{pick-all}
 use Rattle.base.specs.Bytes.{numberOf}
-use Rattle.rules.specs.Answers.{answerOf, accepting}
+use Rattle.rules.specs.Answers.{answerOf, accepting, cutShort, otherKind, otherLength, outOfRange, bytesFollow, bufferTooShort}
 use Rattle.rules.specs.Calls.{loadRefusalOf, loadRefusal, loadedOf, districtIn, exportRefusal, exported}
 use Rattle.rules.specs.District.{District, districtPlaces}
 use Rattle.rules.specs.File.{Read, refused, found, value, size, readNumbers, readRecord, andThen, readRecords, decode, encode}
-use Rattle.rules.specs.Format.{present, fieldAt, inside, slotOf}
+use Rattle.rules.specs.Format.{present, fieldAt, inside, slotOf, fileRecords}
 use Rattle.rules.specs.declared.Answer.the-variants.{Accepted, Refused}
 use Rattle.rules.specs.declared.Slot.{Slot}
 use Rattle.file.specs.Readings.{loadedFrom}
 
 -- a refusal is one of document 01's table for files
 abbrev Right : Read → Type 0
-Right (refused n) = (1 ≤ n) × (n ≤ 5)
+Right (refused n) = (1 ≤ n) × (n ≤ bytesFollow)
 Right (found vs bs) = Unit {0}
 
 numbers-right : (m : ℕ) (d : District) (s : Slot) (n : ℕ) (vs bs : List ℕ) → Right (readNumbers m d s n vs bs)
@@ -27,16 +27,16 @@ unfolding readNumbers
 numbers-right zero d s n vs bs = tt
 numbers-right (suc m) d s n vs bs =
     let f = fieldAt d s n in
-    pick-all Right (inside f (value f bs)) _ (refused 4) (numbers-right m d s (n + 1) (vs ++ value f bs ∷ []) (drop (f .width) bs)) (omega arith, omega arith)
+    pick-all Right (inside f (value f bs)) _ (refused outOfRange) (numbers-right m d s (n + 1) (vs ++ value f bs ∷ []) (drop (f .width) bs)) (omega arith, omega arith)
 
 record-right : (d : District) (s : Slot) (bs : List ℕ) → Right (readRecord d s bs)
 unfolding readRecord
 record-right d s bs =
     pick-all Right (present d s) _ _
-    (pick-all Right (ltb (length bs) 4) (refused 1) _ (omega arith, omega arith)
-    (pick-all Right (eqb (numberOf (take 2 (drop 2 bs))) (s .kind)) _ (refused 2)
-    (pick-all Right (eqb (numberOf (take 2 bs)) (size d s)) _ (refused 3)
-    (pick-all Right (ltb (length bs - 4) (size d s)) (refused 1) _ (omega arith, omega arith) (numbers-right (s .places) d s 0 [] (drop 4 bs)))
+    (pick-all Right (ltb (length bs) 4) (refused cutShort) _ (omega arith, omega arith)
+    (pick-all Right (eqb (numberOf (take 2 (drop 2 bs))) (s .kind)) _ (refused otherKind)
+    (pick-all Right (eqb (numberOf (take 2 bs)) (size d s)) _ (refused otherLength)
+    (pick-all Right (ltb (length bs - 4) (size d s)) (refused cutShort) _ (omega arith, omega arith) (numbers-right (s .places) d s 0 [] (drop 4 bs)))
     (omega arith, omega arith))
     (omega arith, omega arith)))
     (numbers-right (s .places) d s 0 [] bs)
@@ -51,15 +51,15 @@ records-right (suc m) n d bs = then (readRecord d (slotOf n) bs) (λ vs rest. re
     then (refused k) next h all = h
     then (found vs rest) next h all = all vs rest
 
-pub refusals : (file : List ℕ) (n : ℕ) → decode file ≡ refused n → (1 ≤ n) × (n ≤ 5)
+pub refusals : (file : List ℕ) (n : ℕ) → decode file ≡ refused n → (1 ≤ n) × (n ≤ bytesFollow)
 unfolding decode
-refusals file n e = subst Right e (records-right 83 0 [] file)
+refusals file n e = subst Right e (records-right fileRecords 0 [] file)
 
-pub refusal-most : (file : List ℕ) → loadRefusal file ≤ 5
+pub refusal-most : (file : List ℕ) → loadRefusal file ≤ bytesFollow
 unfolding loadRefusal loadRefusalOf
 refusal-most file = go (decode file) refl
   where
-    go : (r : Read) → decode file ≡ r → loadRefusalOf (decode file) ≤ 5
+    go : (r : Read) → decode file ≡ r → loadRefusalOf (decode file) ≤ bytesFollow
     go (refused n) e = rw e (refusals file n e .1)
     go (found d rest) e = rw e (omega arith)
 
@@ -77,7 +77,7 @@ loaded-refused file (suc n) e = rw e
 -- ---- what an export gives
 
 module _ (d : District) (buffer : List ℕ) where
-  pub export-short : length buffer < length (encode d) → record { answer = Refused 9; buffer = buffer } ≡ exported (exportRefusal d buffer) (encode d) buffer
+  pub export-short : length buffer < length (encode d) → record { answer = Refused bufferTooShort; buffer = buffer } ≡ exported (exportRefusal d buffer) (encode d) buffer
   unfolding exported exportRefusal answerOf accepting
   export-short h = rw (lt-leb (length (encode d)) (length buffer) h)
 

@@ -13,9 +13,10 @@ use Rattle.base.proofs.Choice.{picks, pick-yes, pick-no, pick-all}
 use Rattle.base.specs.Bytes.{bytesOf, numberOf}
 use Rattle.rules.specs.District.{District}
 use Rattle.rules.specs.File.{refused, found, value, widths, size, readNumbers, readRecord, readRecords, numberBytes, headerBytes, recordBytes, recordsBytes, numbersInRange, recordsInRange}
-use Rattle.rules.specs.Format.{present, fieldAt, inside, slotOf}
+use Rattle.rules.specs.Format.{present, fieldAt, inside, slotOf, fileRecords}
 use Rattle.rules.specs.declared.Field.{Field}
 use Rattle.rules.specs.declared.Slot.{Slot}
+use Rattle.rules.specs.Answers.{outOfRange, bytesFollow}
 use Rattle.grammar.specs.Places.{Ready}
 use Rattle.grammar.proofs.Slots.{width-small, few-places}
 
@@ -50,7 +51,7 @@ module _ (m : ℕ) (d : District) (s : Slot) (n : ℕ) (vs bs : List ℕ) (f : F
   unfolding readNumbers
   number-good t = rw (xe, fe) (sym (pick-yes _ _ _ _ (rw fe at (rw xe at t)) refl))
 
-  pub number-bad : inside f x ≡ false → readNumbers (suc m) d s n vs bs ≡ refused 4
+  pub number-bad : inside f x ≡ false → readNumbers (suc m) d s n vs bs ≡ refused outOfRange
   unfolding readNumbers
   number-bad t = sym (pick-no _ _ _ _ (rw fe at (rw xe at t)) refl)
 
@@ -93,9 +94,9 @@ numbers-step m d s n place f h e =
     rw (less m n h, e, q)
 
 -- a record less to write
-pub records-step : (d : District) (n place : ℕ) (s : Slot) → n < 83 → s ≡ slotOf n → recordsBytes (83 - n) d n place ≡ recordBytes d s place ++ recordsBytes (83 - (n + 1)) d (n + 1) (place + s .places)
+pub records-step : (d : District) (n place : ℕ) (s : Slot) → n < fileRecords → s ≡ slotOf n → recordsBytes (fileRecords - n) d n place ≡ recordBytes d s place ++ recordsBytes (fileRecords - (n + 1)) d (n + 1) (place + s .places)
 unfolding recordsBytes
-records-step d n place s h e = rw (less 83 n h, e)
+records-step d n place s h e = rw (less fileRecords n h, e)
 
 pub length-records : (m : ℕ) (d : District) (n place : ℕ) → length (recordsBytes m d n place) ≤ 464 * m
 unfolding recordsBytes
@@ -131,7 +132,7 @@ unfolding readRecords
 records-end n d [] h = refl
 records-end n d (b ∷ bs) h = absurd (omega arith)
 
-pub records-over : (n : ℕ) (d bs : List ℕ) → 0 < length bs → readRecords 0 n d bs ≡ refused 5
+pub records-over : (n : ℕ) (d bs : List ℕ) → 0 < length bs → readRecords 0 n d bs ≡ refused bytesFollow
 unfolding readRecords
 records-over n d [] h = absurd (omega arith)
 records-over n d (b ∷ bs) h = refl
@@ -144,6 +145,6 @@ range-step m d s n place f h e =
     let q : place + (n + 1) ≡ place + n + 1 = omega arith in
     rw (less m n h, e, q, getD-drop (place + n) d 0 0, add-zero (place + n), drop-drop 1 (place + n) d)
 
-pub ranges-step : (d : District) (n place : ℕ) (s : Slot) → n < 83 → s ≡ slotOf n → recordsInRange (83 - n) d n (drop place d) ≡ (numbersInRange (s .places) d s 0 (drop place d) && recordsInRange (83 - (n + 1)) d (n + 1) (drop (place + s .places) d))
+pub ranges-step : (d : District) (n place : ℕ) (s : Slot) → n < fileRecords → s ≡ slotOf n → recordsInRange (fileRecords - n) d n (drop place d) ≡ (numbersInRange (s .places) d s 0 (drop place d) && recordsInRange (fileRecords - (n + 1)) d (n + 1) (drop (place + s .places) d))
 unfolding recordsInRange
-ranges-step d n place s h e = rw (less 83 n h, e, drop-drop (slotOf n .places) place d)
+ranges-step d n place s h e = rw (less fileRecords n h, e, drop-drop (slotOf n .places) place d)

@@ -4,7 +4,7 @@ use mathlib.Core.Path.{_≡_}
 use mathlib.Core.Bool.{true}
 use mathlib.Core.List.{List, []}
 use lib.ListN.{length}
-use Rattle.rules.specs.Demands.{Bytes, EveryFile}
+use Rattle.rules.specs.Demands.{Bytes}
 use Rattle.rules.specs.District.{District, freshDistrict}
 use Rattle.rules.specs.File.{found, decode, encode, inRange}
 
@@ -13,7 +13,6 @@ pub record Trips (most : ℕ) : Type 0 where
   pub back : (d : District) → inRange d ≡ true → decode (encode d) ≡ found d []
   -- the district that anything loads as is in the file's ranges, and a file of bytes is that district's
   pub forth : (file d rest : List ℕ) → decode file ≡ found d rest → (Bytes file → encode d ≡ file) × (inRange d ≡ true) × (rest ≡ [])
-  pub same : EveryFile
   pub fresh : decode (encode freshDistrict) ≡ found freshDistrict []
   -- no district in the file's ranges has a longer file, and one has one as long
   pub longest : (d : District) → inRange d ≡ true → length (encode d) ≤ most

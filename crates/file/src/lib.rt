@@ -8,13 +8,17 @@ ghost use mathlib.Core.Bool.{true};
 ghost use mathlib.Core.Path.{_≡_};
 ghost use lib.ListN.{replicate};
 ghost use Rattle.rules.specs.Calls.{exported, exportRefusal};
-ghost use Rattle.rules.specs.File.{encode, inRange};
+ghost use Rattle.rules.specs.File.{encode, longestFile, inRange};
 ghost use Rattle.file.specs.Readings.{loadedFrom};
 ghost use Rattle.file.specs.Trips.{Trips};
 ghost use Rattle.rules.specs.District.{districtPlaces};
 use reading::Reading;
 use rules::Answer;
 use rules::District;
+use rules::places::DISTRICT_PLACES;
+use rules::records::LONGEST_FILE;
+use rules::records::RECORDS;
+use rules::refusals;
 
 // The number of the refusal, or 0 and the district of the file.
 pub struct Loaded {
@@ -27,7 +31,7 @@ fn refused(refusal: usize) -> Loaded
 {
     Loaded {
         refusal,
-        district: [0usize; 2620],
+        district: [0usize; DISTRICT_PLACES],
     }
 }
 
@@ -35,11 +39,11 @@ pub fn load(file: &[u8]) -> Loaded
     ensures same { λ r. ⌜ r ≡ loadedFrom (now (file .entry)) ⌝ }
     ensures ranged { λ r. ⌜ (r .refusal ≡ 0 → inRange (r .district) ≡ true) ⌝ }
 {
-    let mut d = [0usize; 2620];
+    let mut d = [0usize; DISTRICT_PLACES];
     let mut at: usize = 0;
     let mut place: usize = 0;
     let mut n: usize = 0;
-    while n < 83 {
+    while n < RECORDS {
         let slot = grammar::slot_at(n);
         let step = reading::read_record(&mut d, file, at, slot, place);
         match step {
@@ -54,7 +58,7 @@ pub fn load(file: &[u8]) -> Loaded
         }
     }
     if at < file.len() {
-        return refused(5);
+        return refused(refusals::BYTES_FOLLOW);
     }
     Loaded {
         refusal: 0,
@@ -68,7 +72,7 @@ pub fn export(d: District, buffer: &mut [u8]) -> Answer
 {
     let length = writing::file_length(&d);
     if buffer.len() < length {
-        return Answer::Refused(9);
+        return Answer::Refused(refusals::BUFFER_TOO_SHORT);
     }
     writing::write_file(buffer, &d);
     Answer::Accepted(length)
@@ -83,7 +87,7 @@ pub fn in_range(d: District) -> bool
 
 // How many bytes the longest file has. The contract says of load and export what holds of every file and every district.
 pub fn longest_file() -> usize
-    ensures { λ r. ⌜ (r ≡ 3788) × Trips r ⌝ }
+    ensures { λ r. ⌜ (r ≡ longestFile) × Trips r ⌝ }
 {
-    3788
+    LONGEST_FILE
 }

@@ -7,9 +7,11 @@ ghost use Rattle.grammar.specs.Places.{Ready};
 ghost use Rattle.rules.specs.File.{size, readNumbers, readRecord};
 ghost use Rattle.file.specs.Readings.{ReadInto};
 ghost use Rattle.rules.specs.District.{districtPlaces};
+ghost use Rattle.rules.specs.Format.{mostPlaces};
 use crate::bytes;
 use rules::District;
 use rules::Slot;
+use rules::refusals;
 
 // Where reading goes on, or the number of the refusal.
 pub enum Reading {
@@ -19,7 +21,7 @@ pub enum Reading {
 
 // How many bytes the payload of the record has.
 pub fn payload(d: &District, slot: Slot) -> usize
-    requires { ⌜ slot .places ≤ 115 ⌝ }
+    requires { ⌜ slot .places ≤ mostPlaces ⌝ }
     ensures { λ r. ⌜ r ≡ size (now (d .entry)) slot ⌝ }
 {
     let places = slot.places;
@@ -48,7 +50,7 @@ fn read_numbers(d: &mut District, file: &[u8], from: usize, slot: Slot, place: u
         let width = f.width;
         let x = bytes::number(file, at, width);
         if !grammar::is_inside(f, x) {
-            return Reading::Refused(4);
+            return Reading::Refused(refusals::OUT_OF_RANGE);
         }
         d[place + i] = x;
         at += width;
@@ -69,20 +71,20 @@ pub fn read_record(d: &mut District, file: &[u8], at: usize, slot: Slot, place: 
     }
     let left = file.len() - at;
     if left < 4 {
-        return Reading::Refused(1);
+        return Reading::Refused(refusals::CUT_SHORT);
     }
     let due = slot.kind;
     let size = payload(d, slot);
     let length = bytes::number(file, at, 2);
     let kind = bytes::number(file, at + 2, 2);
     if kind != due {
-        return Reading::Refused(2);
+        return Reading::Refused(refusals::OTHER_KIND);
     }
     if length != size {
-        return Reading::Refused(3);
+        return Reading::Refused(refusals::OTHER_LENGTH);
     }
     if left - 4 < size {
-        return Reading::Refused(1);
+        return Reading::Refused(refusals::CUT_SHORT);
     }
     read_numbers(d, file, at + 4, slot, place)
 }

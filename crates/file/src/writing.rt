@@ -5,14 +5,16 @@ ghost use Prim.Native.Nat.{_+_, _≤_};
 ghost use lib.ListN.{length, drop};
 ghost use Rattle.rules.specs.File.{headerBytes, numberBytes, recordBytes, encode};
 ghost use Rattle.rules.specs.District.{districtPlaces};
+ghost use Rattle.rules.specs.Format.{mostPlaces};
 use crate::bytes;
 use crate::reading;
 use rules::District;
 use rules::Slot;
+use rules::records::RECORDS;
 
 // The length and the kind of the record, where the district has it.
 fn write_header(out: &mut [u8], d: &District, slot: Slot) -> usize
-    requires { ⌜ slot .places ≤ 115 ⌝ }
+    requires { ⌜ slot .places ≤ mostPlaces ⌝ }
     requires { ⌜ length (headerBytes (now d) slot) ≤ length (now out) ⌝ }
     ensures { λ r. ⌜ r ≡ length (headerBytes (now (d .entry)) slot) ⌝ }
     ensures { λ r. ⌜ now (out .exit) ≡ headerBytes (now (d .entry)) slot ++ drop (length (headerBytes (now (d .entry)) slot)) (now (out .entry)) ⌝ }
@@ -29,7 +31,7 @@ fn write_header(out: &mut [u8], d: &District, slot: Slot) -> usize
 
 // The numbers of the record, which stand in the district from `place` on.
 fn write_numbers(out: &mut [u8], d: &District, slot: Slot, place: usize) -> usize
-    requires { ⌜ (slot .places ≤ 115) × (place + slot .places ≤ districtPlaces) ⌝ }
+    requires { ⌜ (slot .places ≤ mostPlaces) × (place + slot .places ≤ districtPlaces) ⌝ }
     requires { ⌜ length (numberBytes (slot .places) (now d) slot 0 place) ≤ length (now out) ⌝ }
     ensures { λ r. ⌜ r ≡ length (numberBytes (slot .places) (now (d .entry)) slot 0 place) ⌝ }
     ensures { λ r. ⌜ now (out .exit) ≡ numberBytes (slot .places) (now (d .entry)) slot 0 place ++ drop (length (numberBytes (slot .places) (now (d .entry)) slot 0 place)) (now (out .entry)) ⌝ }
@@ -48,7 +50,7 @@ fn write_numbers(out: &mut [u8], d: &District, slot: Slot, place: usize) -> usiz
 }
 
 fn write_record(out: &mut [u8], d: &District, slot: Slot, place: usize) -> usize
-    requires { ⌜ (slot .places ≤ 115) × (place + slot .places ≤ districtPlaces) ⌝ }
+    requires { ⌜ (slot .places ≤ mostPlaces) × (place + slot .places ≤ districtPlaces) ⌝ }
     requires { ⌜ length (recordBytes (now d) slot place) ≤ length (now out) ⌝ }
     ensures { λ r. ⌜ r ≡ length (recordBytes (now (d .entry)) slot place) ⌝ }
     ensures { λ r. ⌜ now (out .exit) ≡ recordBytes (now (d .entry)) slot place ++ drop (length (recordBytes (now (d .entry)) slot place)) (now (out .entry)) ⌝ }
@@ -60,7 +62,7 @@ fn write_record(out: &mut [u8], d: &District, slot: Slot, place: usize) -> usize
 
 // How many bytes the record has, wherever its numbers stand.
 fn record_length(d: &District, slot: Slot, place: usize) -> usize
-    requires { ⌜ slot .places ≤ 115 ⌝ }
+    requires { ⌜ slot .places ≤ mostPlaces ⌝ }
     ensures { λ r. ⌜ r ≡ length (recordBytes (now (d .entry)) slot place) ⌝ }
 {
     if grammar::is_present(d, slot) {
@@ -75,7 +77,7 @@ pub fn file_length(d: &District) -> usize
     let mut sum: usize = 0;
     let mut place: usize = 0;
     let mut n: usize = 0;
-    while n < 83 {
+    while n < RECORDS {
         let slot = grammar::slot_at(n);
         sum += record_length(d, slot, place);
         place += slot.places;
@@ -92,7 +94,7 @@ pub fn write_file(out: &mut [u8], d: &District)
     let mut at: usize = 0;
     let mut place: usize = 0;
     let mut n: usize = 0;
-    while n < 83 {
+    while n < RECORDS {
         let slot = grammar::slot_at(n);
         let length = write_record(&mut out[at..], d, slot, place);
         at += length;

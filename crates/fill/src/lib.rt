@@ -10,6 +10,7 @@ ghost use Rattle.rating.specs.Numbers.{Segment};
 ghost use Rattle.fill.specs.Filled.{Filled};
 ghost use Rattle.fill.specs.Lists.{benefitList, usageList, limitList, shareList, downShareList};
 use rules::District;
+use rules::places;
 
 // The benefits of all segments and strategies.
 fn fill_benefits(d: &District, table: &mut [u64])
@@ -112,8 +113,8 @@ pub fn fill_all(
     fill_limits(d, limits);
     fill_shares(uses, limits, shares, downs);
     Size {
-        segments: d[0],
-        strategies: d[1],
-        resources: d[5],
+        segments: d[places::SEGMENT_COUNT],
+        strategies: d[places::STRATEGY_COUNT],
+        resources: d[places::RESOURCE_COUNT],
     }
 }

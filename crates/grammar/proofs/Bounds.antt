@@ -1,17 +1,18 @@
 -- What being inside a field's range says of a number, and which range each field has. Assumes nothing.
-use Prim.Native.Nat.{ℕ, _≤_, _<_}
+use Prim.Native.Nat.{ℕ, _+_, _-_, _≤_, _<_}
 use mathlib.Core.Path.{_≡_, sym, refl, _∙_}
 use mathlib.Core.Bool.{Bool, true, false, _&&_, _||_}
 use native.Mathlib.Omega.{arith}
 use mathlib.Core.Logic.{_⊎_, inl, inr, ⊎-elim}
 use lib.Dec.{leb, ltb, lit≤}
 use lib.IntN.{natAbs}
-use borrow.Author.Tests.{leb-true, le-leb, ltb-true, ltb-false, lt-ltb}
+use borrow.Author.Tests.{leb-true, le-leb, ltb-true, ltb-false, lt-ltb, le-ltb, ne-eqb}
 use Rattle.base.specs.Choice.{pick}
 use Rattle.base.specs.Over.{between}
 use Rattle.base.proofs.Choice.{pick-yes, pick-all, and-yes, and-both, or-either}
 use Rattle.base.specs.Bytes.{signed}
-use Rattle.rules.specs.Format.{number, ranged, inside}
+use Rattle.rules.specs.District.{District, lengthAt, widthAt, barsAt, ratingsAt, distressesOf, greatestOf}
+use Rattle.rules.specs.Format.{number, absent, ranged, inside, segmentField}
 use Rattle.rules.specs.declared.Field.{Field}
 
 -- a field whose range does not run past the largest number, and lies from a to b
@@ -60,3 +61,11 @@ gain-most x e = go (or-either (leb x 50) (between 206 255 x) e) (ltb x 128) refl
     go (inr l) false q =
         rw (q, lt-ltb x 256 (gain-byte x e)) (omega (arith, leb-true 206 x (and-both (leb 206 x) (leb x 255) l .0)))
     go (inl l) false q = absurd (let a = leb-true x 50 l in let b = ltb-false x 128 q in omega arith)
+
+-- the range of a rating
+pub rating-field : (d : District) (k : ℕ) → 1 ≤ k → segmentField d (ratingsAt + (k - 1)) ≡ pick (ltb (k - 1) (distressesOf d)) (number 1 0 (greatestOf d k)) absent
+rating-field d k h =
+    let n = ratingsAt + (k - 1) in
+    let counted : n - ratingsAt ≡ k - 1 = omega arith in
+    let numbered : n - (ratingsAt - 1) ≡ k = omega arith in
+    rw (ne-eqb n 0 (λ e. omega arith), le-ltb n lengthAt (omega arith), ne-eqb n lengthAt (λ e. omega arith), ne-eqb n widthAt (λ e. omega arith), ne-eqb n barsAt (λ e. omega arith), counted, numbered)

@@ -11,11 +11,13 @@ use lib.Seq.{getD-set-same, getD-set-other}
 use borrow.Author.Tests.{ltb-true, ltb-false, eqb-true, eqb-false, leb-true, lt-ltb}
 use Rattle.base.proofs.Choice.{pick-all, and-both}
 use Rattle.base.specs.Bits.{bitAt, setBit, clearBit}
-use Rattle.rules.specs.Answers.{unless, oneTo}
-use Rattle.rules.specs.Calls.{barRefusal, limitRefusal, ratingRefusal}
-use Rattle.rules.specs.District.{District, valueAt, segmentPlace, barsPlace, ratingPlace, segmentsOf, strategiesOf, distressesOf, resourcesOf, barsOf, greatestOf, withLimit, withBar, withoutBar, withRating}
+use Rattle.rules.specs.Answers.{noSuchSegment, noSuchNumber, newOutOfRange, unless, oneTo}
+use Rattle.rules.specs.Calls.{barRefusal, limitRefusal, ratingRefusal, editRefusal, edited}
+use Rattle.rules.specs.District.{District, countPlaces, limitPlace, greatestAt, greatestPlace, strategiesAt, barsAt, ratingsAt, perSegment, valueAt, segmentPlace, barsPlace, ratingPlace, segmentsOf, strategiesOf, distressesOf, resourcesOf, barsOf, greatestOf, withLimit, withBar, withoutBar, withRating}
 use Rattle.rules.specs.File.{inRange}
-use Rattle.rules.specs.Format.{inside, slotOf, limitField, segmentField, fieldAt}
+use Rattle.rules.specs.Format.{inside, slotOf, firstSegmentRecord, fileRecords, limitField, segmentField, fieldAt}
+use Rattle.rules.specs.declared.Edit.{Edit}
+use Rattle.rules.specs.declared.Edit.the-variants.{Bar, Unbar, SetLimit, SetRating}
 use Rattle.rules.specs.declared.Slot.{Slot}
 use Rattle.grammar.specs.Places.{startOf, InRange}
 use Rattle.grammar.proofs.Bounds.{inside-number}
@@ -35,14 +37,14 @@ place-once n m i k a b e = go (ltb n m) refl (ltb m n) refl
         (z, omega (arith, ap startOf z))
 
 -- a number that its field may hold, at a place on which no field hangs
-module _ (d : District) (ok : InRange d) (n i x q : ℕ) (h : n < 83) (l : i < slotOf n .places) (e : startOf n + i ≡ q) (late : 6 ≤ q) (clear : 22 ≤ q → 31 ≤ q) (good : inside (fieldAt d (slotOf n) i) x ≡ true) where
+module _ (d : District) (ok : InRange d) (n i x q : ℕ) (h : n < fileRecords) (l : i < slotOf n .places) (e : startOf n + i ≡ q) (late : countPlaces ≤ q) (clear : greatestAt ≤ q → strategiesAt ≤ q) (good : inside (fieldAt d (slotOf n) i) x ≡ true) where
   same : (m k : ℕ) → k < slotOf m .places → fieldAt (set d q x) (slotOf m) k ≡ fieldAt d (slotOf m) k
   unfolding greatestOf
   same m k b =
       field-same d (set d q x) (λ c a. getD-set-other d q c x 0 (λ z. omega arith)) (slotOf m) k
-      (λ s. getD-set-other d q (22 + (k - 5 - 1)) x 0 (λ z. let y = segment-places m s in let w = clear (omega arith) in omega arith))
+      (λ s. getD-set-other d q (greatestPlace (k - (ratingsAt - 1))) x 0 (λ z. let y = segment-places m s in let w = clear (omega arith) in omega arith))
 
-  set-in : (m k : ℕ) → m < 83 → k < slotOf m .places → (t : Bool) → eqb (startOf m + k) q ≡ t → inside (fieldAt (set d q x) (slotOf m) k) (valueAt (set d q x) (startOf m + k)) ≡ true
+  set-in : (m k : ℕ) → m < fileRecords → k < slotOf m .places → (t : Bool) → eqb (startOf m + k) q ≡ t → inside (fieldAt (set d q x) (slotOf m) k) (valueAt (set d q x) (startOf m + k)) ≡ true
   set-in m k a b true p =
       let z = eqb-true (startOf m + k) q p in
       let one = place-once m n k i b l (z ∙ sym e) in
@@ -54,45 +56,45 @@ module _ (d : District) (ok : InRange d) (n i x q : ℕ) (h : n < 83) (l : i < s
 
 -- ---- what no refusal says
 
-unless-passes : (t : Bool) (n rest : ℕ) → unless t (suc n) rest ≡ 0 → (t ≡ true) × (rest ≡ 0)
-unless-passes true n rest e = (refl, e)
-unless-passes false n rest e = absurd (omega arith)
+unless-passes : (t : Bool) (n rest : ℕ) → 1 ≤ n → unless t n rest ≡ 0 → (t ≡ true) × (rest ≡ 0)
+unless-passes true n rest h e = (refl, e)
+unless-passes false n rest h e = absurd (omega arith)
 
-one-to : (x count n rest : ℕ) → oneTo x count (suc n) rest ≡ 0 → (1 ≤ x) × (x ≤ count) × (rest ≡ 0)
-one-to x count n rest e =
-    let u = unless-passes (leb 1 x && leb x count) n rest e in
+one-to : (x count n rest : ℕ) → 1 ≤ n → oneTo x count n rest ≡ 0 → (1 ≤ x) × (x ≤ count) × (rest ≡ 0)
+one-to x count n rest h e =
+    let u = unless-passes (leb 1 x && leb x count) n rest h e in
     let b = and-both (leb 1 x) (leb x count) (u .0) in
     (leb-true 1 x (b .0), leb-true x count (b .1), u .1)
 
 -- ---- limits
 
-pub limit-kept : (d : District) (r limit : ℕ) → inRange d ≡ true → limitRefusal d r limit ≡ 0 → inRange (withLimit d r limit) ≡ true
+limit-kept : (d : District) (r limit : ℕ) → inRange d ≡ true → limitRefusal d r limit ≡ 0 → inRange (withLimit d r limit) ≡ true
 unfolding limitRefusal withLimit fieldAt
 limit-kept d r limit ok e =
-    let o = one-to r (resourcesOf d) 6 (unless (inside (limitField d (r - 1)) limit) 8 0) e in
-    let u = unless-passes (inside (limitField d (r - 1)) limit) 7 0 (o .2) in
+    let o = one-to r (resourcesOf d) noSuchNumber (unless (inside (limitField d (r - 1)) limit) newOutOfRange 0) (omega arith) e in
+    let u = unless-passes (inside (limitField d (r - 1)) limit) newOutOfRange 0 (omega arith) (o .2) in
     let m = resources d (in-range d ok) .1 in
-    kept d (in-range d ok) 1 (r - 1) limit (6 + (r - 1)) (omega arith) (omega (arith, o .0, o .1)) refl (omega arith) (λ z. omega (arith, o .1)) (u .0)
+    kept d (in-range d ok) 1 (r - 1) limit (limitPlace r) (omega arith) (omega (arith, o .0, o .1)) refl (omega arith) (λ z. omega (arith, o .1)) (u .0)
 
 -- ---- segments
 
-segment-kept : (d : District) (i n x q : ℕ) → inRange d ≡ true → 1 ≤ i → i ≤ segmentsOf d → n < 15 → segmentPlace i + n ≡ q → inside (segmentField d n) x ≡ true → inRange (set d q x) ≡ true
+segment-kept : (d : District) (i n x q : ℕ) → inRange d ≡ true → 1 ≤ i → i ≤ segmentsOf d → n < perSegment → segmentPlace i + n ≡ q → inside (segmentField d n) x ≡ true → inRange (set d q x) ≡ true
 unfolding fieldAt
 segment-kept d i n x q ok a b l e good =
     let N = segments d (in-range d ok) .1 in
     let z = slot-segment (i - 1) (omega arith) in
     let s = start-segment (i - 1) (omega arith) in
-    kept d (in-range d ok) (18 + (i - 1)) n x q (omega arith) (omega (arith, ap (λ (s : Slot). s .places) z)) (omega arith) (omega arith) (λ z. omega arith)
+    kept d (in-range d ok) (firstSegmentRecord + (i - 1)) n x q (omega arith) (omega (arith, ap (λ (s : Slot). s .places) z)) (omega arith) (omega arith) (λ z. omega arith)
     (rw (z, lt-ltb (i - 1) (segmentsOf d) (omega arith)) good)
 
-pub rating-kept : (d : District) (i k rating : ℕ) → inRange d ≡ true → ratingRefusal d i k rating ≡ 0 → inRange (withRating d i k rating) ≡ true
+rating-kept : (d : District) (i k rating : ℕ) → inRange d ≡ true → ratingRefusal d i k rating ≡ 0 → inRange (withRating d i k rating) ≡ true
 unfolding ratingRefusal withRating
 rating-kept d i k rating ok e =
-    let f = segmentField d (6 + (k - 1)) in
-    let o = one-to i (segmentsOf d) 5 (oneTo k (distressesOf d) 7 (unless (inside f rating) 8 0)) e in
-    let p = one-to k (distressesOf d) 6 (unless (inside f rating) 8 0) (o .2) in
-    let u = unless-passes (inside f rating) 7 0 (p .2) in
-    segment-kept d i (6 + (k - 1)) rating (ratingPlace i k) ok (o .0) (o .1) (omega (arith, p .1, distresses d (in-range d ok) .1)) (omega arith) (u .0)
+    let f = segmentField d (ratingsAt + (k - 1)) in
+    let o = one-to i (segmentsOf d) noSuchSegment (oneTo k (distressesOf d) noSuchNumber (unless (inside f rating) newOutOfRange 0)) (omega arith) e in
+    let p = one-to k (distressesOf d) noSuchNumber (unless (inside f rating) newOutOfRange 0) (omega arith) (o .2) in
+    let u = unless-passes (inside f rating) newOutOfRange 0 (omega arith) (p .2) in
+    segment-kept d i (ratingsAt + (k - 1)) rating (ratingPlace i k) ok (o .0) (o .1) (omega (arith, p .1, distresses d (in-range d ok) .1)) (omega arith) (u .0)
 
 -- a bit below s, set or cleared in a mask below 2 ^ s
 set-below : (mask s n : ℕ) → n < s → mask < 2 ^ s → setBit mask n < 2 ^ s
@@ -119,8 +121,8 @@ module _ (d : District) (ok : inRange d ≡ true) (i j : ℕ) (e : barRefusal d 
   numbers : (1 ≤ i) × (i ≤ segmentsOf d) × (1 ≤ j) × (j ≤ strategiesOf d)
   unfolding barRefusal
   numbers =
-      let o = one-to i (segmentsOf d) 5 (oneTo j (strategiesOf d) 7 0) e in
-      let p = one-to j (strategiesOf d) 6 0 (o .2) in
+      let o = one-to i (segmentsOf d) noSuchSegment (oneTo j (strategiesOf d) noSuchNumber 0) (omega arith) e in
+      let p = one-to j (strategiesOf d) noSuchNumber 0 (omega arith) (o .2) in
       (o .0, o .1, p .0, p .1)
 
   as-many : min (strategiesOf d) 16 ≡ strategiesOf d
@@ -133,12 +135,18 @@ module _ (d : District) (ok : inRange d ≡ true) (i j : ℕ) (e : barRefusal d 
 
   bars-kept : (mask : ℕ) → mask < 2 ^ strategiesOf d → inRange (set d (barsPlace i) mask) ≡ true
   bars-kept mask l =
-      segment-kept d i 5 mask (barsPlace i) ok (numbers .0) (numbers .1) (omega arith) refl (rw as-many (inside-number 2 0 (2 ^ strategiesOf d - 1) mask (omega arith) (omega arith)))
+      segment-kept d i barsAt mask (barsPlace i) ok (numbers .0) (numbers .1) (omega arith) refl (rw as-many (inside-number 2 0 (2 ^ strategiesOf d - 1) mask (omega arith) (omega arith)))
 
-  pub bar-kept : inRange (withBar d i j) ≡ true
+  bar-kept : inRange (withBar d i j) ≡ true
   unfolding withBar
   bar-kept = bars-kept (setBit (barsOf d i) (j - 1)) (set-below (barsOf d i) (strategiesOf d) (j - 1) (omega (arith, numbers .2, numbers .3)) bars-below)
 
-  pub unbar-kept : inRange (withoutBar d i j) ≡ true
+  unbar-kept : inRange (withoutBar d i j) ≡ true
   unfolding withoutBar
   unbar-kept = bars-kept (clearBit (barsOf d i) (j - 1)) (clear-below (barsOf d i) (strategiesOf d) (j - 1) bars-below)
+
+pub edit-kept : (d : District) (e : Edit) → inRange d ≡ true → editRefusal d e ≡ 0 → inRange (edited d e) ≡ true
+edit-kept d (Bar i j) ok none = bar-kept d ok i j none
+edit-kept d (Unbar i j) ok none = unbar-kept d ok i j none
+edit-kept d (SetLimit r limit) ok none = limit-kept d r limit ok none
+edit-kept d (SetRating i k rating) ok none = rating-kept d i k rating ok none

@@ -9,8 +9,8 @@ use lib.Pow.{pow-mono}
 use borrow.Author.Tests.{le-leb}
 use Rattle.base.proofs.Choice.{pick-all}
 use Rattle.base.specs.Choice.{pick}
-use Rattle.rules.specs.District.{District, valueAt, strategiesOf, pavementsOf, segmentsOf, greatestOf}
-use Rattle.rules.specs.Format.{number, absent, inside, slotOf, countField, limitField, greatestField, strategyField, pavementField, segmentField, fieldAt}
+use Rattle.rules.specs.District.{District, mostDistresses, ratingsAt, perSegment, valueAt, strategiesOf, pavementsOf, segmentsOf, greatestOf}
+use Rattle.rules.specs.Format.{number, absent, inside, slotOf, fileRecords, countField, limitField, greatestField, strategyField, pavementField, segmentField, fieldAt}
 use Rattle.rules.specs.declared.Field.{Field}
 use Rattle.rules.specs.declared.Slot.{Slot}
 use Rattle.grammar.specs.Places.{startOf, InRange}
@@ -43,12 +43,12 @@ count-fit x (suc (suc (suc (suc (suc zero))))) = search fits
 count-fit x (suc (suc (suc (suc (suc (suc n)))))) = search fits
 
 module _ (d : District) (ok : InRange d) (x : ℕ) where
-  rating-most : (k : ℕ) → k ≤ 9 → greatestOf d k ≤ 50
+  rating-most : (k : ℕ) → k ≤ mostDistresses → greatestOf d k ≤ 50
   unfolding greatestOf
   rating-most zero h = greatest d ok 1 (omega arith) (omega arith)
   rating-most (suc k) h = greatest d ok (suc k) (omega arith) h
 
-  segment-fit : (n : ℕ) → n < 15 → Fit x (segmentField d n)
+  segment-fit : (n : ℕ) → n < perSegment → Fit x (segmentField d n)
   segment-fit n h =
       let Y = pavementsOf d in
       let some : leb 1 Y ≡ true = le-leb 1 Y (pavements d ok .0) in
@@ -56,9 +56,9 @@ module _ (d : District) (ok : InRange d) (x : ℕ) where
       let mask = 2 ^ min (strategiesOf d) 16 - 1 in
       let bits : leb 0 mask ≡ true = le-leb 0 mask (omega arith) in
       let wide : mask < 256 ^ 2 = omega (arith, pow-mono {i = min (strategiesOf d) 16} {j = 16} (min-le-right (strategiesOf d) 16)) in
-      let g = greatestOf d (n - 5) in
+      let g = greatestOf d (n - (ratingsAt - 1)) in
       let least : leb 0 g ≡ true = le-leb 0 g (omega arith) in
-      let most : g < 256 ^ 1 = omega (arith, rating-most (n - 5) (omega arith)) in
+      let most : g < 256 ^ 1 = omega (arith, rating-most (n - (ratingsAt - 1)) (omega arith)) in
       search fits depth 12
 
   field-fit : (m n : ℕ) → n < slotOf m .places → Fit x (fieldAt d (slotOf m) n)
@@ -76,5 +76,5 @@ module _ (d : District) (ok : InRange d) (x : ℕ) where
       none : Fit x absent
       none = fit-number x 0 0 0 refl (omega arith)
 
-pub value-fits : (d : District) → InRange d → (n i : ℕ) → n < 83 → i < slotOf n .places → valueAt d (startOf n + i) < 256 ^ fieldAt d (slotOf n) i .width
+pub value-fits : (d : District) → InRange d → (n i : ℕ) → n < fileRecords → i < slotOf n .places → valueAt d (startOf n + i) < 256 ^ fieldAt d (slotOf n) i .width
 value-fits d ok n i h l = field-fit d ok (valueAt d (startOf n + i)) n i l .fit (ok .values n i h l)

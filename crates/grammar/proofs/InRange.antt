@@ -11,7 +11,7 @@ use lib.Seq.{getD-drop, drop-drop}
 use borrow.Author.Tests.{eqb-true, eq-eqb}
 use Rattle.base.proofs.Choice.{and-both, and-yes}
 use Rattle.rules.specs.District.{District, valueAt, districtPlaces}
-use Rattle.rules.specs.Format.{slotOf, fieldAt, inside}
+use Rattle.rules.specs.Format.{slotOf, fileRecords, fieldAt, inside}
 use Rattle.rules.specs.File.{numbersInRange, recordsInRange, inRange}
 use Rattle.rules.specs.declared.Slot.{Slot}
 use Rattle.grammar.specs.Places.{startOf, InRange}
@@ -71,12 +71,12 @@ module _ (d : District) where
       let both = and-both _ _ e in
       record { places = eqb-true (length d) districtPlaces (both .0); values = λ n i h l. each (both .1) n i h l }
     where
-      each : recordsInRange 83 d 0 d ≡ true → (n i : ℕ) → n < 83 → i < slotOf n .places → inside (fieldAt d (slotOf n) i) (valueAt d (startOf n + i)) ≡ true
-      each a n i h l = rw (getD-drop (startOf n) d i 0, zero-add i) at (numbers-in d (slotOf n) (slotOf n .places) 0 (drop (startOf n) d) (records-in 83 0 a n (omega arith) (omega arith)) i l)
+      each : recordsInRange fileRecords d 0 d ≡ true → (n i : ℕ) → n < fileRecords → i < slotOf n .places → inside (fieldAt d (slotOf n) i) (valueAt d (startOf n + i)) ≡ true
+      each a n i h l = rw (getD-drop (startOf n) d i 0, zero-add i) at (numbers-in d (slotOf n) (slotOf n .places) 0 (drop (startOf n) d) (records-in fileRecords 0 a n (omega arith) (omega arith)) i l)
 
   pub range-in : InRange d → inRange d ≡ true
   unfolding inRange
-  range-in ok = sym (and-yes _ _ true (eq-eqb (length d) districtPlaces (ok .places)) (sym (in-records 83 0 (λ n a b. each n (omega arith)))))
+  range-in ok = sym (and-yes _ _ true (eq-eqb (length d) districtPlaces (ok .places)) (sym (in-records fileRecords 0 (λ n a b. each n (omega arith)))))
     where
-      each : (n : ℕ) → n < 83 → RecordIn n
+      each : (n : ℕ) → n < fileRecords → RecordIn n
       each n h = in-numbers d (slotOf n) (slotOf n .places) 0 (drop (startOf n) d) (λ i l. rw (zero-add i, getD-drop (startOf n) d i 0) (ok .values n i h l))

@@ -11,8 +11,8 @@ use borrow.Author.Tests.{le-leb, lt-ltb, le-ltb, ne-eqb}
 use Rattle.base.proofs.Choice.{pick-all}
 use Rattle.base.specs.Bytes.{signed}
 use Rattle.base.specs.Choice.{pick}
-use Rattle.rules.specs.District.{District, valueAt, strategyPlace, pavementPlace, segmentPlace, segmentsOf, strategiesOf, yearsOf, distressesOf, pavementsOf, resourcesOf, limitOf, greatestOf, requirementOf, gainOf, percentOf, overallOf, minimumOf, pavementOf, trafficOf, environmentOf, lengthOf, widthOf, barsOf, ratingOf}
-use Rattle.rules.specs.Format.{number, absent, inside, slot, present, limitField, greatestField, rowsField, strategyField, pavementField, segmentField, kindField, fieldAt}
+use Rattle.rules.specs.District.{District, mostSegments, mostStrategies, mostYears, mostDistresses, mostPavements, mostResources, countPlaces, gainsAt, percentsAt, perStrategy, minimaAt, perPavement, trafficAt, environmentAt, lengthAt, widthAt, barsAt, ratingsAt, perSegment, valueAt, strategyPlace, pavementPlace, segmentPlace, segmentsOf, strategiesOf, yearsOf, distressesOf, pavementsOf, resourcesOf, limitOf, greatestOf, requirementOf, gainOf, percentOf, overallOf, minimumOf, pavementOf, trafficOf, environmentOf, lengthOf, widthOf, barsOf, ratingOf}
+use Rattle.rules.specs.Format.{number, absent, inside, slot, firstStrategyRecord, firstPavementRecord, firstSegmentRecord, present, limitField, greatestField, rowsField, strategyField, pavementField, segmentField, kindField, fieldAt}
 use Rattle.rules.specs.File.{inRange}
 use Rattle.rules.specs.declared.Slot.{Slot}
 use Rattle.rules.specs.declared.Field.{Field}
@@ -20,54 +20,54 @@ use Rattle.grammar.specs.Places.{InRange}
 use Rattle.grammar.specs.Ranges.{Ranges}
 use Rattle.grammar.proofs.Slots.{slot-strategy, slot-pavement, slot-segment, start-strategy, start-pavement, start-segment}
 use Rattle.grammar.proofs.InRange.{in-range}
-use Rattle.grammar.proofs.Bounds.{Between, between-pick, between-number, betweens, inside-between, gain-most}
+use Rattle.grammar.proofs.Bounds.{Between, between-pick, between-number, betweens, inside-between, gain-most, rating-field}
 
 module _ (d : District) (ok : InRange d) where
   -- ---- the numbers of one record, at the district's own places
 
-  pub strategy-in : (j n : ℕ) → 1 ≤ j → j ≤ 11 → n < 115 → inside (fieldAt d (slot 4 115 (j - 1)) n) (valueAt d (strategyPlace j + n)) ≡ true
+  pub strategy-in : (j n : ℕ) → 1 ≤ j → j ≤ mostStrategies → n < perStrategy → inside (fieldAt d (slot 4 perStrategy (j - 1)) n) (valueAt d (strategyPlace j + n)) ≡ true
   strategy-in j n a b h =
       let e = slot-strategy (j - 1) (omega arith) in
-      rw (e, start-strategy (j - 1) (omega arith)) at (ok .values (3 + (j - 1)) n (omega arith) (omega (arith, ap (λ (s : Slot). s .places) e)))
+      rw (e, start-strategy (j - 1) (omega arith)) at (ok .values (firstStrategyRecord + (j - 1)) n (omega arith) (omega (arith, ap (λ (s : Slot). s .places) e)))
 
-  pub pavement-in : (y n : ℕ) → 1 ≤ y → y ≤ 4 → n < 91 → inside (fieldAt d (slot 5 91 (y - 1)) n) (valueAt d (pavementPlace y + n)) ≡ true
+  pub pavement-in : (y n : ℕ) → 1 ≤ y → y ≤ mostPavements → n < perPavement → inside (fieldAt d (slot 5 perPavement (y - 1)) n) (valueAt d (pavementPlace y + n)) ≡ true
   pavement-in y n a b h =
       let e = slot-pavement (y - 1) (omega arith) in
-      rw (e, start-pavement (y - 1) (omega arith)) at (ok .values (14 + (y - 1)) n (omega arith) (omega (arith, ap (λ (s : Slot). s .places) e)))
+      rw (e, start-pavement (y - 1) (omega arith)) at (ok .values (firstPavementRecord + (y - 1)) n (omega arith) (omega (arith, ap (λ (s : Slot). s .places) e)))
 
-  pub segment-in : (i n : ℕ) → 1 ≤ i → i ≤ 64 → n < 15 → inside (fieldAt d (slot 6 15 (i - 1)) n) (valueAt d (segmentPlace i + n)) ≡ true
+  pub segment-in : (i n : ℕ) → 1 ≤ i → i ≤ mostSegments → n < perSegment → inside (fieldAt d (slot 6 perSegment (i - 1)) n) (valueAt d (segmentPlace i + n)) ≡ true
   segment-in i n a b h =
       let e = slot-segment (i - 1) (omega arith) in
-      rw (e, start-segment (i - 1) (omega arith)) at (ok .values (18 + (i - 1)) n (omega arith) (omega (arith, ap (λ (s : Slot). s .places) e)))
+      rw (e, start-segment (i - 1) (omega arith)) at (ok .values (firstSegmentRecord + (i - 1)) n (omega arith) (omega (arith, ap (λ (s : Slot). s .places) e)))
 
   -- ---- counts, limits and greatest ratings
 
-  count-in : (n lo hi : ℕ) → n < 6 → leb lo hi ≡ true → fieldAt d (slot 1 6 0) n ≡ number 1 lo hi → (lo ≤ valueAt d n) × (valueAt d n ≤ hi)
+  count-in : (n lo hi : ℕ) → n < countPlaces → leb lo hi ≡ true → fieldAt d (slot 1 countPlaces 0) n ≡ number 1 lo hi → (lo ≤ valueAt d n) × (valueAt d n ≤ hi)
   count-in n lo hi h s e = inside-between lo hi (number 1 lo hi) (valueAt d n) (between-number lo hi 1 lo hi s (omega arith) (omega arith)) (rw (e, zero-add n) at (ok .values 0 n (omega arith) h))
 
-  pub segments : (0 ≤ segmentsOf d) × (segmentsOf d ≤ 64)
+  pub segments : (0 ≤ segmentsOf d) × (segmentsOf d ≤ mostSegments)
   unfolding fieldAt
-  segments = count-in 0 0 64 (omega arith) refl refl
+  segments = count-in 0 0 mostSegments (omega arith) refl refl
 
-  pub strategies : (1 ≤ strategiesOf d) × (strategiesOf d ≤ 11)
+  pub strategies : (1 ≤ strategiesOf d) × (strategiesOf d ≤ mostStrategies)
   unfolding fieldAt
-  strategies = count-in 1 1 11 (omega arith) refl refl
+  strategies = count-in 1 1 mostStrategies (omega arith) refl refl
 
-  pub years : (1 ≤ yearsOf d) × (yearsOf d ≤ 10)
+  pub years : (1 ≤ yearsOf d) × (yearsOf d ≤ mostYears)
   unfolding fieldAt
-  years = count-in 2 1 10 (omega arith) refl refl
+  years = count-in 2 1 mostYears (omega arith) refl refl
 
-  pub distresses : (1 ≤ distressesOf d) × (distressesOf d ≤ 9)
+  pub distresses : (1 ≤ distressesOf d) × (distressesOf d ≤ mostDistresses)
   unfolding fieldAt
-  distresses = count-in 3 1 9 (omega arith) refl refl
+  distresses = count-in 3 1 mostDistresses (omega arith) refl refl
 
-  pub pavements : (1 ≤ pavementsOf d) × (pavementsOf d ≤ 4)
+  pub pavements : (1 ≤ pavementsOf d) × (pavementsOf d ≤ mostPavements)
   unfolding fieldAt
-  pavements = count-in 4 1 4 (omega arith) refl refl
+  pavements = count-in 4 1 mostPavements (omega arith) refl refl
 
-  pub resources : (1 ≤ resourcesOf d) × (resourcesOf d ≤ 16)
+  pub resources : (1 ≤ resourcesOf d) × (resourcesOf d ≤ mostResources)
   unfolding fieldAt
-  resources = count-in 5 1 16 (omega arith) refl refl
+  resources = count-in 5 1 mostResources (omega arith) refl refl
 
   -- a field that a record of its kind has, or none
   at-most : (b : ℕ) (s : Slot) (n x : ℕ) → Between 0 b (kindField d (s .kind) n) → inside (fieldAt d s n) x ≡ true → x ≤ b
@@ -81,93 +81,92 @@ module _ (d : District) (ok : InRange d) where
       let k : most ≤ most = omega arith in
       search betweens depth 10
 
-  limit : (r : ℕ) → 1 ≤ r → r ≤ 16 → limitOf d r ≤ 999_999_999
+  limit : (r : ℕ) → 1 ≤ r → r ≤ mostResources → limitOf d r ≤ 999_999_999
   unfolding limitOf
   limit r a b =
       let f : Between 0 999_999_999 (limitField d (r - 1)) = search betweens depth 10 in
-      at-most 999_999_999 (slot 2 16 0) (r - 1) (limitOf d r) f (ok .values 1 (r - 1) (omega arith) (omega arith))
+      at-most 999_999_999 (slot 2 mostResources 0) (r - 1) (limitOf d r) f (ok .values 1 (r - 1) (omega arith) (omega arith))
 
-  pub greatest : (k : ℕ) → 1 ≤ k → k ≤ 9 → greatestOf d k ≤ 50
+  pub greatest : (k : ℕ) → 1 ≤ k → k ≤ mostDistresses → greatestOf d k ≤ 50
   unfolding greatestOf
   greatest k a b =
       let f : Between 0 50 (greatestField d (k - 1)) = search betweens depth 10 in
-      at-most 50 (slot 3 9 0) (k - 1) (greatestOf d k) f (ok .values 2 (k - 1) (omega arith) (omega arith))
+      at-most 50 (slot 3 mostDistresses 0) (k - 1) (greatestOf d k) f (ok .values 2 (k - 1) (omega arith) (omega arith))
 
   -- ---- strategies
 
-  requirement : (j r : ℕ) → 1 ≤ j → j ≤ 11 → 1 ≤ r → r ≤ 16 → requirementOf d j r ≤ 999_999
+  requirement : (j r : ℕ) → 1 ≤ j → j ≤ mostStrategies → 1 ≤ r → r ≤ mostResources → requirementOf d j r ≤ 999_999
   unfolding requirementOf
   requirement j r a b p q =
       let g : Between 0 999_999 (pick (ltb (r - 1) (resourcesOf d)) (number 4 0 999_999) absent) = search betweens depth 10 in
-      let f : Between 0 999_999 (strategyField d (r - 1)) = rw (lt-ltb (r - 1) 16 (omega arith)) g in
-      at-most 999_999 (slot 4 115 (j - 1)) (r - 1) (requirementOf d j r) f (strategy-in j (r - 1) a b (omega arith))
+      let f : Between 0 999_999 (strategyField d (r - 1)) = rw (lt-ltb (r - 1) gainsAt (omega arith)) g in
+      at-most 999_999 (slot 4 perStrategy (j - 1)) (r - 1) (requirementOf d j r) f (strategy-in j (r - 1) a b (omega arith))
 
-  percent : (j k t : ℕ) → 1 ≤ j → j ≤ 11 → 1 ≤ k → k ≤ 9 → 1 ≤ t → t ≤ 10 → percentOf d j k t ≤ 100
+  percent : (j k t : ℕ) → 1 ≤ j → j ≤ mostStrategies → 1 ≤ k → k ≤ mostDistresses → 1 ≤ t → t ≤ mostYears → percentOf d j k t ≤ 100
   unfolding percentOf
   percent j k t a b p q v w =
-      let n = 25 + 10 * (k - 1) + (t - 1) in
-      let f : Between 0 100 (strategyField d n) = rw (le-ltb n 16 (omega arith), le-ltb n 25 (omega arith)) (rows 100 (n - 25)) in
-      let e : strategyPlace j + n ≡ strategyPlace j + 25 + 10 * (k - 1) + (t - 1) = omega arith in
-      at-most 100 (slot 4 115 (j - 1)) n (percentOf d j k t) f (rw e at (strategy-in j n a b (omega arith)))
+      let n = percentsAt + mostYears * (k - 1) + (t - 1) in
+      let f : Between 0 100 (strategyField d n) = rw (le-ltb n gainsAt (omega arith), le-ltb n percentsAt (omega arith)) (rows 100 (n - percentsAt)) in
+      let e : strategyPlace j + n ≡ strategyPlace j + percentsAt + mostYears * (k - 1) + (t - 1) = omega arith in
+      at-most 100 (slot 4 perStrategy (j - 1)) n (percentOf d j k t) f (rw e at (strategy-in j n a b (omega arith)))
 
   -- ---- pavement types
 
-  overall : (y : ℕ) → 1 ≤ y → y ≤ 4 → overallOf d y ≤ 450
+  overall : (y : ℕ) → 1 ≤ y → y ≤ mostPavements → overallOf d y ≤ 450
   unfolding overallOf
   overall y a b =
       let f : Between 0 450 (pavementField d 0) = between-number 0 450 2 0 450 refl (omega arith) (omega arith) in
-      at-most 450 (slot 5 91 (y - 1)) 0 (overallOf d y) f (rw add-zero at (pavement-in y 0 a b (omega arith)))
+      at-most 450 (slot 5 perPavement (y - 1)) 0 (overallOf d y) f (rw add-zero at (pavement-in y 0 a b (omega arith)))
 
-  minimum : (y k t : ℕ) → 1 ≤ y → y ≤ 4 → 1 ≤ k → k ≤ 9 → 1 ≤ t → t ≤ 10 → minimumOf d y k t ≤ 50
+  minimum : (y k t : ℕ) → 1 ≤ y → y ≤ mostPavements → 1 ≤ k → k ≤ mostDistresses → 1 ≤ t → t ≤ mostYears → minimumOf d y k t ≤ 50
   unfolding minimumOf
   minimum y k t a b p q v w =
-      let n = 1 + 10 * (k - 1) + (t - 1) in
-      let f : Between 0 50 (pavementField d n) = rw (ne-eqb n 0 (λ z. omega arith)) (rows 50 (n - 1)) in
-      let e : pavementPlace y + n ≡ pavementPlace y + 1 + 10 * (k - 1) + (t - 1) = omega arith in
-      at-most 50 (slot 5 91 (y - 1)) n (minimumOf d y k t) f (rw e at (pavement-in y n a b (omega arith)))
+      let n = minimaAt + mostYears * (k - 1) + (t - 1) in
+      let f : Between 0 50 (pavementField d n) = rw (ne-eqb n 0 (λ z. omega arith)) (rows 50 (n - minimaAt)) in
+      let e : pavementPlace y + n ≡ pavementPlace y + minimaAt + mostYears * (k - 1) + (t - 1) = omega arith in
+      at-most 50 (slot 5 perPavement (y - 1)) n (minimumOf d y k t) f (rw e at (pavement-in y n a b (omega arith)))
 
   -- ---- segments
 
   some-type : (i : ℕ) → 1 ≤ i → i ≤ segmentsOf d → 1 ≤ pavementOf d i
   unfolding pavementOf fieldAt
   some-type i a b =
-      let f : Between 1 4 (segmentField d 0) = between-number 1 4 1 1 (pavementsOf d) (le-leb 1 (pavementsOf d) (pavements .0)) (omega arith) (pavements .1) in
-      inside-between 1 4 (segmentField d 0) (pavementOf d i) f (rw (lt-ltb (i - 1) (segmentsOf d) (omega arith), add-zero) at (segment-in i 0 a (omega (arith, segments .1)) (omega arith))) .0
+      let f : Between 1 mostPavements (segmentField d 0) = between-number 1 mostPavements 1 1 (pavementsOf d) (le-leb 1 (pavementsOf d) (pavements .0)) (omega arith) (pavements .1) in
+      inside-between 1 mostPavements (segmentField d 0) (pavementOf d i) f (rw (lt-ltb (i - 1) (segmentsOf d) (omega arith), add-zero) at (segment-in i 0 a (omega (arith, segments .1)) (omega arith))) .0
 
-  pavement : (i : ℕ) → 1 ≤ i → i ≤ 64 → pavementOf d i ≤ 4
+  pavement : (i : ℕ) → 1 ≤ i → i ≤ mostSegments → pavementOf d i ≤ mostPavements
   unfolding pavementOf
   pavement i a b =
-      let f : Between 0 4 (segmentField d 0) = between-number 0 4 1 1 (pavementsOf d) (le-leb 1 (pavementsOf d) (pavements .0)) (omega arith) (pavements .1) in
-      at-most 4 (slot 6 15 (i - 1)) 0 (pavementOf d i) f (rw add-zero at (segment-in i 0 a b (omega arith)))
+      let f : Between 0 mostPavements (segmentField d 0) = between-number 0 mostPavements 1 1 (pavementsOf d) (le-leb 1 (pavementsOf d) (pavements .0)) (omega arith) (pavements .1) in
+      at-most mostPavements (slot 6 perSegment (i - 1)) 0 (pavementOf d i) f (rw add-zero at (segment-in i 0 a b (omega arith)))
 
   -- one with a range of its own
-  plain : (i n lo hi w : ℕ) → 1 ≤ i → i ≤ 64 → n < 15 → leb lo hi ≡ true → segmentField d n ≡ number w lo hi → valueAt d (segmentPlace i + n) ≤ hi
+  plain : (i n lo hi w : ℕ) → 1 ≤ i → i ≤ mostSegments → n < perSegment → leb lo hi ≡ true → segmentField d n ≡ number w lo hi → valueAt d (segmentPlace i + n) ≤ hi
   plain i n lo hi w a b h s e =
       let f : Between 0 hi (segmentField d n) = rw e (between-number 0 hi w lo hi s (omega arith) (omega arith)) in
-      at-most hi (slot 6 15 (i - 1)) n (valueAt d (segmentPlace i + n)) f (segment-in i n a b h)
+      at-most hi (slot 6 perSegment (i - 1)) n (valueAt d (segmentPlace i + n)) f (segment-in i n a b h)
 
-  pub bars-most : (i : ℕ) → 1 ≤ i → i ≤ 64 → barsOf d i ≤ 2 ^ min (strategiesOf d) 16 - 1
+  pub bars-most : (i : ℕ) → 1 ≤ i → i ≤ mostSegments → barsOf d i ≤ 2 ^ min (strategiesOf d) 16 - 1
   unfolding barsOf
-  bars-most i a b = plain i 5 0 (2 ^ min (strategiesOf d) 16 - 1) 2 a b (omega arith) (le-leb 0 (2 ^ min (strategiesOf d) 16 - 1) (omega arith)) refl
+  bars-most i a b = plain i barsAt 0 (2 ^ min (strategiesOf d) 16 - 1) 2 a b (omega arith) (le-leb 0 (2 ^ min (strategiesOf d) 16 - 1) (omega arith)) refl
 
-  bars : (i : ℕ) → 1 ≤ i → i ≤ 64 → barsOf d i < 2 ^ 16
+  bars : (i : ℕ) → 1 ≤ i → i ≤ mostSegments → barsOf d i < 2 ^ 16
   bars i a b = omega (arith, bars-most i a b, pow-mono {i = min (strategiesOf d) 16} {j = 16} (min-le-right (strategiesOf d) 16))
 
-  rating : (i k : ℕ) → 1 ≤ i → i ≤ 64 → 1 ≤ k → k ≤ 9 → ratingOf d i k ≤ greatestOf d k
+  rating : (i k : ℕ) → 1 ≤ i → i ≤ mostSegments → 1 ≤ k → k ≤ mostDistresses → ratingOf d i k ≤ greatestOf d k
   unfolding ratingOf
   rating i k a b p q =
-      let n = 6 + (k - 1) in
+      let n = ratingsAt + (k - 1) in
       let g = greatestOf d k in
-      let e : n - 5 ≡ k = omega arith in
-      let c : segmentPlace i + n ≡ segmentPlace i + 6 + (k - 1) = omega arith in
+      let c : segmentPlace i + n ≡ segmentPlace i + ratingsAt + (k - 1) = omega arith in
       let f : Between 0 g (segmentField d n) =
-      rw (ne-eqb n 0 (λ z. omega arith), le-ltb n 3 (omega arith), ne-eqb n 3 (λ z. omega arith), ne-eqb n 4 (λ z. omega arith), ne-eqb n 5 (λ z. omega arith), e)
-      (between-pick 0 g (ltb (n - 6) (distressesOf d)) (number 1 0 g) absent (between-number 0 g 1 0 g (le-leb 0 g (omega arith)) (omega arith) (omega arith)) (between-number 0 g 0 0 0 refl (omega arith) (omega arith))) in
-      at-most g (slot 6 15 (i - 1)) n (ratingOf d i k) f (rw c at (segment-in i n a b (omega arith)))
+      rw (rating-field d k p)
+      (between-pick 0 g (ltb (k - 1) (distressesOf d)) (number 1 0 g) absent (between-number 0 g 1 0 g (le-leb 0 g (omega arith)) (omega arith) (omega arith)) (between-number 0 g 0 0 0 refl (omega arith) (omega arith))) in
+      at-most g (slot 6 perSegment (i - 1)) n (ratingOf d i k) f (rw c at (segment-in i n a b (omega arith)))
 
-  mile-length : (i : ℕ) → 1 ≤ i → i ≤ 64 → lengthOf d i ≤ 9_999
+  mile-length : (i : ℕ) → 1 ≤ i → i ≤ mostSegments → lengthOf d i ≤ 9_999
   unfolding lengthOf
-  mile-length i a b = plain i 3 1 9_999 2 a b (omega arith) refl refl
+  mile-length i a b = plain i lengthAt 1 9_999 2 a b (omega arith) refl refl
 
 -- ---- gains
 
@@ -181,22 +180,22 @@ gain-picked x s t =
     (pick-all (Gain x) t (number 1 206 50) absent (gain-most x) none)
     none
 
-gain-field : (d : District) (m n : ℕ) → 16 ≤ n → n < 25 → fieldAt d (slot 4 115 m) n ≡ pick (present d (slot 4 115 m)) (pick (ltb (n - 16) (distressesOf d)) (number 1 206 50) absent) absent
+gain-field : (d : District) (m n : ℕ) → gainsAt ≤ n → n < percentsAt → fieldAt d (slot 4 perStrategy m) n ≡ pick (present d (slot 4 perStrategy m)) (pick (ltb (n - gainsAt) (distressesOf d)) (number 1 206 50) absent) absent
 unfolding fieldAt
-gain-field d m n a b = rw (le-ltb n 16 a, lt-ltb n 25 b)
+gain-field d m n a b = rw (le-ltb n gainsAt a, lt-ltb n percentsAt b)
 
 module _ (d : District) (e : inRange d ≡ true) where
   ok : InRange d
   ok = in-range d e
 
-  gain : (j k : ℕ) → 1 ≤ j → j ≤ 11 → 1 ≤ k → k ≤ 9 → natAbs (gainOf d j k) ≤ 50
+  gain : (j k : ℕ) → 1 ≤ j → j ≤ mostStrategies → 1 ≤ k → k ≤ mostDistresses → natAbs (gainOf d j k) ≤ 50
   unfolding ok gainOf
   gain j k a b p q =
-      let n = 16 + (k - 1) in
-      let s = slot 4 115 (j - 1) in
+      let n = gainsAt + (k - 1) in
+      let s = slot 4 perStrategy (j - 1) in
       let x = valueAt d (strategyPlace j + n) in
-      let w : strategyPlace j + n ≡ strategyPlace j + 16 + (k - 1) = omega arith in
-      let most = subst (Gain x) (sym (gain-field d (j - 1) n (omega arith) (omega arith))) (gain-picked x (present d s) (ltb (n - 16) (distressesOf d))) in
+      let w : strategyPlace j + n ≡ strategyPlace j + gainsAt + (k - 1) = omega arith in
+      let most = subst (Gain x) (sym (gain-field d (j - 1) n (omega arith) (omega arith))) (gain-picked x (present d s) (ltb (n - gainsAt) (distressesOf d))) in
       rw w at (most (strategy-in d ok j n a b (omega arith)))
 
   pub in-ranges : Ranges d
@@ -224,10 +223,10 @@ module _ (d : District) (e : inRange d ≡ true) where
         minimum = minimum d ok;
         some-type = some-type d ok;
         pavement = pavement d ok;
-        traffic = λ i a b. plain d ok i 1 100 1_000 2 a b (omega arith) refl refl;
-        environment = λ i a b. plain d ok i 2 100 1_000 2 a b (omega arith) refl refl;
+        traffic = λ i a b. plain d ok i trafficAt 100 1_000 2 a b (omega arith) refl refl;
+        environment = λ i a b. plain d ok i environmentAt 100 1_000 2 a b (omega arith) refl refl;
         mile-length = mile-length d ok;
-        width = λ i a b. plain d ok i 4 1 200 1 a b (omega arith) refl refl;
+        width = λ i a b. plain d ok i widthAt 1 200 1 a b (omega arith) refl refl;
         bars = bars d ok;
         rating = rating d ok;
       }

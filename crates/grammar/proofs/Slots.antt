@@ -1,4 +1,4 @@
--- The file's 83 records: where each starts, that no number is wider than 4 bytes, and that each may stand where it does.
+-- The file's records: where each starts, that no number is wider than 4 bytes, and that each may stand where it does.
 -- Assumes nothing.
 use Prim.Native.Nat.{ℕ, zero, suc, _+_, _-_, _*_, _≤_, _<_}
 use mathlib.Core.Path.{_≡_, refl, ap}
@@ -12,38 +12,38 @@ use lib.Seq.{getD-take}
 use borrow.Author.Tests.{lt-ltb, le-ltb, ne-eqb, eqb-true}
 use Rattle.base.proofs.Choice.{pick-all}
 use Rattle.base.specs.Choice.{pick}
-use Rattle.rules.specs.District.{District, greatestOf}
-use Rattle.rules.specs.Format.{number, absent, slot, slotOf, present, kindField, fieldAt}
+use Rattle.rules.specs.District.{District, mostStrategies, mostDistresses, mostPavements, mostSegments, mostResources, countPlaces, limitsAt, greatestAt, greatestPlace, strategiesAt, perStrategy, pavementsAt, perPavement, segmentsAt, perSegment, ratingsAt, greatestOf}
+use Rattle.rules.specs.Format.{number, absent, slot, slotOf, firstStrategyRecord, firstPavementRecord, firstSegmentRecord, lastRecord, fileRecords, mostPlaces, present, kindField, fieldAt}
 use Rattle.rules.specs.declared.Field.{Field}
 use Rattle.rules.specs.declared.Slot.{Slot}
 use Rattle.grammar.specs.Places.{startOf, Ready}
 
 -- what holds of a record of each kind holds of every record
-pub slot-all : (P : Slot → Type 0) → P (slot 1 6 0) → P (slot 2 16 0) → P (slot 3 9 0) → ((n : ℕ) → P (slot 4 115 n)) → ((n : ℕ) → P (slot 5 91 n)) → ((n : ℕ) → P (slot 6 15 n)) → P (slot 7 0 0) → (n : ℕ) → P (slotOf n)
+pub slot-all : (P : Slot → Type 0) → P (slot 1 countPlaces 0) → P (slot 2 mostResources 0) → P (slot 3 mostDistresses 0) → ((n : ℕ) → P (slot 4 perStrategy n)) → ((n : ℕ) → P (slot 5 perPavement n)) → ((n : ℕ) → P (slot 6 perSegment n)) → P (slot 7 0 0) → (n : ℕ) → P (slotOf n)
 slot-all P a b c d e f g n =
     pick-all P (eqb n 0) _ _ a
     (pick-all P (eqb n 1) _ _ b
     (pick-all P (eqb n 2) _ _ c
-    (pick-all P (ltb n 14) _ _ (d (n - 3))
-    (pick-all P (ltb n 18) _ _ (e (n - 14))
-    (pick-all P (ltb n 82) _ _ (f (n - 18)) g)))))
+    (pick-all P (ltb n firstPavementRecord) _ _ (d (n - firstStrategyRecord))
+    (pick-all P (ltb n firstSegmentRecord) _ _ (e (n - firstPavementRecord))
+    (pick-all P (ltb n lastRecord) _ _ (f (n - firstSegmentRecord)) g)))))
 
 -- ---- the records of kinds 4, 5 and 6
 
-pub slot-strategy : (j : ℕ) → j < 11 → slotOf (3 + j) ≡ slot 4 115 j
+pub slot-strategy : (j : ℕ) → j < mostStrategies → slotOf (firstStrategyRecord + j) ≡ slot 4 perStrategy j
 slot-strategy j h =
-    let e : 3 + j - 3 ≡ j = omega arith in
-    rw (ne-eqb (3 + j) 0 (λ q. omega arith), ne-eqb (3 + j) 1 (λ q. omega arith), ne-eqb (3 + j) 2 (λ q. omega arith), lt-ltb (3 + j) 14 (omega arith), e)
+    let e : firstStrategyRecord + j - firstStrategyRecord ≡ j = omega arith in
+    rw (ne-eqb (firstStrategyRecord + j) 0 (λ q. omega arith), ne-eqb (firstStrategyRecord + j) 1 (λ q. omega arith), ne-eqb (firstStrategyRecord + j) 2 (λ q. omega arith), lt-ltb (firstStrategyRecord + j) firstPavementRecord (omega arith), e)
 
-pub slot-pavement : (y : ℕ) → y < 4 → slotOf (14 + y) ≡ slot 5 91 y
+pub slot-pavement : (y : ℕ) → y < mostPavements → slotOf (firstPavementRecord + y) ≡ slot 5 perPavement y
 slot-pavement y h =
-    let e : 14 + y - 14 ≡ y = omega arith in
-    rw (ne-eqb (14 + y) 0 (λ q. omega arith), ne-eqb (14 + y) 1 (λ q. omega arith), ne-eqb (14 + y) 2 (λ q. omega arith), le-ltb (14 + y) 14 (omega arith), lt-ltb (14 + y) 18 (omega arith), e)
+    let e : firstPavementRecord + y - firstPavementRecord ≡ y = omega arith in
+    rw (ne-eqb (firstPavementRecord + y) 0 (λ q. omega arith), ne-eqb (firstPavementRecord + y) 1 (λ q. omega arith), ne-eqb (firstPavementRecord + y) 2 (λ q. omega arith), le-ltb (firstPavementRecord + y) firstPavementRecord (omega arith), lt-ltb (firstPavementRecord + y) firstSegmentRecord (omega arith), e)
 
-pub slot-segment : (i : ℕ) → i < 64 → slotOf (18 + i) ≡ slot 6 15 i
+pub slot-segment : (i : ℕ) → i < mostSegments → slotOf (firstSegmentRecord + i) ≡ slot 6 perSegment i
 slot-segment i h =
-    let e : 18 + i - 18 ≡ i = omega arith in
-    rw (ne-eqb (18 + i) 0 (λ q. omega arith), ne-eqb (18 + i) 1 (λ q. omega arith), ne-eqb (18 + i) 2 (λ q. omega arith), le-ltb (18 + i) 14 (omega arith), le-ltb (18 + i) 18 (omega arith), lt-ltb (18 + i) 82 (omega arith), e)
+    let e : firstSegmentRecord + i - firstSegmentRecord ≡ i = omega arith in
+    rw (ne-eqb (firstSegmentRecord + i) 0 (λ q. omega arith), ne-eqb (firstSegmentRecord + i) 1 (λ q. omega arith), ne-eqb (firstSegmentRecord + i) 2 (λ q. omega arith), le-ltb (firstSegmentRecord + i) firstPavementRecord (omega arith), le-ltb (firstSegmentRecord + i) firstSegmentRecord (omega arith), lt-ltb (firstSegmentRecord + i) lastRecord (omega arith), e)
 
 -- ---- where records start
 
@@ -64,14 +64,14 @@ start-run : (b m p : ℕ) → ((i : ℕ) → i < m → slotOf (b + i) .places �
 start-run b m p e zero h = rw (add-zero, mul-zero, add-zero)
 start-run b m p e (suc i) h = rw (add-suc, mul-suc) (omega (arith, e i (omega arith), start-run b m p e i (omega arith)))
 
-pub start-strategy : (j : ℕ) → j ≤ 11 → startOf (3 + j) ≡ 31 + 115 * j
-start-strategy = start-run 3 11 115 (λ j h. ap (λ (s : Slot). s .places) (slot-strategy j h))
+pub start-strategy : (j : ℕ) → j ≤ mostStrategies → startOf (firstStrategyRecord + j) ≡ strategiesAt + perStrategy * j
+start-strategy = start-run firstStrategyRecord mostStrategies perStrategy (λ j h. ap (λ (s : Slot). s .places) (slot-strategy j h))
 
-pub start-pavement : (y : ℕ) → y ≤ 4 → startOf (14 + y) ≡ 1296 + 91 * y
-start-pavement = start-run 14 4 91 (λ y h. ap (λ (s : Slot). s .places) (slot-pavement y h))
+pub start-pavement : (y : ℕ) → y ≤ mostPavements → startOf (firstPavementRecord + y) ≡ pavementsAt + perPavement * y
+start-pavement = start-run firstPavementRecord mostPavements perPavement (λ y h. ap (λ (s : Slot). s .places) (slot-pavement y h))
 
-pub start-segment : (i : ℕ) → i ≤ 64 → startOf (18 + i) ≡ 1660 + 15 * i
-start-segment = start-run 18 64 15 (λ i h. ap (λ (s : Slot). s .places) (slot-segment i h))
+pub start-segment : (i : ℕ) → i ≤ mostSegments → startOf (firstSegmentRecord + i) ≡ segmentsAt + perSegment * i
+start-segment = start-run firstSegmentRecord mostSegments perSegment (λ i h. ap (λ (s : Slot). s .places) (slot-segment i h))
 
 -- ---- no number has more than four bytes
 
@@ -95,18 +95,18 @@ width-small d s n = field-small d s n .small
 
 -- ---- a record hangs on what stands before it
 
-pub few-places : (n : ℕ) → slotOf n .places ≤ 115
-few-places = slot-all (λ (s : Slot). s .places ≤ 115) (omega arith) (omega arith) (omega arith) (λ n. omega arith) (λ n. omega arith) (λ n. omega arith) (omega arith)
+pub few-places : (n : ℕ) → slotOf n .places ≤ mostPlaces
+few-places = slot-all (λ (s : Slot). s .places ≤ mostPlaces) (omega arith) (omega arith) (omega arith) (λ n. omega arith) (λ n. omega arith) (λ n. omega arith) (omega arith)
 
-pub segment-places : (n : ℕ) → slotOf n .kind ≡ 6 → slotOf n .places ≤ 15
-segment-places = slot-all (λ (s : Slot). s .kind ≡ 6 → s .places ≤ 15) (λ e. omega arith) (λ e. omega arith) (λ e. omega arith) (λ n e. omega arith) (λ n e. omega arith) (λ n e. omega arith) (λ e. omega arith)
+pub segment-places : (n : ℕ) → slotOf n .kind ≡ 6 → slotOf n .places ≤ perSegment
+segment-places = slot-all (λ (s : Slot). s .kind ≡ 6 → s .places ≤ perSegment) (λ e. omega arith) (λ e. omega arith) (λ e. omega arith) (λ n e. omega arith) (λ n e. omega arith) (λ n e. omega arith) (λ e. omega arith)
 
 -- districts with the same counts have the same records, and with the same greatest ratings the same fields
-module _ (d e : District) (counts : (k : ℕ) → k < 6 → getD e k 0 ≡ getD d k 0) where
+module _ (d e : District) (counts : (k : ℕ) → k < countPlaces → getD e k 0 ≡ getD d k 0) where
   pub present-same : (s : Slot) → present e s ≡ present d s
   present-same s = simp (counts 0 (omega arith), counts 1 (omega arith), counts 4 (omega arith))
 
-  pub field-same : (s : Slot) (n : ℕ) → (s .kind ≡ 6 → greatestOf e (n - 5) ≡ greatestOf d (n - 5)) → fieldAt e s n ≡ fieldAt d s n
+  pub field-same : (s : Slot) (n : ℕ) → (s .kind ≡ 6 → greatestOf e (n - (ratingsAt - 1)) ≡ greatestOf d (n - (ratingsAt - 1))) → fieldAt e s n ≡ fieldAt d s n
   unfolding fieldAt
   field-same s n g = go (eqb (s .kind) 6) refl
     where
@@ -114,22 +114,22 @@ module _ (d e : District) (counts : (k : ℕ) → k < 6 → getD e k 0 ≡ getD 
       go true q = simp (counts 0 (omega arith), counts 1 (omega arith), counts 2 (omega arith), counts 3 (omega arith), counts 4 (omega arith), counts 5 (omega arith), g (eqb-true (s .kind) 6 q))
       go false q = simp (counts 0 (omega arith), counts 1 (omega arith), counts 2 (omega arith), counts 3 (omega arith), counts 4 (omega arith), counts 5 (omega arith), q)
 
-counts-take : (d : District) (p : ℕ) → 6 ≤ p → (k : ℕ) → k < 6 → getD (take p d) k 0 ≡ getD d k 0
+counts-take : (d : District) (p : ℕ) → countPlaces ≤ p → (k : ℕ) → k < countPlaces → getD (take p d) k 0 ≡ getD d k 0
 counts-take d p h k l = getD-take p d k 0 (omega arith)
 
 field-take : (n : ℕ) (d : District) (i : ℕ) → i < slotOf n .places → fieldAt (take (startOf n) d) (slotOf n) i ≡ fieldAt d (slotOf n) i
 unfolding fieldAt greatestOf
 field-take zero d i h = refl
-field-take (suc zero) d i h = rw (getD-take 6 d 5 0 (omega arith))
-field-take (suc (suc zero)) d i h = rw (getD-take 22 d 3 0 (omega arith))
+field-take (suc zero) d i h = rw (getD-take limitsAt d 5 0 (omega arith))
+field-take (suc (suc zero)) d i h = rw (getD-take greatestAt d 3 0 (omega arith))
 field-take (suc (suc (suc n))) d i h =
     let m = suc (suc (suc n)) in
-    let p : 31 ≤ startOf m = start-le 3 m (omega arith) in
-    field-same d (take (startOf m) d) (counts-take d (startOf m) (omega arith)) (slotOf m) i (λ e. getD-take (startOf m) d (22 + (i - 5 - 1)) 0 (omega (arith, segment-places m e)))
+    let p : strategiesAt ≤ startOf m = start-le firstStrategyRecord m (omega arith) in
+    field-same d (take (startOf m) d) (counts-take d (startOf m) (omega arith)) (slotOf m) i (λ e. getD-take (startOf m) d (greatestPlace (i - (ratingsAt - 1))) 0 (omega (arith, segment-places m e)))
 
 present-take : (n : ℕ) (d : District) → present (take (startOf n) d) (slotOf n) ≡ present d (slotOf n)
 present-take zero d = refl
 present-take (suc n) d = present-same d (take (startOf (suc n)) d) (counts-take d (startOf (suc n)) (start-le 1 (suc n) (omega arith))) (slotOf (suc n))
 
-pub ready : (n : ℕ) → n < 83 → Ready (slotOf n) (startOf n)
-ready n h = record { room = start-le (suc n) 83 h; few = few-places n; here = present-take n; field = field-take n }
+pub ready : (n : ℕ) → n < fileRecords → Ready (slotOf n) (startOf n)
+ready n h = record { room = start-le (suc n) fileRecords h; few = few-places n; here = present-take n; field = field-take n }

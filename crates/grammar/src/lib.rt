@@ -3,10 +3,12 @@
 ghost use mathlib.Core.Path.{_≡_};
 ghost use Prim.Native.Nat.{_<_, _-_, _^_, min};
 ghost use Rattle.base.specs.Choice.{pick};
-ghost use Rattle.rules.specs.Format.{number, absent, inside, slot, slotOf, present, countField, limitField, greatestField, rowsField, strategyField, pavementField, segmentField, kindField, fieldAt};
+ghost use Rattle.rules.specs.Format.{number, absent, inside, slot, slotOf, mostPlaces, present, countField, limitField, greatestField, rowsField, strategyField, pavementField, segmentField, kindField, fieldAt};
 use rules::District;
 use rules::Field;
 use rules::Slot;
+use rules::places;
+use rules::records;
 
 fn slot_of(kind: usize, places: usize, nth: usize) -> Slot
     ensures { λ r. ⌜ r ≡ slot kind places nth ⌝ }
@@ -19,22 +21,22 @@ pub fn slot_at(n: usize) -> Slot
     ensures { λ r. ⌜ r ≡ slotOf n ⌝ }
 {
     if n == 0 {
-        return slot_of(1, 6, 0);
+        return slot_of(1, places::COUNT_PLACES, 0);
     }
     if n == 1 {
-        return slot_of(2, 16, 0);
+        return slot_of(2, places::MOST_RESOURCES, 0);
     }
     if n == 2 {
-        return slot_of(3, 9, 0);
+        return slot_of(3, places::MOST_DISTRESSES, 0);
     }
-    if n < 14 {
-        return slot_of(4, 115, n - 3);
+    if n < records::FIRST_PAVEMENT {
+        return slot_of(4, places::PER_STRATEGY, n - records::FIRST_STRATEGY);
     }
-    if n < 18 {
-        return slot_of(5, 91, n - 14);
+    if n < records::FIRST_SEGMENT {
+        return slot_of(5, places::PER_PAVEMENT, n - records::FIRST_PAVEMENT);
     }
-    if n < 82 {
-        return slot_of(6, 15, n - 18);
+    if n < records::LAST {
+        return slot_of(6, places::PER_SEGMENT, n - records::FIRST_SEGMENT);
     }
     slot_of(7, 0, 0)
 }
@@ -46,13 +48,13 @@ pub fn is_present(d: &District, s: Slot) -> bool
     let kind = s.kind;
     let nth = s.nth;
     if kind == 4 {
-        return nth < d[1];
+        return nth < d[places::STRATEGY_COUNT];
     }
     if kind == 5 {
-        return nth < d[4];
+        return nth < d[places::PAVEMENT_COUNT];
     }
     if kind == 6 {
-        return nth < d[0];
+        return nth < d[places::SEGMENT_COUNT];
     }
     true
 }
@@ -73,14 +75,21 @@ fn number_if(test: bool, width: usize, lo: usize, hi: usize) -> Field
     number_of(0, 0, 0)
 }
 
-const LEAST: [usize; 6] = [0, 1, 1, 1, 1, 1];
+const LEAST: [usize; places::COUNT_PLACES] = [0, 1, 1, 1, 1, 1];
 
-const MOST: [usize; 6] = [64, 11, 10, 9, 4, 16];
+const MOST: [usize; places::COUNT_PLACES] = [
+    places::MOST_SEGMENTS,
+    places::MOST_STRATEGIES,
+    places::MOST_YEARS,
+    places::MOST_DISTRESSES,
+    places::MOST_PAVEMENTS,
+    places::MOST_RESOURCES,
+];
 
 fn count_field(n: usize) -> Field
     ensures { λ r. ⌜ r ≡ countField n ⌝ }
 {
-    if n < 6 {
+    if n < places::COUNT_PLACES {
         return number_of(1, LEAST[n], MOST[n]);
     }
     number_of(1, 0, 0)
@@ -89,20 +98,20 @@ fn count_field(n: usize) -> Field
 pub fn limit_field(d: &District, n: usize) -> Field
     ensures { λ r. ⌜ r ≡ limitField (now (d .entry)) n ⌝ }
 {
-    number_if(n < d[5], 4, 0, 999_999_999)
+    number_if(n < d[places::RESOURCE_COUNT], 4, 0, 999_999_999)
 }
 
 fn greatest_field(d: &District, n: usize) -> Field
     ensures { λ r. ⌜ r ≡ greatestField (now (d .entry)) n ⌝ }
 {
-    number_if(n < d[3], 1, 1, 50)
+    number_if(n < d[places::DISTRESS_COUNT], 1, 1, 50)
 }
 
 fn rows_field(d: &District, most: usize, n: usize) -> Field
     ensures { λ r. ⌜ r ≡ rowsField (now (d .entry)) most n ⌝ }
 {
-    if n / 10 < d[3] {
-        return number_if(n % 10 < d[2], 1, 0, most);
+    if n / places::MOST_YEARS < d[places::DISTRESS_COUNT] {
+        return number_if(n % places::MOST_YEARS < d[places::YEAR_COUNT], 1, 0, most);
     }
     number_of(0, 0, 0)
 }
@@ -110,13 +119,13 @@ fn rows_field(d: &District, most: usize, n: usize) -> Field
 fn strategy_field(d: &District, n: usize) -> Field
     ensures { λ r. ⌜ r ≡ strategyField (now (d .entry)) n ⌝ }
 {
-    if n < 16 {
-        return number_if(n < d[5], 4, 0, 999_999);
+    if n < places::GAINS {
+        return number_if(n < d[places::RESOURCE_COUNT], 4, 0, 999_999);
     }
-    if n < 25 {
-        return number_if(n - 16 < d[3], 1, 206, 50);
+    if n < places::PERCENTS {
+        return number_if(n - places::GAINS < d[places::DISTRESS_COUNT], 1, 206, 50);
     }
-    rows_field(d, 100, n - 25)
+    rows_field(d, 100, n - places::PERCENTS)
 }
 
 fn pavement_field(d: &District, n: usize) -> Field
@@ -125,7 +134,7 @@ fn pavement_field(d: &District, n: usize) -> Field
     if n == 0 {
         return number_of(2, 0, 450);
     }
-    rows_field(d, 50, n - 1)
+    rows_field(d, 50, n - places::MINIMA)
 }
 
 // The largest mask of 16 bits with none from bit `bits` upward.
@@ -140,29 +149,30 @@ fn largest_mask(bits: usize) -> usize
 }
 
 fn segment_field(d: &District, n: usize) -> Field
-    requires { ⌜ n < 115 ⌝ }
+    requires { ⌜ n < mostPlaces ⌝ }
     ensures { λ r. ⌜ r ≡ segmentField (now (d .entry)) n ⌝ }
 {
     if n == 0 {
-        return number_of(1, 1, d[4]);
+        return number_of(1, 1, d[places::PAVEMENT_COUNT]);
     }
-    if n < 3 {
+    if n < places::LENGTH {
         return number_of(2, 100, 1000);
     }
-    if n == 3 {
+    if n == places::LENGTH {
         return number_of(2, 1, 9999);
     }
-    if n == 4 {
+    if n == places::WIDTH {
         return number_of(1, 1, 200);
     }
-    if n == 5 {
-        return number_of(2, 0, largest_mask(d[1]));
+    if n == places::BARS {
+        return number_of(2, 0, largest_mask(d[places::STRATEGY_COUNT]));
     }
-    number_if(n - 6 < d[3], 1, 0, d[22 + (n - 5 - 1)])
+    let k = n - places::RATINGS;
+    number_if(k < d[places::DISTRESS_COUNT], 1, 0, d[places::GREATEST + k])
 }
 
 fn kind_field(d: &District, kind: usize, n: usize) -> Field
-    requires { ⌜ n < 115 ⌝ }
+    requires { ⌜ n < mostPlaces ⌝ }
     ensures { λ r. ⌜ r ≡ kindField (now (d .entry)) kind n ⌝ }
 {
     if kind == 1 {
@@ -186,9 +196,9 @@ fn kind_field(d: &District, kind: usize, n: usize) -> Field
     number_of(0, 0, 0)
 }
 
-// The `n`-th number of the record `s`, from 0; no record has more than 115.
+// The `n`-th number of the record `s`, from 0; no record has more than a strategy.
 pub fn field_at(d: &District, s: Slot, n: usize) -> Field
-    requires { ⌜ n < 115 ⌝ }
+    requires { ⌜ n < mostPlaces ⌝ }
     ensures { λ r. ⌜ r ≡ fieldAt (now (d .entry)) s n ⌝ }
 {
     let kind = s.kind;

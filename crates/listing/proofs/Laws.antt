@@ -5,38 +5,39 @@ use mathlib.Core.Path.{_≡_, sym, ap}
 use native.Mathlib.Omega.{arith}
 use lib.ListN.{length, getD, take, drop, length-append}
 use lib.Seq.{length-take-le}
-use Rattle.base.specs.Text.{text, decimal, Put}
+use Rattle.base.specs.Text.{text, mostDigits, decimal, Put}
 use Rattle.base.proofs.Text.{decimal-few}
+use Rattle.rules.specs.District.{mostSegments}
 use Rattle.rules.specs.declared.Programme.{Programme}
-use Rattle.listing.specs.Listing.{named, line, segmentLine, segmentLines, stepsLine, results, listing, refusal}
+use Rattle.listing.specs.Listing.{named, line, segmentLine, segmentLines, stepsLine, results, listing, refusal, longestLine, longestRefusal, longestSegmentLine, longestStepsLine, longestListing}
 
-pub named-few : (word : List ℕ) (n : ℕ) → length (named word n) ≤ length word + 20
+pub named-few : (word : List ℕ) (n : ℕ) → length (named word n) ≤ length word + mostDigits
 unfolding named
 named-few word n = omega (arith, length-append word (decimal n), decimal-few n)
 
-line-few : (word : List ℕ) (n : ℕ) → length (line word n) ≤ length word + 21
+line-few : (word : List ℕ) (n : ℕ) → length (line word n) ≤ longestLine (length word)
 unfolding line text
 line-few word n = omega (arith, length-append (named word n) (text "\n"), named-few word n)
 
-pub line-fits : (word : List ℕ) (n room : ℕ) → length word + 21 ≤ room → length (line word n) ≤ room
+pub line-fits : (word : List ℕ) (n room : ℕ) → longestLine (length word) ≤ room → length (line word n) ≤ room
 line-fits word n room h = omega (arith, line-few word n)
 
-pub refusal-few : (n : ℕ) → length (refusal n) ≤ 29
+pub refusal-few : (n : ℕ) → length (refusal n) ≤ longestRefusal
 unfolding refusal text
 refusal-few n = line-few (text "refused ") n
 
-segment-few : (i j : ℕ) → length (segmentLine i j) ≤ 42
+segment-few : (i j : ℕ) → length (segmentLine i j) ≤ longestSegmentLine
 unfolding segmentLine text
 segment-few i j = omega (arith, length-append (decimal i) (line (text " ") j), decimal-few i, line-few (text " ") j)
 
-segments-few : (n i : ℕ) (strategies : List ℕ) → length (segmentLines n i strategies) ≤ 42 * n
+segments-few : (n i : ℕ) (strategies : List ℕ) → length (segmentLines n i strategies) ≤ longestSegmentLine * n
 unfolding segmentLines
 segments-few zero i strategies = omega arith
 segments-few (suc n) i strategies =
     let j = getD strategies (i - 1) 0 in
     omega (arith, length-append (segmentLine i j) (segmentLines n (i + 1) strategies), segment-few i j, segments-few n (i + 1) strategies)
 
-steps-few : (p : Programme) → length (stepsLine p) ≤ 69
+steps-few : (p : Programme) → length (stepsLine p) ≤ longestStepsLine
 unfolding stepsLine text
 steps-few p =
     let a = named (text "steps ") (p .steps) in
@@ -44,16 +45,16 @@ steps-few p =
     let c = line (text " ") (p .changes) in
     omega (arith, length-append a (b ++ c), length-append b c, named-few (text "steps ") (p .steps), named-few (text " ") (p .pickups), line-few (text " ") (p .changes))
 
-results-few : (p : Programme) → length (results p) ≤ 127
+results-few : (p : Programme) → length (results p) ≤ longestLine 8 + (longestLine 8 + longestStepsLine)
 unfolding results text
 results-few p =
     let a = line (text "benefit ") (p .total) in
     let b = line (text "ceiling ") (p .ceiling) in
     omega (arith, length-append a (b ++ stepsLine p), length-append b (stepsLine p), line-few (text "benefit ") (p .total), line-few (text "ceiling ") (p .ceiling), steps-few p)
 
-pub listing-few : (p : Programme) (n : ℕ) → length (listing p n) ≤ 2815
+pub listing-few : (p : Programme) (n : ℕ) → length (listing p n) ≤ longestListing
 unfolding listing
-listing-few p n = omega (arith, length-append (segmentLines (min n 64) 1 (p .strategies)) (results p), segments-few (min n 64) 1 (p .strategies), results-few p)
+listing-few p n = omega (arith, length-append (segmentLines (min n mostSegments) 1 (p .strategies)) (results p), segments-few (min n mostSegments) 1 (p .strategies), results-few p)
 
 -- ---- what was put is within the buffer, so that it can be lent as a part
 

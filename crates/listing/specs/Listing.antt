@@ -1,9 +1,9 @@
 -- What the programs print.
-use Prim.Native.Nat.{ℕ, zero, suc, _+_, _-_, min}
+use Prim.Native.Nat.{ℕ, zero, suc, _+_, _-_, _*_, min}
 use mathlib.Core.List.{List, [], _++_}
 use lib.ListN.{getD}
-use Rattle.base.specs.Text.{text, decimal}
-use Rattle.rules.specs.District.{segmentsOf}
+use Rattle.base.specs.Text.{text, mostDigits, decimal}
+use Rattle.rules.specs.District.{mostSegments, segmentsOf}
 use Rattle.rules.specs.declared.Unit.{Unit}
 use Rattle.rules.specs.declared.Programme.{Programme}
 use Rattle.rules.specs.declared.Answer.{Answer}
@@ -32,9 +32,9 @@ stepsLine p = named (text "steps ") (p .steps) ++ (named (text " ") (p .pickups)
 unfoldable pub results : Programme → List ℕ
 results p = line (text "benefit ") (p .total) ++ (line (text "ceiling ") (p .ceiling) ++ stepsLine p)
 
--- of a district of n segments; a programme has 64 places
+-- of a district of n segments; a programme has places for the most segments
 unfoldable pub listing : Programme → ℕ → List ℕ
-listing p n = segmentLines (min n 64) 1 (p .strategies) ++ results p
+listing p n = segmentLines (min n mostSegments) 1 (p .strategies) ++ results p
 
 -- the unit's own
 unfoldable pub shown : Unit → List ℕ
@@ -63,3 +63,21 @@ valued word (Refused n) = refusal n
 -- what could not be done, and with which file
 unfoldable pub failed : List ℕ → List ℕ → List ℕ
 failed what path = what ++ (path ++ text "\n")
+
+-- ---- how many bytes they have at most
+
+-- a line with a word of n bytes
+abbrev pub longestLine : ℕ → ℕ
+longestLine n = n + mostDigits + 1
+
+abbrev pub longestRefusal : ℕ
+longestRefusal = longestLine 8
+
+abbrev pub longestSegmentLine : ℕ
+longestSegmentLine = mostDigits + longestLine 1
+
+abbrev pub longestStepsLine : ℕ
+longestStepsLine = 6 + mostDigits + (1 + mostDigits + longestLine 1)
+
+abbrev pub longestListing : ℕ
+longestListing = longestSegmentLine * mostSegments + (longestLine 8 + (longestLine 8 + longestStepsLine))

@@ -2,12 +2,18 @@
 // says how many bytes it wrote.
 ghost use mathlib.Core.Path.{_≡_};
 ghost use Prim.Native.Nat.{_+_, _≤_, min};
-ghost use lib.ListN.{length};
-ghost use Rattle.base.specs.Text.{decimal, Put};
-ghost use Rattle.listing.specs.Listing.{named, line, segmentLine, segmentLines, stepsLine, results, listing, shown, refusal, done, planned, valued, failed};
+ghost use lib.ListN.{length, take};
+ghost use Rattle.base.specs.Text.{decimal, Writes, Put};
+ghost use Rattle.listing.specs.Listing.{named, line, segmentLine, segmentLines, stepsLine, results, listing, shown, refusal, done, planned, valued, failed, longestRefusal, longestListing};
+ghost use Rattle.rules.specs.District.{mostSegments};
 use rules::Answer;
 use rules::Programme;
 use rules::Unit;
+use rules::places::MOST_SEGMENTS;
+use rules::places::SEGMENT_COUNT;
+
+// The most bytes of a listing: a line for each segment, with two numbers of up to 20 digits, and the results.
+pub const LONGEST_LISTING: usize = 42 * MOST_SEGMENTS + 127;
 
 pub fn put(out: &mut [u8], bytes: &[u8]) -> usize
     requires { ⌜ length (now bytes) ≤ length (now out) ⌝ }
@@ -25,6 +31,7 @@ pub fn put(out: &mut [u8], bytes: &[u8]) -> usize
 fn put_number(out: &mut [u8], value: usize) -> usize
     requires { ⌜ length (decimal value) ≤ length (now out) ⌝ }
     ensures { λ r. ⌜ Put (decimal value) (now (out .entry)) (now (out .exit)) r ⌝ }
+    ensures { λ r. ⌜ Writes (take r (now (out .exit))) value ⌝ }
 {
     if value < 10 {
         out[0] = 48 + value as u8;
@@ -61,8 +68,8 @@ fn put_segment_line(out: &mut [u8], segment: usize, strategy: usize) -> usize
     at + put_line(&mut out[at..], b" ", strategy)
 }
 
-fn put_segment_lines(out: &mut [u8], strategies: [usize; 64], n: usize) -> usize
-    requires { ⌜ n ≤ 64 ⌝ }
+fn put_segment_lines(out: &mut [u8], strategies: [usize; MOST_SEGMENTS], n: usize) -> usize
+    requires { ⌜ n ≤ mostSegments ⌝ }
     requires { ⌜ length (segmentLines n 1 strategies) ≤ length (now out) ⌝ }
     ensures { λ r. ⌜ Put (segmentLines n 1 strategies) (now (out .entry)) (now (out .exit)) r ⌝ }
 {
@@ -95,41 +102,41 @@ fn put_results(out: &mut [u8], p: Programme) -> usize
 
 // The programme of a district of `n` segments.
 fn put_listing(out: &mut [u8], p: Programme, n: usize) -> usize
-    requires { ⌜ 2815 ≤ length (now out) ⌝ }
+    requires { ⌜ longestListing ≤ length (now out) ⌝ }
     ensures { λ r. ⌜ Put (listing p n) (now (out .entry)) (now (out .exit)) r ⌝ }
 {
     let strategies = p.strategies;
-    let at = put_segment_lines(out, strategies, at_most_64(n));
+    let at = put_segment_lines(out, strategies, line_count(n));
     at + put_results(&mut out[at..], p)
 }
 
-fn at_most_64(n: usize) -> usize
-    ensures { λ r. ⌜ r ≡ min n 64 ⌝ }
+fn line_count(n: usize) -> usize
+    ensures { λ r. ⌜ r ≡ min n mostSegments ⌝ }
 {
-    if n < 64 { n } else { 64 }
+    if n < MOST_SEGMENTS { n } else { MOST_SEGMENTS }
 }
 
 // The unit's own.
 pub fn put_shown(out: &mut [u8], u: Unit) -> usize
-    requires { ⌜ 2815 ≤ length (now out) ⌝ }
+    requires { ⌜ longestListing ≤ length (now out) ⌝ }
     ensures { λ r. ⌜ Put (shown u) (now (out .entry)) (now (out .exit)) r ⌝ }
 {
     let p = u.programme;
     let d = u.district;
-    put_listing(out, p, d[0])
+    put_listing(out, p, d[SEGMENT_COUNT])
 }
 
 // ---- the answer to a call
 
 fn put_refusal(out: &mut [u8], n: usize) -> usize
-    requires { ⌜ 29 ≤ length (now out) ⌝ }
+    requires { ⌜ longestRefusal ≤ length (now out) ⌝ }
     ensures { λ r. ⌜ Put (refusal n) (now (out .entry)) (now (out .exit)) r ⌝ }
 {
     put_line(out, b"refused ", n)
 }
 
 pub fn put_done(out: &mut [u8], answer: Answer) -> usize
-    requires { ⌜ 29 ≤ length (now out) ⌝ }
+    requires { ⌜ longestRefusal ≤ length (now out) ⌝ }
     ensures { λ r. ⌜ Put (done answer) (now (out .entry)) (now (out .exit)) r ⌝ }
 {
     match answer {
@@ -140,7 +147,7 @@ pub fn put_done(out: &mut [u8], answer: Answer) -> usize
 
 // Of a load, with the programme.
 pub fn put_planned(out: &mut [u8], answer: Answer, u: Unit) -> usize
-    requires { ⌜ 2815 ≤ length (now out) ⌝ }
+    requires { ⌜ longestListing ≤ length (now out) ⌝ }
     ensures { λ r. ⌜ Put (planned answer u) (now (out .entry)) (now (out .exit)) r ⌝ }
 {
     match answer {
@@ -150,7 +157,7 @@ pub fn put_planned(out: &mut [u8], answer: Answer, u: Unit) -> usize
 }
 
 pub fn put_valued(out: &mut [u8], word: &[u8], answer: Answer) -> usize
-    requires { ⌜ length (now word) + 29 ≤ length (now out) ⌝ }
+    requires { ⌜ length (now word) + longestRefusal ≤ length (now out) ⌝ }
     ensures { λ r. ⌜ Put (valued (now (word .entry)) answer) (now (out .entry)) (now (out .exit)) r ⌝ }
 {
     match answer {

@@ -8,20 +8,20 @@ use lib.ListN.{length, take, drop, getD, set, length-append, drop-of-length-le}
 use lib.Seq.{take-all, take-at, take-suc-set, drop-cons, length-take-le}
 use Rattle.rules.specs.declared.Unit.{Unit}
 use Rattle.panel.specs.Console.{Leads}
-use Rattle.panel.specs.Lines.{keeping, Feeds, end, answer, keep}
+use Rattle.panel.specs.Lines.{keptBytes, keeping, Feeds, end, answer, keep}
 
 -- ---- of a line
 
 module _ (buffer : List ℕ) (n b : ℕ) where
-  pub kept-more : n < length buffer → length buffer ≡ 513 → take (n + 1) (set buffer n b) ≡ keeping (take n buffer) b
+  pub kept-more : n < length buffer → length buffer ≡ keptBytes → take (n + 1) (set buffer n b) ≡ keeping (take n buffer) b
   unfolding keeping
   kept-more h room =
-      let few : length (take n buffer ++ (b ∷ [])) ≤ 513 = omega (arith, length-append (take n buffer) (b ∷ []), length-take-le n buffer (omega arith)) in
-      rw (add-one, take-suc-set buffer n b h, take-all 513 (take n buffer ++ (b ∷ [])) few)
+      let few : length (take n buffer ++ (b ∷ [])) ≤ keptBytes = omega (arith, length-append (take n buffer) (b ∷ []), length-take-le n buffer (omega arith)) in
+      rw (add-one, take-suc-set buffer n b h, take-all keptBytes (take n buffer ++ (b ∷ [])) few)
 
-  pub kept-full : length buffer ≤ n → n ≤ length buffer → length buffer ≡ 513 → take n buffer ≡ keeping (take n buffer) b
+  pub kept-full : length buffer ≤ n → n ≤ length buffer → length buffer ≡ keptBytes → take n buffer ≡ keeping (take n buffer) b
   unfolding keeping
-  kept-full h within room = sym (take-at (take n buffer) (b ∷ []) 513 (omega (arith, length-take-le n buffer within)))
+  kept-full h within room = sym (take-at (take n buffer) (b ∷ []) keptBytes (omega (arith, length-take-le n buffer within)))
 
 -- ---- of the input
 

@@ -15,7 +15,8 @@ use Rattle.rules.specs.File.{encode}
 use Rattle.rules.specs.declared.Answer.{Answer}
 use Rattle.rules.specs.declared.Answer.the-variants.{Accepted}
 use Rattle.rules.specs.declared.Unit.{Unit}
-use Rattle.command.specs.Reading.{commandIn}
+use Rattle.command.proofs.Laws.{path-fits}
+use Rattle.command.specs.Reading.{pathOf, commandIn}
 use Rattle.command.specs.declared.Command as Command
 use Rattle.command.specs.declared.Command.{Command}
 use Rattle.panel.specs.Console.{said, after, Says, Leads, other, Puts}
@@ -39,6 +40,10 @@ export-fits u old answer new n e a = accepted-fits (length (encode (u .district)
 pub failed-length : (what path : List ℕ) → length (failed what path) ≡ length what + length path + 1
 unfolding failed text
 failed-length what path = omega (arith, length-append what (path ++ text "\n"), length-append path (text "\n"))
+
+-- a line's path has room where the line has
+pub path-short : (line path : List ℕ) (most : ℕ) → path ≡ pathOf line → length line ≤ most → length path ≤ most
+path-short line path most e h = omega (arith, ap length e, path-fits line)
 
 -- ---- what is put
 

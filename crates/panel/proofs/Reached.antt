@@ -7,10 +7,11 @@ use Rattle.rules.specs.Demands.{Sound}
 use Rattle.rules.specs.Lists as Lists
 use Rattle.rules.specs.Lists.{Call, outcomeOf, unitFrom, unitAfter}
 use Rattle.rules.specs.declared.Unit.{Unit}
-use Rattle.unit.proofs.Demands.{the-rules, one-claim}
+use Rattle.demands.proofs.OneClaim.{one-claim}
+use Rattle.demands.proofs.TheRules.{the-rules}
 use Rattle.command.specs.Reading.{commandIn}
 use Rattle.command.specs.declared.Command.{Command}
-use Rattle.command.specs.declared.Command.the-variants.{Nothing, Unknown, Load, Export, Bar, Unbar, Limit, Rating, Show, Points}
+use Rattle.command.specs.declared.Command.the-variants.{Nothing, Unknown, Load, Export, Alter, Show, Points}
 use Rattle.panel.specs.Console.{after, Loads, read, unopened, unread, Exports, written, unwritten, Leads, load, export, other}
 use Rattle.panel.specs.Lines.{Reached}
 
@@ -38,10 +39,7 @@ reached-after Nothing r = r
 reached-after Unknown r = r
 reached-after Load r = r
 reached-after Export r = r
-reached-after (Bar i j) r = reached-call (Lists.Bar i j) r
-reached-after (Unbar i j) r = reached-call (Lists.Unbar i j) r
-reached-after (Limit n v) r = reached-call (Lists.SetLimit n v) r
-reached-after (Rating i k v) r = reached-call (Lists.SetRating i k v) r
+reached-after (Alter e) r = reached-call (Lists.Alter e) r
 reached-after Show r = r
 reached-after (Points c d e s) r = r
 

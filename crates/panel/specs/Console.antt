@@ -2,14 +2,15 @@
 use Prim.Native.Nat.{ℕ}
 use mathlib.Core.List.{List, []}
 use mathlib.Core.Path.{_≡_}
-use lib.ListN.{length, drop}
+use lib.ListN.{length}
 use Rattle.base.specs.Text.{text, Put}
-use Rattle.rules.specs.Calls.{loadOf, barOf, unbarOf, setLimitOf, setRatingOf, exportOf}
+use Rattle.rules.specs.Calls.{loadOf, alterOf, exportOf}
+use Rattle.rules.specs.File.{longestFile}
 use Rattle.rules.specs.Survey.{surveyOf}
 use Rattle.rules.specs.declared.Unit.{Unit}
-use Rattle.command.specs.Reading.{commandIn}
+use Rattle.command.specs.Reading.{pathOf, commandIn}
 use Rattle.command.specs.declared.Command.{Command}
-use Rattle.command.specs.declared.Command.the-variants.{Nothing, Unknown, Load, Export, Bar, Unbar, Limit, Rating, Show, Points}
+use Rattle.command.specs.declared.Command.the-variants.{Nothing, Unknown, Load, Export, Alter, Show, Points}
 use Rattle.listing.specs.Listing.{done, shown, valued, failed}
 use Rattle.panel.specs.declared.Said.{Said}
 
@@ -20,10 +21,7 @@ said u Nothing = []
 said u Unknown = text "unknown command\n"
 said u Load = []
 said u Export = []
-said u (Bar i j) = done (barOf u i j .answer)
-said u (Unbar i j) = done (unbarOf u i j .answer)
-said u (Limit r v) = done (setLimitOf u r v .answer)
-said u (Rating i k v) = done (setRatingOf u i k v .answer)
+said u (Alter e) = done (alterOf u e .answer)
 said u Show = shown u
 said u (Points c d e s) = valued (text "points ") (surveyOf c d e s)
 
@@ -32,10 +30,7 @@ after u Nothing = u
 after u Unknown = u
 after u Load = u
 after u Export = u
-after u (Bar i j) = barOf u i j .unit
-after u (Unbar i j) = unbarOf u i j .unit
-after u (Limit r v) = setLimitOf u r v .unit
-after u (Rating i k v) = setRatingOf u i k v .unit
+after u (Alter e) = alterOf u e .unit
 after u Show = u
 after u (Points c d e s) = u
 
@@ -52,17 +47,17 @@ pub data Loads (u : Unit) (path : List ℕ) : Unit → List ℕ → Type 0 where
   unopened : Loads u path u (failed (text "cannot open ") path)
   unread : Loads u path u (failed (text "cannot read ") path)
 
--- an export leaves the unit as it is; every file of a district has room in 4,096 bytes
+-- an export leaves the unit as it is; every file of a district has room in the longest
 pub data Exports (u : Unit) (path : List ℕ) : Unit → List ℕ → Type 0 where
-  written : (buffer : List ℕ) → length buffer ≡ 4096 → Exports u path u (valued (text "ok ") (exportOf u buffer .answer))
+  written : (buffer : List ℕ) → length buffer ≡ longestFile → Exports u path u (valued (text "ok ") (exportOf u buffer .answer))
   unwritten : Exports u path u (failed (text "cannot write ") path)
 
 -- ---- lines
 
 -- a line leads from u to v and says bs
 pub data Leads (u : Unit) (line : List ℕ) : Unit → List ℕ → Type 0 where
-  load : {v : Unit} {bs : List ℕ} → commandIn line ≡ Load → Loads u (drop 5 line) v bs → Leads u line v bs
-  export : {v : Unit} {bs : List ℕ} → commandIn line ≡ Export → Exports u (drop 7 line) v bs → Leads u line v bs
+  load : {v : Unit} {bs : List ℕ} → commandIn line ≡ Load → Loads u (pathOf line) v bs → Leads u line v bs
+  export : {v : Unit} {bs : List ℕ} → commandIn line ≡ Export → Exports u (pathOf line) v bs → Leads u line v bs
   other :
       ¬ (commandIn line ≡ Load) → ¬ (commandIn line ≡ Export)
       → Leads u line (after u (commandIn line)) (said u (commandIn line))

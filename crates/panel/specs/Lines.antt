@@ -1,5 +1,5 @@
 -- The lines of the input, one after another, from a unit that calls lead to.
-use Prim.Native.Nat.{ℕ, _≤_}
+use Prim.Native.Nat.{ℕ, _+_, _≤_}
 use mathlib.Core.List.{List, [], _∷_, _++_}
 use mathlib.Core.Path.{_≡_}
 use lib.ListN.{length, take}
@@ -7,6 +7,7 @@ use Rattle.rules.specs.Calls.{showOf}
 use Rattle.rules.specs.Demands.{Sound}
 use Rattle.rules.specs.Lists.{Call, unitAfter}
 use Rattle.rules.specs.declared.Unit.{Unit}
+use Rattle.command.specs.Reading.{longestLine}
 use Rattle.panel.specs.Console.{Leads}
 use Rattle.panel.specs.declared.Said.{Said}
 
@@ -23,9 +24,12 @@ pub record Answered (u : Unit) (line : List ℕ) (v : Unit) : Type 0 where
   -- demand 3, of the programme that a show prints
   pub sound : Sound (u .district) (showOf u)
 
--- of a line only the first 513 bytes are kept
+-- of a line only the first bytes are kept: enough to know that it is too long
+abbrev pub keptBytes : ℕ
+keptBytes = longestLine + 1
+
 unfoldable pub keeping : List ℕ → ℕ → List ℕ
-keeping line b = take 513 (line ++ (b ∷ []))
+keeping line b = take keptBytes (line ++ (b ∷ []))
 
 -- the first n bytes of a buffer are the line with one byte more
 pub record Keeps (line : List ℕ) (b : ℕ) (buffer : List ℕ) (n : ℕ) : Type 0 where

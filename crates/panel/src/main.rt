@@ -5,15 +5,19 @@ mod files;
 ghost use Prim.Native.Nat.{_≤_};
 ghost use mathlib.Core.Path.{_≡_};
 ghost use lib.ListN.{length, take};
-ghost use Rattle.listing.specs.Listing.{done, failed as Listing·failed};
+ghost use Rattle.listing.specs.Listing.{longestListing, done, failed as Listing·failed};
 ghost use Rattle.panel.specs.Console.{said, after, Says, Loads, Exports, Leads, Puts};
-ghost use Rattle.panel.specs.Lines.{Reached, Answered, Keeps, Fed};
+ghost use Rattle.panel.specs.Lines.{keptBytes, Reached, Answered, Keeps, Fed};
 use command::Command;
 use libc::STDIN_FILENO;
 use libc::STDOUT_FILENO;
 use rules::Answer;
 use rules::Reply;
 use rules::Unit;
+use rules::records::LONGEST_FILE;
+
+// Of a line so many bytes are kept: enough to know that it is too long.
+const KEPT: usize = command::LONGEST_LINE + 1;
 
 // The unit after a command, and how many bytes the answer has.
 pub struct Said {
@@ -24,7 +28,7 @@ pub struct Said {
 // ---- commands without a file
 
 fn conclude(reply: Reply, out: &mut [u8]) -> Said
-    requires { ⌜ 2815 ≤ length (now out) ⌝ }
+    requires { ⌜ longestListing ≤ length (now out) ⌝ }
     ensures { λ r. ⌜ Says (reply .unit) (done (reply .answer)) (now (out .entry)) (now (out .exit)) r ⌝ }
 {
     let answer = reply.answer;
@@ -40,14 +44,11 @@ fn silent(u: Unit) -> Said
 }
 
 fn obey(u: Unit, command: Command, out: &mut [u8]) -> Said
-    requires { ⌜ 2815 ≤ length (now out) ⌝ }
+    requires { ⌜ longestListing ≤ length (now out) ⌝ }
     ensures { λ r. ⌜ Says (after u command) (said u command) (now (out .entry)) (now (out .exit)) r ⌝ }
 {
     match command {
-        Command::Bar(i, j) => conclude(unit::bar(u, i, j), out),
-        Command::Unbar(i, j) => conclude(unit::unbar(u, i, j), out),
-        Command::Limit(r, v) => conclude(unit::set_limit(u, r, v), out),
-        Command::Rating(i, k, v) => conclude(unit::set_rating(u, i, k, v), out),
+        Command::Alter(e) => conclude(unit::alter(u, e), out),
         Command::Show => Said {
             unit: u,
             length: listing::put_shown(out, u),
@@ -69,7 +70,7 @@ fn obey(u: Unit, command: Command, out: &mut [u8]) -> Said
 // ---- commands with a file
 
 fn failed(u: Unit, what: &[u8], path: &[u8], out: &mut [u8]) -> Said
-    requires { ⌜ (length (now what) ≤ 13) × (length (now path) ≤ 513) × (2815 ≤ length (now out)) ⌝ }
+    requires { ⌜ (length (now what) ≤ 13) × (length (now path) ≤ keptBytes) × (longestListing ≤ length (now out)) ⌝ }
     ensures { λ r. ⌜ Says u (Listing·failed (now (what .entry)) (now (path .entry))) (now (out .entry)) (now (out .exit)) r ⌝ }
 {
     Said {
@@ -79,7 +80,7 @@ fn failed(u: Unit, what: &[u8], path: &[u8], out: &mut [u8]) -> Said
 }
 
 fn load(u: Unit, path: &[u8], out: &mut [u8]) -> Said
-    requires { ⌜ (length (now path) ≤ 513) × (2815 ≤ length (now out)) ⌝ }
+    requires { ⌜ (length (now path) ≤ keptBytes) × (longestListing ≤ length (now out)) ⌝ }
     ensures { λ r. ⌜ Puts (Loads u (now (path .entry))) (now (out .entry)) (now (out .exit)) r ⌝ }
 {
     let fd = os::open_read(path);
@@ -97,10 +98,10 @@ fn load(u: Unit, path: &[u8], out: &mut [u8]) -> Said
 }
 
 fn export(u: Unit, path: &[u8], out: &mut [u8]) -> Said
-    requires { ⌜ (length (now path) ≤ 513) × (2815 ≤ length (now out)) ⌝ }
+    requires { ⌜ (length (now path) ≤ keptBytes) × (longestListing ≤ length (now out)) ⌝ }
     ensures { λ r. ⌜ Puts (Exports u (now (path .entry))) (now (out .entry)) (now (out .exit)) r ⌝ }
 {
-    let mut file = [0u8; 4096];
+    let mut file = [0u8; LONGEST_FILE];
     let answer = unit::export(u, &mut file);
     if let Answer::Accepted(n) = answer {
         if !files::save(path, &file[..n]) {
@@ -116,32 +117,32 @@ fn export(u: Unit, path: &[u8], out: &mut [u8]) -> Said
 // ---- lines
 
 fn respond(u: Unit, line: &[u8], out: &mut [u8]) -> Said
-    requires { ⌜ (length (now line) ≤ 513) × (2815 ≤ length (now out)) ⌝ }
+    requires { ⌜ (length (now line) ≤ keptBytes) × (longestListing ≤ length (now out)) ⌝ }
     ensures { λ r. ⌜ Puts (Leads u (now (line .entry))) (now (out .entry)) (now (out .exit)) r ⌝ }
 {
     let command = command::parse(line);
     match command {
-        Command::Load => load(u, &line[5..], out),
-        Command::Export => export(u, &line[7..], out),
+        Command::Load => load(u, command::path(line), out),
+        Command::Export => export(u, command::path(line), out),
         _ => obey(u, command, out),
     }
 }
 
 // The answer to a line goes to standard output.
 fn answer(u: Unit, line: &[u8]) -> Unit
-    requires { ⌜ (length (now line) ≤ 513) × Reached u ⌝ }
+    requires { ⌜ (length (now line) ≤ keptBytes) × Reached u ⌝ }
     ensures { λ r. ⌜ Answered u (now (line .entry)) r ⌝ }
 {
-    let mut out = [0u8; 2815];
+    let mut out = [0u8; listing::LONGEST_LISTING];
     let said = respond(u, line, &mut out);
     let n = said.length;
     io::write_all(STDOUT_FILENO, &out[..n]);
     said.unit
 }
 
-// Of a line only the first 513 bytes are kept: enough to know that it is too long.
+// A byte goes to the line, unless as many are kept as tell that it is too long.
 fn keep(line: &mut [u8], kept: usize, byte: u8) -> usize
-    requires { ⌜ (kept ≤ length (now line)) × (length (now line) ≡ 513) ⌝ }
+    requires { ⌜ (kept ≤ length (now line)) × (length (now line) ≡ keptBytes) ⌝ }
     ensures { λ r. ⌜ Keeps (take kept (now (line .entry))) byte (now (line .exit)) r ⌝ }
 {
     if kept < line.len() {
@@ -153,7 +154,7 @@ fn keep(line: &mut [u8], kept: usize, byte: u8) -> usize
 
 // What was read goes to the line, and each line that ends is answered.
 fn feed(u: Unit, line: &mut [u8], kept: usize, bytes: &[u8]) -> Said
-    requires { ⌜ (kept ≤ length (now line)) × (length (now line) ≡ 513) × Reached u ⌝ }
+    requires { ⌜ (kept ≤ length (now line)) × (length (now line) ≡ keptBytes) × Reached u ⌝ }
     ensures { λ r. ⌜ Fed u (take kept (now (line .entry))) (now (bytes .entry)) (now (line .exit)) r ⌝ }
 {
     let mut unit = u;
@@ -174,7 +175,7 @@ fn feed(u: Unit, line: &mut [u8], kept: usize, bytes: &[u8]) -> Said
 
 fn main() {
     let mut unit = unit::fresh();
-    let mut line = [0u8; 513];
+    let mut line = [0u8; KEPT];
     let mut length: usize = 0;
     let mut turns = u64::MAX;
     while turns > 0 {

@@ -2,13 +2,14 @@
 ghost use Prim.Native.Nat.{_≤_};
 ghost use lib.ListN.{length};
 ghost use Rattle.base.specs.Text.{Put};
+ghost use Rattle.listing.specs.Listing.{longestListing};
 ghost use Rattle.plan.specs.Printed.{printed};
 use libc::STDIN_FILENO;
 use libc::STDOUT_FILENO;
 
 // What is printed for a file, to the front of `out`.
 fn answer(file: &[u8], out: &mut [u8]) -> usize
-    requires { ⌜ 2815 ≤ length (now out) ⌝ }
+    requires { ⌜ longestListing ≤ length (now out) ⌝ }
     ensures { λ r. ⌜ Put (printed (now (file .entry))) (now (out .entry)) (now (out .exit)) r ⌝ }
 {
     let reply = unit::load(unit::fresh(), file);
@@ -20,7 +21,7 @@ fn answer(file: &[u8], out: &mut [u8]) -> usize
 fn main() {
     let mut file = io::buffer();
     let n = io::read_full(STDIN_FILENO, &mut file);
-    let mut out = [0u8; 2815];
+    let mut out = [0u8; listing::LONGEST_LISTING];
     let length = answer(&file[..n], &mut out);
     io::write_all(STDOUT_FILENO, &out[..length]);
 }

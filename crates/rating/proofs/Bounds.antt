@@ -12,7 +12,7 @@ use Rattle.base.specs.Bytes.{signed}
 use Rattle.base.specs.Over.{sumZ}
 use Rattle.base.proofs.Integers.{abs-add, abs-min, abs-mul-le, abs-quot, pos-minus, sumZ-abs}
 use Rattle.grammar.specs.Ranges.{Ranges}
-use Rattle.rules.specs.District.{District, valueAt, strategyPlace, segmentPlace, distressesOf, yearsOf, greatestOf, gainOf, pavementOf, ratingOf}
+use Rattle.rules.specs.District.{District, mostStrategies, gainsAt, valueAt, strategyPlace, segmentPlace, distressesOf, yearsOf, greatestOf, gainOf, pavementOf, ratingOf}
 use Rattle.rules.specs.Rating.{gain, survival, improvement, improvements, rating, effect, area, benefit, usage, scaledLimit}
 use Rattle.rating.specs.Numbers.{Segment, SegmentOf, Pavement, Strategy, Distress, Resource}
 
@@ -31,7 +31,7 @@ survival-le d i j k zero = omega arith
 survival-le d i j k (suc t) = omega arith
 
 module _ (d : District) (ok : Ranges d) where
-  pub byte-le : (j k : ℕ) → Strategy j → Distress k → valueAt d (strategyPlace j + 16 + (k - 1)) ≤ 306
+  pub byte-le : (j k : ℕ) → Strategy j → Distress k → valueAt d (strategyPlace j + gainsAt + (k - 1)) ≤ 306
   unfolding gainOf
   byte-le j k p q = byte-small _ (ok .gain j k (p .0) (p .1) (q .0) (q .1))
 
@@ -80,7 +80,7 @@ module _ (d : District) (ok : Ranges d) where
   benefit-abs i zero p q = omega arith
   benefit-abs i (suc j) p q = abs-mul-le (pos (area d i)) (effect d i (suc j)) (area-le i p) (effect-abs i (suc j) p q)
 
-  pub usage-le : (i j r : ℕ) → Segment i → j ≤ 11 → Resource r → usage d i j r ≤ 1_999_798_000_200
+  pub usage-le : (i j r : ℕ) → Segment i → j ≤ mostStrategies → Resource r → usage d i j r ≤ 1_999_798_000_200
   unfolding usage
   usage-le i zero r p q s = omega arith
   usage-le i (suc j) r p q s = mul-le-mul {n₂ = 1_999_800} {m₂ = 999_999} (area-le i p) (ok .requirement (suc j) r (omega arith) q (s .0) (s .1))

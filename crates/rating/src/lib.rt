@@ -1,16 +1,17 @@
-// Document 01, "Rating and benefit", of one segment and one strategy of a district. The district is lent: 2,620 numbers at fixed places.
+// Document 01, "Rating and benefit", of one segment and one strategy of a district. The district is lent.
 ghost use mathlib.Core.Path.{_≡_};
 ghost use Prim.Native.Nat.{_+_, _-_, _*_, _≤_};
 ghost use lib.IntN.{natAbs};
 ghost use Rattle.base.specs.Choice.{pick};
 ghost use Rattle.base.specs.Over.{sum, sumZ};
 ghost use Rattle.grammar.specs.Ranges.{Ranges};
-ghost use Rattle.rules.specs.District.{valueAt, limitPlace, greatestPlace, strategyPlace, pavementPlace, segmentPlace, ratingPlace, gainOf, yearsOf, distressesOf, barredIn};
+ghost use Rattle.rules.specs.District.{mostYears, gainsAt, percentsAt, minimaAt, barsAt, valueAt, limitPlace, greatestPlace, strategyPlace, pavementPlace, segmentPlace, ratingPlace, gainOf, yearsOf, distressesOf, barredIn};
 ghost use Rattle.rules.specs.Rating.{gain, survival, improvements, rating, effect, area, benefit, usage, scaledLimit, reaches, minimumReached, yearsReached, minimaReached, firstRating, overallReached, permitted, fitsAlone, candidate};
 ghost use Rattle.rules.specs.Table.{has, candidateBenefit, usageIn, limitIn};
 ghost use Rattle.rating.specs.Areas.{areaIn};
 ghost use Rattle.rating.specs.Numbers.{Segment, SegmentOf, Strategy, Distress, Year, Pavement, Resource};
 use rules::District;
+use rules::places::*;
 
 // ---- what stands at its places
 
@@ -18,82 +19,72 @@ fn limit_at(d: &District, r: usize) -> usize
     requires { ⌜ Resource r ⌝ }
     ensures { λ v. ⌜ v ≡ valueAt (now (d .entry)) (limitPlace r) ⌝ }
 {
-    d[6 + (r - 1)]
+    d[LIMITS + (r - 1)]
 }
 
 fn greatest_at(d: &District, k: usize) -> usize
     requires { ⌜ Distress k ⌝ }
     ensures { λ v. ⌜ v ≡ valueAt (now (d .entry)) (greatestPlace k) ⌝ }
 {
-    d[22 + (k - 1)]
+    d[GREATEST + (k - 1)]
 }
 
 fn requirement_at(d: &District, j: usize, r: usize) -> usize
     requires { ⌜ Strategy j × Resource r ⌝ }
     ensures { λ v. ⌜ v ≡ valueAt (now (d .entry)) (strategyPlace j + (r - 1)) ⌝ }
 {
-    d[31 + 115 * (j - 1) + (r - 1)]
+    d[STRATEGIES + PER_STRATEGY * (j - 1) + (r - 1)]
 }
 
 // the byte of a gain, signed
 fn gain_byte(d: &District, j: usize, k: usize) -> usize
     requires { ⌜ Strategy j × Distress k ⌝ }
-    ensures { λ v. ⌜ v ≡ valueAt (now (d .entry)) (strategyPlace j + 16 + (k - 1)) ⌝ }
+    ensures { λ v. ⌜ v ≡ valueAt (now (d .entry)) (strategyPlace j + gainsAt + (k - 1)) ⌝ }
 {
-    d[31 + 115 * (j - 1) + 16 + (k - 1)]
+    d[STRATEGIES + PER_STRATEGY * (j - 1) + GAINS + (k - 1)]
 }
 
 fn percent_at(d: &District, j: usize, k: usize, t: usize) -> usize
     requires { ⌜ Strategy j × Distress k × Year t ⌝ }
-    ensures { λ v. ⌜ v ≡ valueAt (now (d .entry)) (strategyPlace j + 25 + 10 * (k - 1) + (t - 1)) ⌝ }
+    ensures { λ v. ⌜ v ≡ valueAt (now (d .entry)) (strategyPlace j + percentsAt + mostYears * (k - 1) + (t - 1)) ⌝ }
 {
-    d[31 + 115 * (j - 1) + 25 + 10 * (k - 1) + (t - 1)]
+    d[STRATEGIES + PER_STRATEGY * (j - 1) + PERCENTS + MOST_YEARS * (k - 1) + (t - 1)]
 }
 
 fn overall_at(d: &District, y: usize) -> usize
     requires { ⌜ Pavement y ⌝ }
     ensures { λ v. ⌜ v ≡ valueAt (now (d .entry)) (pavementPlace y) ⌝ }
 {
-    d[1296 + 91 * (y - 1)]
+    d[PAVEMENTS + PER_PAVEMENT * (y - 1)]
 }
 
 fn minimum_at(d: &District, y: usize, k: usize, t: usize) -> usize
     requires { ⌜ Pavement y × Distress k × Year t ⌝ }
-    ensures { λ v. ⌜ v ≡ valueAt (now (d .entry)) (pavementPlace y + 1 + 10 * (k - 1) + (t - 1)) ⌝ }
+    ensures { λ v. ⌜ v ≡ valueAt (now (d .entry)) (pavementPlace y + minimaAt + mostYears * (k - 1) + (t - 1)) ⌝ }
 {
-    d[1296 + 91 * (y - 1) + 1 + 10 * (k - 1) + (t - 1)]
+    d[PAVEMENTS + PER_PAVEMENT * (y - 1) + MINIMA + MOST_YEARS * (k - 1) + (t - 1)]
 }
 
 fn pavement_at(d: &District, i: usize) -> usize
     requires { ⌜ Segment i ⌝ }
     ensures { λ v. ⌜ v ≡ valueAt (now (d .entry)) (segmentPlace i) ⌝ }
 {
-    d[1660 + 15 * (i - 1)]
+    d[SEGMENTS + PER_SEGMENT * (i - 1)]
 }
 
-// where a segment has its indexes, length, width and bars, counted from its pavement type
-const TRAFFIC: usize = 1;
-
-const ENVIRONMENT: usize = 2;
-
-const LENGTH: usize = 3;
-
-const WIDTH: usize = 4;
-
-const BARS: usize = 5;
-
+// a segment's indexes, length, width or bars
 fn segment_at(d: &District, i: usize, n: usize) -> usize
-    requires { ⌜ Segment i × (n ≤ 5) ⌝ }
+    requires { ⌜ Segment i × (n ≤ barsAt) ⌝ }
     ensures { λ v. ⌜ v ≡ valueAt (now (d .entry)) (segmentPlace i + n) ⌝ }
 {
-    d[1660 + 15 * (i - 1) + n]
+    d[SEGMENTS + PER_SEGMENT * (i - 1) + n]
 }
 
 fn rating_at(d: &District, i: usize, k: usize) -> usize
     requires { ⌜ Segment i × Distress k ⌝ }
     ensures { λ v. ⌜ v ≡ valueAt (now (d .entry)) (ratingPlace i k) ⌝ }
 {
-    d[1660 + 15 * (i - 1) + 6 + (k - 1)]
+    d[SEGMENTS + PER_SEGMENT * (i - 1) + RATINGS + (k - 1)]
 }
 
 // ---- gain and survival
@@ -138,7 +129,7 @@ fn survivals(d: &District, i: usize, j: usize, k: usize) -> usize
     requires { ⌜ Ranges (now d) × Segment i × Strategy j × Distress k ⌝ }
     ensures { λ s. ⌜ s ≡ sum (yearsOf (now (d .entry))) (survival (now (d .entry)) i j k) ⌝ }
 {
-    let years = d[2];
+    let years = d[YEAR_COUNT];
     let mut total: usize = 0;
     let mut t = 0;
     while t < years {
@@ -161,7 +152,7 @@ fn effect(d: &District, i: usize, j: usize) -> i64
     requires { ⌜ Ranges (now d) × Segment i × Strategy j ⌝ }
     ensures { λ e. ⌜ e ≡ effect (now (d .entry)) i j ⌝ }
 {
-    let distresses = d[3];
+    let distresses = d[DISTRESS_COUNT];
     let mut sum: i64 = 0;
     let mut k = 0;
     while k < distresses {
@@ -242,7 +233,7 @@ fn years_reached(d: &District, i: usize, j: usize, k: usize) -> bool
     requires { ⌜ Ranges (now d) × SegmentOf (now d) i × Strategy j × Distress k ⌝ }
     ensures { λ b. ⌜ b ≡ yearsReached (now (d .entry)) i j k ⌝ }
 {
-    let years = d[2];
+    let years = d[YEAR_COUNT];
     let g = gain(d, i, j, k);
     let mut t = 0;
     while t < years {
@@ -258,7 +249,7 @@ fn minima_reached(d: &District, i: usize, j: usize) -> bool
     requires { ⌜ Ranges (now d) × SegmentOf (now d) i × Strategy j ⌝ }
     ensures { λ b. ⌜ b ≡ minimaReached (now (d .entry)) i j ⌝ }
 {
-    let distresses = d[3];
+    let distresses = d[DISTRESS_COUNT];
     let mut k = 0;
     while k < distresses {
         if !years_reached(d, i, j, k + 1) {
@@ -274,7 +265,7 @@ fn first_ratings(d: &District, i: usize, j: usize) -> i64
     requires { ⌜ Ranges (now d) × Segment i × Strategy j ⌝ }
     ensures { λ z. ⌜ z ≡ sumZ (distressesOf (now (d .entry))) (firstRating (now (d .entry)) i j) ⌝ }
 {
-    let distresses = d[3];
+    let distresses = d[DISTRESS_COUNT];
     let mut sum: i64 = 0;
     let mut k = 0;
     while k < distresses {
@@ -313,7 +304,7 @@ fn fits_alone(d: &District, i: usize, j: usize) -> bool
     requires { ⌜ Ranges (now d) × Segment i × Strategy j ⌝ }
     ensures { λ b. ⌜ b ≡ fitsAlone (now (d .entry)) i j ⌝ }
 {
-    let resources = d[5];
+    let resources = d[RESOURCE_COUNT];
     let mut r = 0;
     while r < resources {
         if scaled_limit(d, r + 1) < usage(d, i, j, r + 1) {
@@ -351,13 +342,13 @@ fn has(d: &District, i: usize, j: usize) -> bool
     requires { ⌜ Segment i ⌝ }
     ensures { λ h. ⌜ h ≡ has (now (d .entry)) i j ⌝ }
 {
-    if d[0] < i {
+    if d[SEGMENT_COUNT] < i {
         return false;
     }
     if j < 1 {
         return false;
     }
-    j <= d[1]
+    j <= d[STRATEGY_COUNT]
 }
 
 pub fn candidate_benefit(d: &District, i: usize, j: usize) -> u64
@@ -389,7 +380,7 @@ pub fn usage_in(d: &District, i: usize, j: usize, r: usize, a: u64) -> u64
     if a == 0 {
         return 0;
     }
-    if d[5] < r {
+    if d[RESOURCE_COUNT] < r {
         return 0;
     }
     a * (requirement_at(d, j, r) as u64)
@@ -399,7 +390,7 @@ pub fn limit_in(d: &District, r: usize) -> u64
     requires { ⌜ Ranges (now d) × Resource r ⌝ }
     ensures { λ l. ⌜ l ≡ limitIn (now (d .entry)) r ⌝ }
 {
-    if r <= d[5] {
+    if r <= d[RESOURCE_COUNT] {
         return scaled_limit(d, r);
     }
     0

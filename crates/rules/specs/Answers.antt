@@ -6,6 +6,43 @@ use Rattle.base.specs.Over.{between}
 use Rattle.rules.specs.declared.Answer.{Answer}
 use Rattle.rules.specs.declared.Answer.the-variants.{Accepted, Refused}
 
+-- ---- the refusals, in the table's order
+
+-- a file ends within a record
+abbrev pub cutShort : ℕ
+cutShort = 1
+
+abbrev pub otherKind : ℕ
+otherKind = 2
+
+abbrev pub otherLength : ℕ
+otherLength = 3
+
+abbrev pub outOfRange : ℕ
+outOfRange = 4
+
+abbrev pub bytesFollow : ℕ
+bytesFollow = 5
+
+abbrev pub noSuchSegment : ℕ
+noSuchSegment = 6
+
+-- no such strategy, resource or distress
+abbrev pub noSuchNumber : ℕ
+noSuchNumber = 7
+
+-- a new limit or rating
+abbrev pub newOutOfRange : ℕ
+newOutOfRange = 8
+
+abbrev pub bufferTooShort : ℕ
+bufferTooShort = 9
+
+abbrev pub noSuchPoints : ℕ
+noSuchPoints = 10
+
+-- ---- how one comes about
+
 -- refusal n where the test fails, else what the later tests say
 abbrev pub unless : Bool → ℕ → ℕ → ℕ
 unless true n rest = rest
@@ -14,6 +51,8 @@ unless false n rest = n
 -- refusal n where x is not 1 to count, else what the later tests say
 abbrev pub oneTo : ℕ → ℕ → ℕ → ℕ → ℕ
 oneTo x count n rest = unless (between 1 count x) n rest
+
+-- ---- what is answered and what is held
 
 -- the answer: a value where nothing refuses it, else the number, marked as a refusal
 unfoldable pub answerOf : ℕ → ℕ → Answer

@@ -3,11 +3,13 @@ use Prim.Native.Nat.{ℕ, _+_, _-_}
 use mathlib.Core.List.{List, [], _++_}
 use lib.Dec.{leb}
 use lib.ListN.{length, drop}
-use Rattle.rules.specs.District.{District, segmentsOf, strategiesOf, distressesOf, resourcesOf, withLimit, withBar, withoutBar, withRating, freshDistrict}
+use Rattle.rules.specs.District.{District, ratingsAt, segmentsOf, strategiesOf, distressesOf, resourcesOf, withLimit, withBar, withoutBar, withRating, freshDistrict}
 use Rattle.rules.specs.Format.{inside, limitField, segmentField}
 use Rattle.rules.specs.File.{Read, refused, found, decode, encode}
 use Rattle.rules.specs.Plan.{planOf}
-use Rattle.rules.specs.Answers.{unless, oneTo, answerOf, accepting}
+use Rattle.rules.specs.Answers.{noSuchSegment, noSuchNumber, newOutOfRange, bufferTooShort, unless, oneTo, answerOf, accepting}
+use Rattle.rules.specs.declared.Edit.{Edit}
+use Rattle.rules.specs.declared.Edit.the-variants.{Bar, Unbar, SetLimit, SetRating}
 use Rattle.rules.specs.declared.Programme.{Programme}
 use Rattle.rules.specs.declared.Unit.{Unit}
 use Rattle.rules.specs.declared.Reply.{Reply}
@@ -22,20 +24,36 @@ loadRefusalOf (found d rest) = 0
 unfoldable pub loadRefusal : List ℕ → ℕ
 loadRefusal file = loadRefusalOf (decode file)
 
+unfoldable pub exportRefusal : District → List ℕ → ℕ
+exportRefusal d buffer = unless (leb (length (encode d)) (length buffer)) bufferTooShort 0
+
+-- ---- edits: bar, unbar, set limit, set rating
+
 -- of bar and unbar
 unfoldable pub barRefusal : District → ℕ → ℕ → ℕ
-barRefusal d i j = oneTo i (segmentsOf d) 6 (oneTo j (strategiesOf d) 7 0)
+barRefusal d i j = oneTo i (segmentsOf d) noSuchSegment (oneTo j (strategiesOf d) noSuchNumber 0)
 
 -- a limit, and below a rating, has the range that the file gives it
 unfoldable pub limitRefusal : District → ℕ → ℕ → ℕ
-limitRefusal d r limit = oneTo r (resourcesOf d) 7 (unless (inside (limitField d (r - 1)) limit) 8 0)
+limitRefusal d r limit = oneTo r (resourcesOf d) noSuchNumber (unless (inside (limitField d (r - 1)) limit) newOutOfRange 0)
 
 unfoldable pub ratingRefusal : District → ℕ → ℕ → ℕ → ℕ
 ratingRefusal d i k rating =
-    oneTo i (segmentsOf d) 6 (oneTo k (distressesOf d) 7 (unless (inside (segmentField d (6 + (k - 1))) rating) 8 0))
+    oneTo i (segmentsOf d) noSuchSegment
+    (oneTo k (distressesOf d) noSuchNumber (unless (inside (segmentField d (ratingsAt + (k - 1))) rating) newOutOfRange 0))
 
-unfoldable pub exportRefusal : District → List ℕ → ℕ
-exportRefusal d buffer = unless (leb (length (encode d)) (length buffer)) 9 0
+abbrev pub editRefusal : District → Edit → ℕ
+editRefusal d (Bar i j) = barRefusal d i j
+editRefusal d (Unbar i j) = barRefusal d i j
+editRefusal d (SetLimit r limit) = limitRefusal d r limit
+editRefusal d (SetRating i k rating) = ratingRefusal d i k rating
+
+-- the district with the one value that the edit names altered
+abbrev pub edited : District → Edit → District
+edited d (Bar i j) = withBar d i j
+edited d (Unbar i j) = withoutBar d i j
+edited d (SetLimit r limit) = withLimit d r limit
+edited d (SetRating i k rating) = withRating d i k rating
 
 -- ---- the calls that change the district
 
@@ -61,17 +79,8 @@ answered u n d = record { answer = answerOf n 0; unit = accepting n (unitOf d) u
 unfoldable pub loadOf : Unit → List ℕ → Reply
 loadOf u file = answered u (loadRefusal file) (districtIn file)
 
-unfoldable pub barOf : Unit → ℕ → ℕ → Reply
-barOf u i j = answered u (barRefusal (u .district) i j) (withBar (u .district) i j)
-
-unfoldable pub unbarOf : Unit → ℕ → ℕ → Reply
-unbarOf u i j = answered u (barRefusal (u .district) i j) (withoutBar (u .district) i j)
-
-unfoldable pub setLimitOf : Unit → ℕ → ℕ → Reply
-setLimitOf u r limit = answered u (limitRefusal (u .district) r limit) (withLimit (u .district) r limit)
-
-unfoldable pub setRatingOf : Unit → ℕ → ℕ → ℕ → Reply
-setRatingOf u i k rating = answered u (ratingRefusal (u .district) i k rating) (withRating (u .district) i k rating)
+unfoldable pub alterOf : Unit → Edit → Reply
+alterOf u e = answered u (editRefusal (u .district) e) (edited (u .district) e)
 
 -- ---- export and show, which leave the unit as it is
 

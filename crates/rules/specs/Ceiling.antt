@@ -7,6 +7,7 @@ use lib.Dec.{leb, ltb}
 use lib.ListN.{getD, set, replicate}
 use Rattle.base.specs.Choice.{pick}
 use Rattle.base.specs.Over.{sum, most}
+use Rattle.rules.specs.District.{mostResources}
 use Rattle.rules.specs.Table.{Table}
 
 -- Prices are a list with one for each of 16 resources.
@@ -59,7 +60,7 @@ module _ (t : Table) where
 
   -- all free at first; after n rounds, whose step halves each time
   unfoldable pub pricesAfter : ℕ → List ℕ
-  pricesAfter zero = replicate 16 0
+  pricesAfter zero = replicate mostResources 0
   pricesAfter (suc n) = pricedAll (2 ^ (40 - n)) (t .resources) (pricesAfter n)
 
   -- after the round with step 1

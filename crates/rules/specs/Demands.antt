@@ -17,7 +17,7 @@ use Rattle.rules.specs.Phases.{strategyAt, within, pickUp, change}
 use Rattle.rules.specs.Plan.{reduced, filled, improved, programmeOf}
 use Rattle.rules.specs.Survey.{blockOf, pointsOf, surveyRefusal, surveyOf}
 use Rattle.rules.specs.Calls.{loadRefusal, loadOf, Export, exportOf, showOf}
-use Rattle.rules.specs.Lists.{Call, Load, Bar, Unbar, SetLimit, SetRating, ExportTo, Show, refusalOf, altered, lentTo, outcomeOf, districtAfter, unitAfter}
+use Rattle.rules.specs.Lists.{Call, Load, Alter, ExportTo, Show, refusalOf, altered, lentTo, outcomeOf, districtAfter, unitAfter}
 use Rattle.rules.specs.declared.Programme.{Programme}
 use Rattle.rules.specs.declared.Unit.{Unit}
 use Rattle.rules.specs.declared.Answer.the-variants.{Accepted, Refused}
@@ -27,10 +27,7 @@ use Rattle.rules.specs.declared.Answer.the-variants.{Accepted, Refused}
 -- what an accepted call returns: the length for an export, else 0
 unfoldable pub returned : District → Call → ℕ
 returned d (Load file) = 0
-returned d (Bar i j) = 0
-returned d (Unbar i j) = 0
-returned d (SetLimit r limit) = 0
-returned d (SetRating i k rating) = 0
+returned d (Alter e) = 0
 returned d (ExportTo buffer) = length (encode d)
 returned d Show = 0
 

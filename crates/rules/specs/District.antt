@@ -1,6 +1,6 @@
 -- Document 01, "The district and its file": what a district holds.
 --
--- A district is a list of 2,620 numbers, each at a place of its own; the places of what it does not have hold 0. Only this file, Format
+-- A district is a list of numbers, each at a place of its own; the places of what it does not have hold 0. Only this file, Format
 -- and File go by places. Every other rule reads a district by the names below and alters it by `with..`.
 --
 -- Segments i, strategies j, years t, distress types k, pavement types y and resources r are numbered from 1, here and in all the rules.
@@ -16,34 +16,112 @@ use Rattle.base.specs.Bits.{isSet, setBit, clearBit}
 abbrev pub District : Type 0
 District = List ℕ
 
-abbrev pub districtPlaces : ℕ
-districtPlaces = 2620
+-- ---- how many there may be of each
 
--- ---- places: 6 counts, 16 limits, 9 greatest ratings, 11 strategies, 4 pavement types, 64 segments
+abbrev pub mostSegments : ℕ
+mostSegments = 64
+
+abbrev pub mostStrategies : ℕ
+mostStrategies = 11
+
+abbrev pub mostYears : ℕ
+mostYears = 10
+
+abbrev pub mostDistresses : ℕ
+mostDistresses = 9
+
+abbrev pub mostPavements : ℕ
+mostPavements = 4
+
+abbrev pub mostResources : ℕ
+mostResources = 16
+
+-- ---- the places: the counts, then a run for each kind, which begins where the one before it ends
+
+abbrev pub countPlaces : ℕ
+countPlaces = 6
+
+abbrev pub limitsAt : ℕ
+limitsAt = countPlaces
 
 abbrev pub limitPlace : ℕ → ℕ
-limitPlace r = 6 + (r - 1)
+limitPlace r = limitsAt + (r - 1)
+
+abbrev pub greatestAt : ℕ
+greatestAt = limitsAt + mostResources
 
 abbrev pub greatestPlace : ℕ → ℕ
-greatestPlace k = 22 + (k - 1)
+greatestPlace k = greatestAt + (k - 1)
 
--- a strategy: 16 requirements, 9 gains, 9 rows of 10 percents
+-- a row for each distress type with a place for each year
+abbrev pub rowsPlaces : ℕ
+rowsPlaces = mostYears * mostDistresses
+
+-- a strategy: the requirements, the gains, rows of percents
+abbrev pub gainsAt : ℕ
+gainsAt = mostResources
+
+abbrev pub percentsAt : ℕ
+percentsAt = gainsAt + mostDistresses
+
+abbrev pub perStrategy : ℕ
+perStrategy = percentsAt + rowsPlaces
+
+abbrev pub strategiesAt : ℕ
+strategiesAt = greatestAt + mostDistresses
+
 abbrev pub strategyPlace : ℕ → ℕ
-strategyPlace j = 31 + 115 * (j - 1)
+strategyPlace j = strategiesAt + perStrategy * (j - 1)
 
--- a pavement type: the overall requirement, 9 rows of 10 minimum ratings
+-- a pavement type: the overall requirement, rows of minimum ratings
+abbrev pub minimaAt : ℕ
+minimaAt = 1
+
+abbrev pub perPavement : ℕ
+perPavement = minimaAt + rowsPlaces
+
+abbrev pub pavementsAt : ℕ
+pavementsAt = strategiesAt + perStrategy * mostStrategies
+
 abbrev pub pavementPlace : ℕ → ℕ
-pavementPlace y = 1296 + 91 * (y - 1)
+pavementPlace y = pavementsAt + perPavement * (y - 1)
 
--- a segment: pavement type, traffic index, environment index, length, width, bars, 9 ratings
+-- a segment: pavement type, traffic index, environment index, length, width, bars, the ratings
+abbrev pub trafficAt : ℕ
+trafficAt = 1
+
+abbrev pub environmentAt : ℕ
+environmentAt = 2
+
+abbrev pub lengthAt : ℕ
+lengthAt = 3
+
+abbrev pub widthAt : ℕ
+widthAt = 4
+
+abbrev pub barsAt : ℕ
+barsAt = 5
+
+abbrev pub ratingsAt : ℕ
+ratingsAt = 6
+
+abbrev pub perSegment : ℕ
+perSegment = ratingsAt + mostDistresses
+
+abbrev pub segmentsAt : ℕ
+segmentsAt = pavementsAt + perPavement * mostPavements
+
 abbrev pub segmentPlace : ℕ → ℕ
-segmentPlace i = 1660 + 15 * (i - 1)
+segmentPlace i = segmentsAt + perSegment * (i - 1)
 
 abbrev pub barsPlace : ℕ → ℕ
-barsPlace i = segmentPlace i + 5
+barsPlace i = segmentPlace i + barsAt
 
 abbrev pub ratingPlace : ℕ → ℕ → ℕ
-ratingPlace i k = segmentPlace i + 6 + (k - 1)
+ratingPlace i k = segmentPlace i + ratingsAt + (k - 1)
+
+abbrev pub districtPlaces : ℕ
+districtPlaces = segmentsAt + perSegment * mostSegments
 
 abbrev pub valueAt : District → ℕ → ℕ
 valueAt d place = getD d place 0
@@ -82,35 +160,35 @@ requirementOf d j r = valueAt d (strategyPlace j + (r - 1))
 
 -- a signed byte
 unfoldable pub gainOf : District → ℕ → ℕ → ℤ
-gainOf d j k = signed (valueAt d (strategyPlace j + 16 + (k - 1)))
+gainOf d j k = signed (valueAt d (strategyPlace j + gainsAt + (k - 1)))
 
 -- survival percent
 unfoldable pub percentOf : District → ℕ → ℕ → ℕ → ℕ
-percentOf d j k t = valueAt d (strategyPlace j + 25 + 10 * (k - 1) + (t - 1))
+percentOf d j k t = valueAt d (strategyPlace j + percentsAt + mostYears * (k - 1) + (t - 1))
 
 unfoldable pub overallOf : District → ℕ → ℕ
 overallOf d y = valueAt d (pavementPlace y)
 
 unfoldable pub minimumOf : District → ℕ → ℕ → ℕ → ℕ
-minimumOf d y k t = valueAt d (pavementPlace y + 1 + 10 * (k - 1) + (t - 1))
+minimumOf d y k t = valueAt d (pavementPlace y + minimaAt + mostYears * (k - 1) + (t - 1))
 
 unfoldable pub pavementOf : District → ℕ → ℕ
 pavementOf d i = valueAt d (segmentPlace i)
 
 -- the two indexes, in hundredths
 unfoldable pub trafficOf : District → ℕ → ℕ
-trafficOf d i = valueAt d (segmentPlace i + 1)
+trafficOf d i = valueAt d (segmentPlace i + trafficAt)
 
 unfoldable pub environmentOf : District → ℕ → ℕ
-environmentOf d i = valueAt d (segmentPlace i + 2)
+environmentOf d i = valueAt d (segmentPlace i + environmentAt)
 
 -- in hundredths of a mile
 unfoldable pub lengthOf : District → ℕ → ℕ
-lengthOf d i = valueAt d (segmentPlace i + 3)
+lengthOf d i = valueAt d (segmentPlace i + lengthAt)
 
 -- in feet
 unfoldable pub widthOf : District → ℕ → ℕ
-widthOf d i = valueAt d (segmentPlace i + 4)
+widthOf d i = valueAt d (segmentPlace i + widthAt)
 
 -- a bit for each strategy, the lowest for strategy 1
 unfoldable pub barsOf : District → ℕ → ℕ

@@ -8,7 +8,8 @@ use lib.ListN.{length, getD, take, drop}
 use Rattle.base.specs.Choice.{pick}
 use Rattle.base.specs.Bytes.{bytesOf, numberOf}
 use Rattle.rules.specs.District.{District, districtPlaces}
-use Rattle.rules.specs.Format.{fieldAt, present, slotOf, inside}
+use Rattle.rules.specs.Format.{fieldAt, present, slotOf, fileRecords, inside}
+use Rattle.rules.specs.Answers.{cutShort, otherKind, otherLength, outOfRange, bytesFollow}
 use Rattle.rules.specs.declared.Slot.{Slot}
 use Rattle.rules.specs.declared.Field.{Field}
 
@@ -30,25 +31,25 @@ widths (suc m) d s n = fieldAt d s n .width + widths m d s (n + 1)
 abbrev pub size : District → Slot → ℕ
 size d s = widths (s .places) d s 0
 
--- m numbers of the record s, from its n-th on, after the numbers vs; refusal 4: one is out of range
+-- m numbers of the record s, from its n-th on, after the numbers vs
 unfoldable pub readNumbers : ℕ → District → Slot → ℕ → List ℕ → List ℕ → Read
 readNumbers zero d s n vs bs = found vs bs
 readNumbers (suc m) d s n vs bs =
     let f = fieldAt d s n in
     let x = value f bs in
-    pick (inside f x) (readNumbers m d s (n + 1) (vs ++ x ∷ []) (drop (f .width) bs)) (refused 4)
+    pick (inside f x) (readNumbers m d s (n + 1) (vs ++ x ∷ []) (drop (f .width) bs)) (refused outOfRange)
 
--- the record s. Refusals in their order: 1, its first 4 bytes are cut short; 2, another kind; 3, another length; 1, its payload is cut short
+-- the record s: its length and kind, 2 bytes each, and its payload; the refusals stand in their order
 unfoldable pub readRecord : District → Slot → List ℕ → Read
 readRecord d s bs =
     pick (present d s)
-    (pick (ltb (length bs) 4) (refused 1)
+    (pick (ltb (length bs) 4) (refused cutShort)
     (pick (eqb (numberOf (take 2 (drop 2 bs))) (s .kind))
     (pick (eqb (numberOf (take 2 bs)) (size d s))
-    (pick (ltb (length bs - 4) (size d s)) (refused 1)
+    (pick (ltb (length bs - 4) (size d s)) (refused cutShort)
     (readNumbers (s .places) d s 0 [] (drop 4 bs)))
-    (refused 3))
-    (refused 2)))
+    (refused otherLength))
+    (refused otherKind)))
     (readNumbers (s .places) d s 0 [] bs)
 
 -- what follows a reading that is not refused
@@ -56,15 +57,15 @@ abbrev pub andThen : Read → (List ℕ → List ℕ → Read) → Read
 andThen (refused n) next = refused n
 andThen (found vs bs) next = next vs bs
 
--- m records, from the n-th of the file on, where d are the values before; refusal 5: something follows the last
+-- m records, from the n-th of the file on, where d are the values before
 unfoldable pub readRecords : ℕ → ℕ → District → List ℕ → Read
 readRecords zero n d [] = found d []
-readRecords zero n d (b ∷ bs) = refused 5
+readRecords zero n d (b ∷ bs) = refused bytesFollow
 readRecords (suc m) n d bs = andThen (readRecord d (slotOf n) bs) (λ vs rest. readRecords m (n + 1) (d ++ vs) rest)
 
 -- what the bytes of a file load as
 unfoldable pub decode : List ℕ → Read
-decode bs = readRecords 83 0 [] bs
+decode bs = readRecords fileRecords 0 [] bs
 
 -- ---- the file of a district
 
@@ -84,7 +85,11 @@ recordsBytes zero d n place = []
 recordsBytes (suc m) d n place = recordBytes d (slotOf n) place ++ recordsBytes m d (n + 1) (place + slotOf n .places)
 
 unfoldable pub encode : District → List ℕ
-encode d = recordsBytes 83 d 0 0
+encode d = recordsBytes fileRecords d 0 0
+
+-- of all districts (file/proofs/Longest.antt)
+abbrev pub longestFile : ℕ
+longestFile = 3_788
 
 -- ---- a district in the file's ranges
 
@@ -101,4 +106,4 @@ recordsInRange (suc m) d n vs =
 
 -- every number of the district is one that the file may hold
 unfoldable pub inRange : District → Bool
-inRange d = eqb (length d) districtPlaces && recordsInRange 83 d 0 d
+inRange d = eqb (length d) districtPlaces && recordsInRange fileRecords d 0 d

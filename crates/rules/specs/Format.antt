@@ -1,14 +1,14 @@
 -- Document 01, "The district and its file": the records in order, and how many bytes and what range each of their numbers has.
 -- A number that the district does not have takes no byte of the file, and its place in the district holds 0.
 -- A slot is a record of the file: its kind, how many numbers it may have, and which of its kind it is, from 0. A field is one of its numbers.
-use Prim.Native.Nat.{ℕ, _-_, _/_, _%_, _^_, min}
+use Prim.Native.Nat.{ℕ, _+_, _-_, _/_, _%_, _^_, min}
 use mathlib.Core.Bool.{Bool, true, _||_}
-use mathlib.Core.List.{[], _∷_}
+use mathlib.Core.List.{List, [], _∷_}
 use lib.Dec.{leb, ltb, eqb}
 use lib.ListN.{getD}
 use Rattle.base.specs.Choice.{pick}
 use Rattle.base.specs.Over.{between}
-use Rattle.rules.specs.District.{District, segmentsOf, strategiesOf, yearsOf, distressesOf, pavementsOf, resourcesOf, greatestOf}
+use Rattle.rules.specs.District.{District, mostSegments, mostStrategies, mostYears, mostDistresses, mostPavements, mostResources, countPlaces, gainsAt, percentsAt, perStrategy, minimaAt, perPavement, lengthAt, widthAt, barsAt, ratingsAt, perSegment, segmentsOf, strategiesOf, yearsOf, distressesOf, pavementsOf, resourcesOf, greatestOf}
 use Rattle.rules.specs.declared.Field.{Field}
 use Rattle.rules.specs.declared.Slot.{Slot}
 
@@ -32,16 +32,35 @@ inside f x = ranged (f .lo) (f .hi) x
 abbrev pub slot : ℕ → ℕ → ℕ → Slot
 slot kind places nth = record { kind = kind; places = places; nth = nth }
 
--- 83 records: kinds 1, 2 and 3, then 11 of kind 4, 4 of kind 5, 64 of kind 6, and kind 7
+-- records are counted from 0: kinds 1, 2 and 3, then those of kind 4, of kind 5 and of kind 6, and kind 7
+abbrev pub firstStrategyRecord : ℕ
+firstStrategyRecord = 3
+
+abbrev pub firstPavementRecord : ℕ
+firstPavementRecord = firstStrategyRecord + mostStrategies
+
+abbrev pub firstSegmentRecord : ℕ
+firstSegmentRecord = firstPavementRecord + mostPavements
+
+abbrev pub lastRecord : ℕ
+lastRecord = firstSegmentRecord + mostSegments
+
+abbrev pub fileRecords : ℕ
+fileRecords = lastRecord + 1
+
 abbrev pub slotOf : ℕ → Slot
 slotOf n =
-    pick (eqb n 0) (slot 1 6 0)
-    (pick (eqb n 1) (slot 2 16 0)
-    (pick (eqb n 2) (slot 3 9 0)
-    (pick (ltb n 14) (slot 4 115 (n - 3))
-    (pick (ltb n 18) (slot 5 91 (n - 14))
-    (pick (ltb n 82) (slot 6 15 (n - 18))
+    pick (eqb n 0) (slot 1 countPlaces 0)
+    (pick (eqb n 1) (slot 2 mostResources 0)
+    (pick (eqb n 2) (slot 3 mostDistresses 0)
+    (pick (ltb n firstPavementRecord) (slot 4 perStrategy (n - firstStrategyRecord))
+    (pick (ltb n firstSegmentRecord) (slot 5 perPavement (n - firstPavementRecord))
+    (pick (ltb n lastRecord) (slot 6 perSegment (n - firstSegmentRecord))
     (slot 7 0 0))))))
+
+-- no record has more places than a strategy
+abbrev pub mostPlaces : ℕ
+mostPlaces = perStrategy
 
 -- kind 4 stands S times, kind 5 Y times, kind 6 N times, each other once
 abbrev pub present : District → Slot → Bool
@@ -54,8 +73,14 @@ present d s =
 -- ---- the numbers of each kind; n counts a record's places from 0
 
 -- kind 1: the six counts, N, S, T, D, Y and R
+abbrev pub leastCounts : List ℕ
+leastCounts = 0 ∷ 1 ∷ 1 ∷ 1 ∷ 1 ∷ 1 ∷ []
+
+abbrev pub mostCounts : List ℕ
+mostCounts = mostSegments ∷ mostStrategies ∷ mostYears ∷ mostDistresses ∷ mostPavements ∷ mostResources ∷ []
+
 abbrev pub countField : ℕ → Field
-countField n = number 1 (getD (0 ∷ 1 ∷ 1 ∷ 1 ∷ 1 ∷ 1 ∷ []) n 0) (getD (64 ∷ 11 ∷ 10 ∷ 9 ∷ 4 ∷ 16 ∷ []) n 0)
+countField n = number 1 (getD leastCounts n 0) (getD mostCounts n 0)
 
 -- kind 2: a limit for each resource
 abbrev pub limitField : District → ℕ → Field
@@ -65,30 +90,30 @@ limitField d n = pick (ltb n (resourcesOf d)) (number 4 0 999_999_999) absent
 abbrev pub greatestField : District → ℕ → Field
 greatestField d n = pick (ltb n (distressesOf d)) (number 1 1 50) absent
 
--- a row for each distress type with a byte for each year, at places for 9 rows of 10
+-- a row for each distress type with a byte for each year; each row has places for the most years
 abbrev pub rowsField : District → ℕ → ℕ → Field
-rowsField d most n = pick (ltb (n / 10) (distressesOf d)) (pick (ltb (n % 10) (yearsOf d)) (number 1 0 most) absent) absent
+rowsField d most n = pick (ltb (n / mostYears) (distressesOf d)) (pick (ltb (n % mostYears) (yearsOf d)) (number 1 0 most) absent) absent
 
 -- kind 4: a requirement for each resource, a gain for each distress type (byte 206 is −50), rows of percents
 abbrev pub strategyField : District → ℕ → Field
 strategyField d n =
-    pick (ltb n 16) (pick (ltb n (resourcesOf d)) (number 4 0 999_999) absent)
-    (pick (ltb n 25) (pick (ltb (n - 16) (distressesOf d)) (number 1 206 50) absent)
-    (rowsField d 100 (n - 25)))
+    pick (ltb n gainsAt) (pick (ltb n (resourcesOf d)) (number 4 0 999_999) absent)
+    (pick (ltb n percentsAt) (pick (ltb (n - gainsAt) (distressesOf d)) (number 1 206 50) absent)
+    (rowsField d 100 (n - percentsAt)))
 
 -- kind 5: the overall requirement, rows of minimum ratings
 abbrev pub pavementField : District → ℕ → Field
-pavementField d n = pick (eqb n 0) (number 2 0 450) (rowsField d 50 (n - 1))
+pavementField d n = pick (eqb n 0) (number 2 0 450) (rowsField d 50 (n - minimaAt))
 
 -- kind 6: pavement type, the two indexes, length, width, a mask of bars with no bit past S of its 16, a rating for each distress type
 abbrev pub segmentField : District → ℕ → Field
 segmentField d n =
     pick (eqb n 0) (number 1 1 (pavementsOf d))
-    (pick (ltb n 3) (number 2 100 1_000)
-    (pick (eqb n 3) (number 2 1 9_999)
-    (pick (eqb n 4) (number 1 1 200)
-    (pick (eqb n 5) (number 2 0 (2 ^ min (strategiesOf d) 16 - 1))
-    (pick (ltb (n - 6) (distressesOf d)) (number 1 0 (greatestOf d (n - 5))) absent)))))
+    (pick (ltb n lengthAt) (number 2 100 1_000)
+    (pick (eqb n lengthAt) (number 2 1 9_999)
+    (pick (eqb n widthAt) (number 1 1 200)
+    (pick (eqb n barsAt) (number 2 0 (2 ^ min (strategiesOf d) 16 - 1))
+    (pick (ltb (n - ratingsAt) (distressesOf d)) (number 1 0 (greatestOf d (n - (ratingsAt - 1)))) absent)))))
 
 abbrev pub kindField : District → ℕ → ℕ → Field
 kindField d kind n =

@@ -1,166 +1,263 @@
 -- Further districts, worked out by an independent program (reference/) and computed from these rules.
 -- Two of the plausible mistakes pass M1 to M9: the effect divided term by term (each effect there has one term or divides evenly), and the
 -- smallest benefit dropped instead of the smallest ratio. And the marked cases have no pick-up, no change, no requirement that a strategy
--- misses, no second distress type and no second limit that does not hold. These districts have them.
-use Prim.Native.Nat.{ℕ}
-use mathlib.Core.Path.{_≡_, refl}
-use mathlib.Core.List.{List, [], _∷_, map}
-use lib.IntN.{ℤ, pos}
-use Rattle.rules.specs.Lists.{Load, SetRating}
-use Rattle.rules.specs.Results.{Case, shown, effects, resultOf}
+-- misses, no second distress type and no second limit that does not hold. These districts have them. The last four tell apart readings that
+-- come to the same everywhere else: how a ratio is rounded, what a surplus is taken from, how single changes are ordered, when a price stays.
+use mathlib.Core.Path.{refl}
+use mathlib.Core.List.{List, [], _∷_}
+use lib.IntN.{pos}
+use Rattle.rules.specs.Lists.{Load, Alter}
+use Rattle.rules.specs.declared.Edit.the-variants.{SetRating}
+use Rattle.rules.specs.Writer.{Roads, minus, strategy, nothingDemanded, segment, barring, fileOf}
+use Rattle.rules.specs.Results.{shown, initialRating, effects, planned, shows, resultOf, WorkedCase, _⇒_, Agree}
 use Rattle.rules.specs.Marked.{card, oneSegment}
 
-unfoldable pub fourSegments : List ℕ
+-- steps, a pick-up and changes, with a strategy barred
+abbrev pub fourSegments : Roads
 fourSegments =
-    6 ∷ 0 ∷ 1 ∷ 0 ∷ 4 ∷ 2 ∷ 1 ∷ 1 ∷ 1 ∷ 1
-    ∷ 4 ∷ 0 ∷ 2 ∷ 0 ∷ 234 ∷ 2 ∷ 0 ∷ 0
-    ∷ 1 ∷ 0 ∷ 3 ∷ 0 ∷ 20
-    ∷ 6 ∷ 0 ∷ 4 ∷ 0 ∷ 52 ∷ 2 ∷ 0 ∷ 0 ∷ 12 ∷ 54
-    ∷ 6 ∷ 0 ∷ 4 ∷ 0 ∷ 137 ∷ 3 ∷ 0 ∷ 0 ∷ 20 ∷ 98
-    ∷ 3 ∷ 0 ∷ 5 ∷ 0 ∷ 1 ∷ 0 ∷ 0
-    ∷ 11 ∷ 0 ∷ 6 ∷ 0 ∷ 1 ∷ 100 ∷ 0 ∷ 125 ∷ 0 ∷ 234 ∷ 1 ∷ 42 ∷ 0 ∷ 0 ∷ 1
-    ∷ 11 ∷ 0 ∷ 6 ∷ 0 ∷ 1 ∷ 129 ∷ 0 ∷ 129 ∷ 0 ∷ 101 ∷ 2 ∷ 5 ∷ 0 ∷ 0 ∷ 19
-    ∷ 11 ∷ 0 ∷ 6 ∷ 0 ∷ 1 ∷ 32 ∷ 1 ∷ 105 ∷ 0 ∷ 191 ∷ 17 ∷ 167 ∷ 2 ∷ 0 ∷ 10
-    ∷ 11 ∷ 0 ∷ 6 ∷ 0 ∷ 1 ∷ 100 ∷ 0 ∷ 111 ∷ 0 ∷ 157 ∷ 5 ∷ 73 ∷ 0 ∷ 0 ∷ 0
-    ∷ 0 ∷ 0 ∷ 7 ∷ 0
-    ∷ []
+    record {
+      years = 1;
+      limits = 746 ∷ [];
+      greatest = 20 ∷ [];
+      strategies =
+          strategy (564 ∷ []) (pos 12) 54
+          ∷ strategy (905 ∷ []) (pos 20) 98
+          ∷ [];
+      pavements = record { overall = 1; minima = [] } ∷ [];
+      segments =
+          record { pavement = 1; traffic = 100; environment = 125; length = 490; width = 42; barred = []; ratings = 1 ∷ [] }
+          ∷ record { pavement = 1; traffic = 129; environment = 129; length = 613; width = 5; barred = []; ratings = 19 ∷ [] }
+          ∷ record { pavement = 1; traffic = 288; environment = 105; length = 4543; width = 167; barred = 2 ∷ []; ratings = 10 ∷ [] }
+          ∷ record { pavement = 1; traffic = 100; environment = 111; length = 1437; width = 73; barred = []; ratings = [] }
+          ∷ [];
+    }
 
 -- with equal benefits and ratios
-unfoldable pub tiedSegments : List ℕ
+abbrev pub tiedSegments : Roads
 tiedSegments =
-    6 ∷ 0 ∷ 1 ∷ 0 ∷ 4 ∷ 3 ∷ 1 ∷ 1 ∷ 1 ∷ 2
-    ∷ 8 ∷ 0 ∷ 2 ∷ 0 ∷ 148 ∷ 0 ∷ 0 ∷ 0 ∷ 251 ∷ 0 ∷ 0 ∷ 0
-    ∷ 1 ∷ 0 ∷ 3 ∷ 0 ∷ 50
-    ∷ 10 ∷ 0 ∷ 4 ∷ 0 ∷ 184 ∷ 11 ∷ 0 ∷ 0 ∷ 208 ∷ 7 ∷ 0 ∷ 0 ∷ 10 ∷ 16
-    ∷ 10 ∷ 0 ∷ 4 ∷ 0 ∷ 232 ∷ 3 ∷ 0 ∷ 0 ∷ 232 ∷ 3 ∷ 0 ∷ 0 ∷ 10 ∷ 16
-    ∷ 10 ∷ 0 ∷ 4 ∷ 0 ∷ 208 ∷ 7 ∷ 0 ∷ 0 ∷ 184 ∷ 11 ∷ 0 ∷ 0 ∷ 10 ∷ 75
-    ∷ 3 ∷ 0 ∷ 5 ∷ 0 ∷ 0 ∷ 0 ∷ 0
-    ∷ 11 ∷ 0 ∷ 6 ∷ 0 ∷ 1 ∷ 100 ∷ 0 ∷ 100 ∷ 0 ∷ 100 ∷ 0 ∷ 20 ∷ 0 ∷ 0 ∷ 25
-    ∷ 11 ∷ 0 ∷ 6 ∷ 0 ∷ 1 ∷ 100 ∷ 0 ∷ 100 ∷ 0 ∷ 200 ∷ 0 ∷ 20 ∷ 0 ∷ 0 ∷ 25
-    ∷ 11 ∷ 0 ∷ 6 ∷ 0 ∷ 1 ∷ 100 ∷ 0 ∷ 100 ∷ 0 ∷ 100 ∷ 0 ∷ 20 ∷ 0 ∷ 0 ∷ 25
-    ∷ 11 ∷ 0 ∷ 6 ∷ 0 ∷ 1 ∷ 100 ∷ 0 ∷ 100 ∷ 0 ∷ 200 ∷ 0 ∷ 20 ∷ 0 ∷ 0 ∷ 25
-    ∷ 0 ∷ 0 ∷ 7 ∷ 0
-    ∷ []
+    record {
+      years = 1;
+      limits = 148 ∷ 251 ∷ [];
+      greatest = 50 ∷ [];
+      strategies =
+          strategy (3000 ∷ 2000 ∷ []) (pos 10) 16
+          ∷ strategy (1000 ∷ 1000 ∷ []) (pos 10) 16
+          ∷ strategy (2000 ∷ 3000 ∷ []) (pos 10) 75
+          ∷ [];
+      pavements = nothingDemanded ∷ [];
+      segments =
+          segment 100 20 (25 ∷ [])
+          ∷ segment 200 20 (25 ∷ [])
+          ∷ segment 100 20 (25 ∷ [])
+          ∷ segment 200 20 (25 ∷ [])
+          ∷ [];
+    }
 
 -- with two limits that the best candidates exceed
-unfoldable pub twoLimits : List ℕ
+abbrev pub twoLimits : Roads
 twoLimits =
-    6 ∷ 0 ∷ 1 ∷ 0 ∷ 3 ∷ 1 ∷ 1 ∷ 1 ∷ 1 ∷ 2
-    ∷ 8 ∷ 0 ∷ 2 ∷ 0 ∷ 120 ∷ 0 ∷ 0 ∷ 0 ∷ 78 ∷ 0 ∷ 0 ∷ 0
-    ∷ 1 ∷ 0 ∷ 3 ∷ 0 ∷ 20
-    ∷ 10 ∷ 0 ∷ 4 ∷ 0 ∷ 99 ∷ 4 ∷ 0 ∷ 0 ∷ 126 ∷ 2 ∷ 0 ∷ 0 ∷ 4 ∷ 40
-    ∷ 3 ∷ 0 ∷ 5 ∷ 0 ∷ 0 ∷ 0 ∷ 0
-    ∷ 11 ∷ 0 ∷ 6 ∷ 0 ∷ 1 ∷ 100 ∷ 0 ∷ 100 ∷ 0 ∷ 44 ∷ 1 ∷ 20 ∷ 0 ∷ 0 ∷ 1
-    ∷ 11 ∷ 0 ∷ 6 ∷ 0 ∷ 1 ∷ 100 ∷ 0 ∷ 100 ∷ 0 ∷ 100 ∷ 0 ∷ 20 ∷ 0 ∷ 0 ∷ 1
-    ∷ 11 ∷ 0 ∷ 6 ∷ 0 ∷ 1 ∷ 100 ∷ 0 ∷ 100 ∷ 0 ∷ 44 ∷ 1 ∷ 30 ∷ 0 ∷ 0 ∷ 10
-    ∷ 0 ∷ 0 ∷ 7 ∷ 0
-    ∷ []
+    record {
+      years = 1;
+      limits = 120 ∷ 78 ∷ [];
+      greatest = 20 ∷ [];
+      strategies = strategy (1123 ∷ 638 ∷ []) (pos 4) 40 ∷ [];
+      pavements = nothingDemanded ∷ [];
+      segments =
+          segment 300 20 (1 ∷ [])
+          ∷ segment 100 20 (1 ∷ [])
+          ∷ segment 300 30 (10 ∷ [])
+          ∷ [];
+    }
 
 -- minimum ratings that some segments miss, in some year, for some distress type
-unfoldable pub minimaFile : List ℕ
-minimaFile =
-    6 ∷ 0 ∷ 1 ∷ 0 ∷ 4 ∷ 1 ∷ 2 ∷ 2 ∷ 1 ∷ 2
-    ∷ 8 ∷ 0 ∷ 2 ∷ 0 ∷ 19 ∷ 1 ∷ 0 ∷ 0 ∷ 184 ∷ 0 ∷ 0 ∷ 0
-    ∷ 2 ∷ 0 ∷ 3 ∷ 0 ∷ 30 ∷ 20
-    ∷ 14 ∷ 0 ∷ 4 ∷ 0 ∷ 208 ∷ 7 ∷ 0 ∷ 0 ∷ 220 ∷ 5 ∷ 0 ∷ 0 ∷ 20 ∷ 5 ∷ 88 ∷ 50 ∷ 90 ∷ 90
-    ∷ 6 ∷ 0 ∷ 5 ∷ 0 ∷ 7 ∷ 0 ∷ 0 ∷ 13 ∷ 0 ∷ 5
-    ∷ 12 ∷ 0 ∷ 6 ∷ 0 ∷ 1 ∷ 196 ∷ 0 ∷ 100 ∷ 0 ∷ 44 ∷ 1 ∷ 30 ∷ 0 ∷ 0 ∷ 6 ∷ 7
-    ∷ 12 ∷ 0 ∷ 6 ∷ 0 ∷ 1 ∷ 100 ∷ 0 ∷ 130 ∷ 0 ∷ 226 ∷ 1 ∷ 10 ∷ 0 ∷ 0 ∷ 11 ∷ 4
-    ∷ 12 ∷ 0 ∷ 6 ∷ 0 ∷ 1 ∷ 100 ∷ 0 ∷ 100 ∷ 0 ∷ 135 ∷ 1 ∷ 30 ∷ 0 ∷ 0 ∷ 5 ∷ 20
-    ∷ 12 ∷ 0 ∷ 6 ∷ 0 ∷ 1 ∷ 100 ∷ 0 ∷ 100 ∷ 0 ∷ 1 ∷ 1 ∷ 30 ∷ 0 ∷ 0 ∷ 13 ∷ 16
-    ∷ 0 ∷ 0 ∷ 7 ∷ 0
-    ∷ []
+abbrev pub minima : Roads
+minima =
+    record {
+      years = 2;
+      limits = 275 ∷ 184 ∷ [];
+      greatest = 30 ∷ 20 ∷ [];
+      strategies =
+          record { requirements = 2000 ∷ 1500 ∷ []; gains = pos 20 ∷ pos 5 ∷ []; percents = (88 ∷ 50 ∷ []) ∷ (90 ∷ 90 ∷ []) ∷ [] }
+          ∷ [];
+      pavements = record { overall = 7; minima = (0 ∷ 13 ∷ []) ∷ (0 ∷ 5 ∷ []) ∷ [] } ∷ [];
+      segments =
+          record { pavement = 1; traffic = 196; environment = 100; length = 300; width = 30; barred = []; ratings = 6 ∷ 7 ∷ [] }
+          ∷ record { pavement = 1; traffic = 100; environment = 130; length = 482; width = 10; barred = []; ratings = 11 ∷ 4 ∷ [] }
+          ∷ segment 391 30 (5 ∷ 20 ∷ [])
+          ∷ segment 257 30 (13 ∷ 16 ∷ [])
+          ∷ [];
+    }
 
 -- overall requirements of two pavement types
-unfoldable pub overallFile : List ℕ
-overallFile =
-    6 ∷ 0 ∷ 1 ∷ 0 ∷ 2 ∷ 2 ∷ 2 ∷ 1 ∷ 2 ∷ 2
-    ∷ 8 ∷ 0 ∷ 2 ∷ 0 ∷ 98 ∷ 2 ∷ 0 ∷ 0 ∷ 78 ∷ 2 ∷ 0 ∷ 0
-    ∷ 1 ∷ 0 ∷ 3 ∷ 0 ∷ 20
-    ∷ 11 ∷ 0 ∷ 4 ∷ 0 ∷ 0 ∷ 0 ∷ 0 ∷ 0 ∷ 244 ∷ 1 ∷ 0 ∷ 0 ∷ 20 ∷ 100 ∷ 50
-    ∷ 11 ∷ 0 ∷ 4 ∷ 0 ∷ 220 ∷ 5 ∷ 0 ∷ 0 ∷ 208 ∷ 7 ∷ 0 ∷ 0 ∷ 15 ∷ 0 ∷ 100
-    ∷ 4 ∷ 0 ∷ 5 ∷ 0 ∷ 25 ∷ 0 ∷ 0 ∷ 0
-    ∷ 4 ∷ 0 ∷ 5 ∷ 0 ∷ 12 ∷ 0 ∷ 0 ∷ 6
-    ∷ 11 ∷ 0 ∷ 6 ∷ 0 ∷ 1 ∷ 100 ∷ 0 ∷ 138 ∷ 0 ∷ 44 ∷ 1 ∷ 20 ∷ 0 ∷ 0 ∷ 18
-    ∷ 11 ∷ 0 ∷ 6 ∷ 0 ∷ 2 ∷ 100 ∷ 0 ∷ 100 ∷ 0 ∷ 100 ∷ 0 ∷ 20 ∷ 0 ∷ 0 ∷ 1
-    ∷ 0 ∷ 0 ∷ 7 ∷ 0
-    ∷ []
+abbrev pub overall : Roads
+overall =
+    record {
+      years = 2;
+      limits = 610 ∷ 590 ∷ [];
+      greatest = 20 ∷ [];
+      strategies =
+          record { requirements = 0 ∷ 500 ∷ []; gains = pos 20 ∷ []; percents = (100 ∷ 50 ∷ []) ∷ [] }
+          ∷ record { requirements = 1500 ∷ 2000 ∷ []; gains = pos 15 ∷ []; percents = (0 ∷ 100 ∷ []) ∷ [] }
+          ∷ [];
+      pavements =
+          record { overall = 25; minima = [] }
+          ∷ record { overall = 12; minima = (0 ∷ 6 ∷ []) ∷ [] }
+          ∷ [];
+      segments =
+          record { pavement = 1; traffic = 100; environment = 138; length = 300; width = 20; barred = []; ratings = 18 ∷ [] }
+          ∷ record { pavement = 2; traffic = 100; environment = 100; length = 100; width = 20; barred = []; ratings = 1 ∷ [] }
+          ∷ [];
+    }
 
 -- two limits with different surpluses
-unfoldable pub pullsFile : List ℕ
-pullsFile =
-    6 ∷ 0 ∷ 1 ∷ 0 ∷ 2 ∷ 3 ∷ 2 ∷ 1 ∷ 1 ∷ 2
-    ∷ 8 ∷ 0 ∷ 2 ∷ 0 ∷ 31 ∷ 0 ∷ 0 ∷ 0 ∷ 38 ∷ 0 ∷ 0 ∷ 0
-    ∷ 1 ∷ 0 ∷ 3 ∷ 0 ∷ 10
-    ∷ 11 ∷ 0 ∷ 4 ∷ 0 ∷ 143 ∷ 5 ∷ 0 ∷ 0 ∷ 0 ∷ 0 ∷ 0 ∷ 0 ∷ 5 ∷ 50 ∷ 90
-    ∷ 11 ∷ 0 ∷ 4 ∷ 0 ∷ 244 ∷ 1 ∷ 0 ∷ 0 ∷ 208 ∷ 7 ∷ 0 ∷ 0 ∷ 5 ∷ 50 ∷ 90
-    ∷ 11 ∷ 0 ∷ 4 ∷ 0 ∷ 232 ∷ 3 ∷ 0 ∷ 0 ∷ 0 ∷ 0 ∷ 0 ∷ 0 ∷ 10 ∷ 100 ∷ 73
-    ∷ 4 ∷ 0 ∷ 5 ∷ 0 ∷ 0 ∷ 0 ∷ 0 ∷ 0
-    ∷ 11 ∷ 0 ∷ 6 ∷ 0 ∷ 1 ∷ 100 ∷ 0 ∷ 100 ∷ 0 ∷ 100 ∷ 0 ∷ 30 ∷ 0 ∷ 0 ∷ 5
-    ∷ 11 ∷ 0 ∷ 6 ∷ 0 ∷ 1 ∷ 106 ∷ 0 ∷ 100 ∷ 0 ∷ 100 ∷ 0 ∷ 10 ∷ 0 ∷ 0 ∷ 5
-    ∷ 0 ∷ 0 ∷ 7 ∷ 0
-    ∷ []
+abbrev pub surpluses : Roads
+surpluses =
+    record {
+      years = 2;
+      limits = 31 ∷ 38 ∷ [];
+      greatest = 10 ∷ [];
+      strategies =
+          record { requirements = 1423 ∷ 0 ∷ []; gains = pos 5 ∷ []; percents = (50 ∷ 90 ∷ []) ∷ [] }
+          ∷ record { requirements = 500 ∷ 2000 ∷ []; gains = pos 5 ∷ []; percents = (50 ∷ 90 ∷ []) ∷ [] }
+          ∷ record { requirements = 1000 ∷ 0 ∷ []; gains = pos 10 ∷ []; percents = (100 ∷ 73 ∷ []) ∷ [] }
+          ∷ [];
+      pavements = nothingDemanded ∷ [];
+      segments =
+          segment 100 30 (5 ∷ [])
+          ∷ record { pavement = 1; traffic = 106; environment = 100; length = 100; width = 10; barred = []; ratings = 5 ∷ [] }
+          ∷ [];
+    }
 
 -- a rating that reaches its minimum exactly
-unfoldable pub exactFile : List ℕ
-exactFile =
-    6 ∷ 0 ∷ 1 ∷ 0 ∷ 3 ∷ 2 ∷ 2 ∷ 2 ∷ 1 ∷ 1
-    ∷ 4 ∷ 0 ∷ 2 ∷ 0 ∷ 105 ∷ 0 ∷ 0 ∷ 0
-    ∷ 2 ∷ 0 ∷ 3 ∷ 0 ∷ 30 ∷ 30
-    ∷ 10 ∷ 0 ∷ 4 ∷ 0 ∷ 232 ∷ 3 ∷ 0 ∷ 0 ∷ 20 ∷ 5 ∷ 100 ∷ 90 ∷ 100 ∷ 100
-    ∷ 10 ∷ 0 ∷ 4 ∷ 0 ∷ 220 ∷ 5 ∷ 0 ∷ 0 ∷ 249 ∷ 15 ∷ 100 ∷ 90 ∷ 100 ∷ 100
-    ∷ 6 ∷ 0 ∷ 5 ∷ 0 ∷ 0 ∷ 0 ∷ 0 ∷ 4 ∷ 19 ∷ 0
-    ∷ 12 ∷ 0 ∷ 6 ∷ 0 ∷ 1 ∷ 100 ∷ 0 ∷ 115 ∷ 0 ∷ 200 ∷ 0 ∷ 30 ∷ 0 ∷ 0 ∷ 5 ∷ 18
-    ∷ 12 ∷ 0 ∷ 6 ∷ 0 ∷ 1 ∷ 100 ∷ 0 ∷ 138 ∷ 0 ∷ 200 ∷ 0 ∷ 30 ∷ 0 ∷ 0 ∷ 1 ∷ 9
-    ∷ 12 ∷ 0 ∷ 6 ∷ 0 ∷ 1 ∷ 100 ∷ 0 ∷ 100 ∷ 0 ∷ 44 ∷ 1 ∷ 30 ∷ 0 ∷ 0 ∷ 16 ∷ 14
-    ∷ 0 ∷ 0 ∷ 7 ∷ 0
-    ∷ []
+abbrev pub exactMinimum : Roads
+exactMinimum =
+    record {
+      years = 2;
+      limits = 105 ∷ [];
+      greatest = 30 ∷ 30 ∷ [];
+      strategies =
+          record { requirements = 1000 ∷ []; gains = pos 20 ∷ pos 5 ∷ []; percents = (100 ∷ 90 ∷ []) ∷ (100 ∷ 100 ∷ []) ∷ [] }
+          ∷ record { requirements = 1500 ∷ []; gains = minus 7 ∷ pos 15 ∷ []; percents = (100 ∷ 90 ∷ []) ∷ (100 ∷ 100 ∷ []) ∷ [] }
+          ∷ [];
+      pavements = record { overall = 0; minima = (0 ∷ 4 ∷ []) ∷ (19 ∷ 0 ∷ []) ∷ [] } ∷ [];
+      segments =
+          record { pavement = 1; traffic = 100; environment = 115; length = 200; width = 30; barred = []; ratings = 5 ∷ 18 ∷ [] }
+          ∷ record { pavement = 1; traffic = 100; environment = 138; length = 200; width = 30; barred = []; ratings = 1 ∷ 9 ∷ [] }
+          ∷ segment 300 30 (16 ∷ 14 ∷ [])
+          ∷ [];
+    }
 
 -- two pick-ups
-unfoldable pub twicePicked : List ℕ
+abbrev pub twicePicked : Roads
 twicePicked =
-    6 ∷ 0 ∷ 1 ∷ 0 ∷ 4 ∷ 1 ∷ 1 ∷ 1 ∷ 1 ∷ 1
-    ∷ 4 ∷ 0 ∷ 2 ∷ 0 ∷ 60 ∷ 0 ∷ 0 ∷ 0
-    ∷ 1 ∷ 0 ∷ 3 ∷ 0 ∷ 50
-    ∷ 6 ∷ 0 ∷ 4 ∷ 0 ∷ 232 ∷ 3 ∷ 0 ∷ 0 ∷ 35 ∷ 100
-    ∷ 3 ∷ 0 ∷ 5 ∷ 0 ∷ 0 ∷ 0 ∷ 0
-    ∷ 11 ∷ 0 ∷ 6 ∷ 0 ∷ 1 ∷ 100 ∷ 0 ∷ 100 ∷ 0 ∷ 200 ∷ 0 ∷ 20 ∷ 0 ∷ 0 ∷ 0
-    ∷ 11 ∷ 0 ∷ 6 ∷ 0 ∷ 1 ∷ 100 ∷ 0 ∷ 100 ∷ 0 ∷ 100 ∷ 0 ∷ 10 ∷ 0 ∷ 0 ∷ 3
-    ∷ 11 ∷ 0 ∷ 6 ∷ 0 ∷ 1 ∷ 100 ∷ 0 ∷ 100 ∷ 0 ∷ 200 ∷ 0 ∷ 20 ∷ 0 ∷ 0 ∷ 0
-    ∷ 11 ∷ 0 ∷ 6 ∷ 0 ∷ 1 ∷ 100 ∷ 0 ∷ 100 ∷ 0 ∷ 100 ∷ 0 ∷ 10 ∷ 0 ∷ 0 ∷ 0
-    ∷ 0 ∷ 0 ∷ 7 ∷ 0
-    ∷ []
+    record {
+      years = 1;
+      limits = 60 ∷ [];
+      greatest = 50 ∷ [];
+      strategies = strategy (1000 ∷ []) (pos 35) 100 ∷ [];
+      pavements = nothingDemanded ∷ [];
+      segments =
+          segment 200 20 []
+          ∷ segment 100 10 (3 ∷ [])
+          ∷ segment 200 20 []
+          ∷ segment 100 10 []
+          ∷ [];
+    }
 
-unfoldable pub furtherCases : List Case
+-- ratios of 3.6 and 3, rounded down: a tie
+abbrev pub roundedRatios : Roads
+roundedRatios =
+    record {
+      years = 1;
+      limits = 1 ∷ [];
+      greatest = 50 ∷ [];
+      strategies =
+          strategy (60000 ∷ []) (pos 1) 65
+          ∷ strategy (70000 ∷ []) (pos 1) 63
+          ∷ [];
+      pavements = nothingDemanded ∷ [];
+      segments =
+          barring (2 ∷ []) (segment 1 1 [])
+          ∷ barring (1 ∷ []) (segment 1 1 [])
+          ∷ [];
+    }
+
+-- a surplus of shares that are rounded up one by one: that of the exact use leads to another programme
+abbrev pub roundedShares : Roads
+roundedShares =
+    record {
+      years = 1;
+      limits = 6 ∷ [];
+      greatest = 50 ∷ [];
+      strategies = strategy (73000 ∷ []) (pos 18) 100 ∷ [];
+      pavements = nothingDemanded ∷ [];
+      segments =
+          segment 3 1 []
+          ∷ segment 7 1 []
+          ∷ segment 2 1 []
+          ∷ [];
+    }
+
+-- single changes by segment, and only then by strategy: the other order leads to another programme
+abbrev pub singleChanges : Roads
+singleChanges =
+    record {
+      years = 1;
+      limits = 5 ∷ [];
+      greatest = 50 ∷ [];
+      strategies =
+          strategy (40000 ∷ []) (pos 13) 100
+          ∷ strategy (100000 ∷ []) (pos 27) 100
+          ∷ strategy (70000 ∷ []) (pos 19) 100
+          ∷ [];
+      pavements = nothingDemanded ∷ [];
+      segments =
+          barring (2 ∷ []) (segment 9 1 [])
+          ∷ segment 5 1 []
+          ∷ segment 3 1 []
+          ∷ [];
+    }
+
+-- a price stays where a lower one gives an equal ceiling
+abbrev pub equalCeilings : Roads
+equalCeilings =
+    record {
+      years = 1;
+      limits = 9 ∷ 6 ∷ [];
+      greatest = 50 ∷ [];
+      strategies =
+          strategy (0 ∷ 200000 ∷ []) (pos 20) 100
+          ∷ strategy (100000 ∷ 50000 ∷ []) (pos 30) 100
+          ∷ [];
+      pavements = nothingDemanded ∷ [];
+      segments =
+          segment 9 1 []
+          ∷ segment 2 1 []
+          ∷ [];
+    }
+
+abbrev pub furtherCases : List WorkedCase
 furtherCases =
     -- M9 with a second year
-    effects (Load (oneSegment 101 1 (90 ∷ 90 ∷ [])) ∷ [])
+    effects (Load (fileOf (oneSegment 101 (pos 1) (90 ∷ 90 ∷ []))) ∷ []) ⇒ (pos 179 ∷ [])
+    -- rating 5 and gain 15 in year 0, whatever the indexes and percents
+    ∷ initialRating (Load (fileOf (oneSegment 1_000 (pos 15) (0 ∷ []))) ∷ []) ⇒ (pos 20_000_000 ∷ [])
     -- segment 2 has the greater benefit and the smaller ratio
-    ∷ shown (Load card ∷ SetRating 2 1 9 ∷ [])
-    ∷ shown (Load fourSegments ∷ [])
-    ∷ shown (Load tiedSegments ∷ [])
-    ∷ shown (Load twoLimits ∷ [])
-    ∷ shown (Load minimaFile ∷ [])
-    ∷ shown (Load overallFile ∷ [])
-    ∷ shown (Load pullsFile ∷ [])
-    ∷ shown (Load exactFile ∷ [])
-    ∷ shown (Load twicePicked ∷ [])
+    ∷ shown (Load card ∷ Alter (SetRating 2 1 9) ∷ []) ⇒ shows (2 ∷ 1 ∷ []) 7_200_000 7_200_000 8_940_986 1 0 0
+    ∷ planned fourSegments ⇒ shows (1 ∷ 2 ∷ 0 ∷ 1 ∷ []) 72_366_927 38_408_400 96_383_157 3 1 2
+    ∷ planned tiedSegments ⇒ shows (3 ∷ 0 ∷ 2 ∷ 3 ∷ []) 4_820_000 3_960_000 5_551_230 8 1 2
+    ∷ planned twoLimits ⇒ shows (1 ∷ 1 ∷ 0 ∷ []) 1_280_000 1_280_000 1_710_059 2 1 0
+    ∷ planned minima ⇒ shows (0 ∷ 0 ∷ 1 ∷ 0 ∷ []) 32_374_800 15_125_160 41_838_146 2 0 1
+    ∷ planned overall ⇒ shows (0 ∷ 1 ∷ []) 5_700_000 5_700_000 5_700_000 0 0 0
+    ∷ planned surpluses ⇒ shows (3 ∷ 0 ∷ []) 2_595_000 682_000 2_931_548 3 0 2
+    ∷ planned exactMinimum ⇒ shows (0 ∷ 0 ∷ 1 ∷ []) 32_940_000 28_620_000 45_092_745 1 0 1
+    ∷ planned twicePicked ⇒ shows (0 ∷ 1 ∷ 1 ∷ 1 ∷ []) 21_000_000 21_000_000 21_005_600 3 2 0
+    ∷ planned roundedRatios ⇒ shows (1 ∷ 0 ∷ []) 65 63 128 1 0 1
+    ∷ planned roundedShares ⇒ shows (1 ∷ 0 ∷ 1 ∷ []) 9_000 9_000 17_001 2 1 0
+    ∷ planned singleChanges ⇒ shows (1 ∷ 0 ∷ 1 ∷ []) 15_600 10_400 20_000 5 0 2
+    ∷ planned equalCeilings ⇒ shows (2 ∷ 0 ∷ []) 27_000 6_000 30_000 1 0 1
     ∷ []
 
-unfoldable pub furtherResults : List (List ℤ)
-furtherResults =
-    (pos 179 ∷ [])
-    ∷ (pos 2 ∷ pos 1 ∷ pos 7_200_000 ∷ pos 7_200_000 ∷ pos 8_940_986 ∷ pos 1 ∷ pos 0 ∷ pos 0 ∷ [])
-    ∷ (pos 1 ∷ pos 2 ∷ pos 0 ∷ pos 1 ∷ pos 72366927 ∷ pos 38408400 ∷ pos 96383157 ∷ pos 3 ∷ pos 1 ∷ pos 2 ∷ [])
-    ∷ (pos 3 ∷ pos 0 ∷ pos 2 ∷ pos 3 ∷ pos 4820000 ∷ pos 3960000 ∷ pos 5551230 ∷ pos 8 ∷ pos 1 ∷ pos 2 ∷ [])
-    ∷ (pos 1 ∷ pos 1 ∷ pos 0 ∷ pos 1_280_000 ∷ pos 1_280_000 ∷ pos 1_710_059 ∷ pos 2 ∷ pos 1 ∷ pos 0 ∷ [])
-    ∷ (pos 0 ∷ pos 0 ∷ pos 1 ∷ pos 0 ∷ pos 32374800 ∷ pos 15125160 ∷ pos 41838146 ∷ pos 2 ∷ pos 0 ∷ pos 1 ∷ [])
-    ∷ (pos 0 ∷ pos 1 ∷ pos 5700000 ∷ pos 5700000 ∷ pos 5700000 ∷ pos 0 ∷ pos 0 ∷ pos 0 ∷ [])
-    ∷ (pos 3 ∷ pos 0 ∷ pos 2595000 ∷ pos 682000 ∷ pos 2931548 ∷ pos 3 ∷ pos 0 ∷ pos 2 ∷ [])
-    ∷ (pos 0 ∷ pos 0 ∷ pos 1 ∷ pos 32940000 ∷ pos 28620000 ∷ pos 45092745 ∷ pos 1 ∷ pos 0 ∷ pos 1 ∷ [])
-    ∷ (pos 0 ∷ pos 1 ∷ pos 1 ∷ pos 1 ∷ pos 21000000 ∷ pos 21000000 ∷ pos 21005600 ∷ pos 3 ∷ pos 2 ∷ pos 0 ∷ [])
-    ∷ []
-
-pub further : map resultOf furtherCases ≡ furtherResults
-unfolding card oneSegment fourSegments tiedSegments twoLimits minimaFile overallFile pullsFile exactFile twicePicked furtherCases furtherResults resultOf
+pub further : Agree furtherCases
+unfolding resultOf
 further = refl

@@ -11,6 +11,7 @@ pub mod Survey
 pub mod Calls
 pub mod Lists
 pub mod Demands
+pub mod Writer
 pub mod Results
 pub mod Marked
 pub mod Further

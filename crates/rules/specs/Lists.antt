@@ -1,9 +1,10 @@
 -- Document 01, "The calls", on demand 3: lists of calls on a fresh unit.
 use Prim.Native.Nat.{ℕ}
 use mathlib.Core.List.{List, [], _∷_}
-use Rattle.rules.specs.District.{District, freshDistrict, withLimit, withBar, withoutBar, withRating}
+use Rattle.rules.specs.District.{District, freshDistrict}
 use Rattle.rules.specs.Answers.{accepting}
-use Rattle.rules.specs.Calls.{barRefusal, limitRefusal, ratingRefusal, loadRefusal, exportRefusal, districtIn, freshUnit, loadOf, barOf, unbarOf, setLimitOf, setRatingOf, Export, exportOf}
+use Rattle.rules.specs.Calls.{loadRefusal, exportRefusal, editRefusal, edited, districtIn, freshUnit, loadOf, alterOf, Export, exportOf}
+use Rattle.rules.specs.declared.Edit.{Edit}
 use Rattle.rules.specs.declared.Unit.{Unit}
 use Rattle.rules.specs.declared.Reply.{Reply}
 use Rattle.rules.specs.declared.Answer.{Answer}
@@ -12,20 +13,14 @@ use Rattle.rules.specs.declared.Answer.the-variants.{Accepted}
 -- what a caller may ask, with all that is handed in
 pub data Call : Type 0 where
   Load : List ℕ → Call
-  Bar : ℕ → ℕ → Call
-  Unbar : ℕ → ℕ → Call
-  SetLimit : ℕ → ℕ → Call
-  SetRating : ℕ → ℕ → ℕ → Call
+  Alter : Edit → Call
   ExportTo : List ℕ → Call
   Show : Call
 
 -- the number of the first condition for a refusal that the call meets; 0 where it meets none
 unfoldable pub refusalOf : District → Call → ℕ
 refusalOf d (Load file) = loadRefusal file
-refusalOf d (Bar i j) = barRefusal d i j
-refusalOf d (Unbar i j) = barRefusal d i j
-refusalOf d (SetLimit r limit) = limitRefusal d r limit
-refusalOf d (SetRating i k rating) = ratingRefusal d i k rating
+refusalOf d (Alter e) = editRefusal d e
 refusalOf d (ExportTo buffer) = exportRefusal d buffer
 refusalOf d Show = 0
 
@@ -34,10 +29,7 @@ refusalOf d Show = 0
 -- how a call that is not refused alters it
 unfoldable pub altered : District → Call → District
 altered d (Load file) = districtIn file
-altered d (Bar i j) = withBar d i j
-altered d (Unbar i j) = withoutBar d i j
-altered d (SetLimit r limit) = withLimit d r limit
-altered d (SetRating i k rating) = withRating d i k rating
+altered d (Alter e) = edited d e
 altered d (ExportTo buffer) = d
 altered d Show = d
 
@@ -59,10 +51,7 @@ pub record Outcome : Type 0 where
 -- the bytes that a call is lent: a load's file, an export's buffer
 unfoldable pub lentTo : Call → List ℕ
 lentTo (Load file) = file
-lentTo (Bar i j) = []
-lentTo (Unbar i j) = []
-lentTo (SetLimit r limit) = []
-lentTo (SetRating i k rating) = []
+lentTo (Alter e) = []
 lentTo (ExportTo buffer) = buffer
 lentTo Show = []
 
@@ -75,10 +64,7 @@ written e u = record { answer = e .answer; unit = u; bytes = e .buffer }
 -- a show is always accepted, and what it gives is showOf
 unfoldable pub outcomeOf : Unit → Call → Outcome
 outcomeOf u (Load file) = replied (loadOf u file) file
-outcomeOf u (Bar i j) = replied (barOf u i j) []
-outcomeOf u (Unbar i j) = replied (unbarOf u i j) []
-outcomeOf u (SetLimit r limit) = replied (setLimitOf u r limit) []
-outcomeOf u (SetRating i k rating) = replied (setRatingOf u i k rating) []
+outcomeOf u (Alter e) = replied (alterOf u e) []
 outcomeOf u (ExportTo buffer) = written (exportOf u buffer) u
 outcomeOf u Show = record { answer = Accepted 0; unit = u; bytes = [] }
 

@@ -11,6 +11,7 @@ use lib.ListN.{getD, set}
 use Rattle.base.specs.Choice.{pick, only}
 use Rattle.base.specs.Over.{sum, all, best, listed, divideUp}
 use Rattle.base.specs.Search.{first, orElse, Run, run}
+use Rattle.rules.specs.District.{mostSegments}
 use Rattle.rules.specs.Table.{Table}
 
 abbrev pub strategyAt : List ℕ → ℕ → ℕ
@@ -54,7 +55,7 @@ module _ (t : Table) where
   topCandidate i = best (t .strategies) (isCandidate i) (greater i)
 
   unfoldable pub start : List ℕ
-  start = listed 64 topCandidate
+  start = listed mostSegments topCandidate
 
   -- Share: what part of a limit a strategy uses, in ten-thousandths, any remainder counting as one more; a quotient by 0 is 0.
   unfoldable pub share : ℕ → ℕ → ℕ → ℕ

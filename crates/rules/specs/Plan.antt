@@ -4,7 +4,7 @@ use lib.ListN.{replicate}
 use Prim.Native.Nat.{ℕ}
 use Rattle.base.specs.Choice.{pick}
 use Rattle.base.specs.Search.{Run}
-use Rattle.rules.specs.District.{District}
+use Rattle.rules.specs.District.{District, mostSegments}
 use Rattle.rules.specs.File.{inRange}
 use Rattle.rules.specs.Table.{Table, tableOf}
 use Rattle.rules.specs.Phases.{total, start, phase1, phase2, phase3}
@@ -36,7 +36,7 @@ programmeOf t =
 unfoldable pub noProgramme : Programme
 noProgramme =
     record {
-      strategies = replicate 64 0;
+      strategies = replicate mostSegments 0;
       total = 0;
       «after_pickups» = 0;
       ceiling = 0;

@@ -1,19 +1,16 @@
--- Refusals in the order of document 01's table, the card's file given back, and entries of Table 1, computed.
+-- Refusals in the order of document 01's table, lists of calls with refused ones among them, and an export's buffer, computed.
 use Prim.Native.Nat.{ℕ}
 use mathlib.Core.Path.{_≡_, refl}
 use mathlib.Core.List.{List, [], _∷_, _++_, map}
-use lib.ListN.{length, take, set, replicate}
-use lib.IntN.{ℤ, pos}
-use Rattle.rules.specs.File.{encode}
+use lib.ListN.{take, set, replicate}
 use Rattle.rules.specs.Calls.{barRefusal, limitRefusal, ratingRefusal, exportRefusal, loadRefusal, districtIn, exportOf}
-use Rattle.rules.specs.Survey.{deductPoints, blockOf, pointsOf, surveyRefusal, surveyOf}
-use Rattle.rules.specs.Lists.{Load, Bar, Unbar, SetLimit, SetRating, ExportTo, Show, unitAfter}
-use Rattle.rules.specs.Results.{Case, shown, resultOf}
+use Rattle.rules.specs.Lists.{Load, Alter, ExportTo, Show, unitAfter}
+use Rattle.rules.specs.declared.Edit.the-variants.{Bar, Unbar, SetLimit, SetRating}
+use Rattle.rules.specs.Results.{shown, shows, resultOf, WorkedCase, _⇒_, Agree}
 use Rattle.rules.specs.Marked.{card}
-use Rattle.rules.specs.declared.Answer.{Answer}
-use Rattle.rules.specs.declared.Answer.the-variants.{Accepted, Refused}
+use Rattle.rules.specs.declared.Answer.the-variants.{Accepted}
 
-unfoldable pub files : List (List ℕ)
+abbrev pub files : List (List ℕ)
 files =
     -- the card
     card
@@ -47,83 +44,60 @@ files =
     ∷ []
 
 pub loads : map loadRefusal files ≡ 0 ∷ 1 ∷ 1 ∷ 2 ∷ 2 ∷ 3 ∷ 1 ∷ 4 ∷ 4 ∷ 4 ∷ 0 ∷ 4 ∷ 4 ∷ 4 ∷ 0 ∷ 4 ∷ 4 ∷ 5 ∷ []
-unfolding files card resultOf
+unfolding resultOf
 loads = refl
 
--- the card's file, loaded and exported
-pub given-back : encode (districtIn card) ≡ card
-unfolding card resultOf
-given-back = refl
-
--- segment 3 and 0, strategy 3; resource 2, limit 1,000,000,000; segment 3, distress 2, rating 21; a buffer of 86 bytes
-unfoldable pub callRefusals : List ℕ → List ℕ
+abbrev pub callRefusals : List ℕ → List ℕ
 callRefusals d =
-    barRefusal d 3 3
+    -- segments 3 and 0, strategies 3 and 0; segment 3 with strategy 3
+    barRefusal d 3 1
     ∷ barRefusal d 0 1
     ∷ barRefusal d 2 3
+    ∷ barRefusal d 2 0
+    ∷ barRefusal d 3 3
     ∷ barRefusal d 2 2
+    -- resources 2 and 0, limit 1,000,000,000
     ∷ limitRefusal d 2 1_000_000_000
+    ∷ limitRefusal d 0 1_000_000_000
     ∷ limitRefusal d 1 1_000_000_000
     ∷ limitRefusal d 1 999_999_999
+    -- segments 3 and 0, distress types 2 and 0, rating 21
     ∷ ratingRefusal d 3 2 21
+    ∷ ratingRefusal d 0 0 21
     ∷ ratingRefusal d 2 2 21
+    ∷ ratingRefusal d 2 0 21
     ∷ ratingRefusal d 2 1 21
     ∷ ratingRefusal d 2 1 20
+    -- a buffer that is one byte too short
     ∷ exportRefusal d (take 86 card)
     ∷ exportRefusal d card
     ∷ []
 
-pub calls : callRefusals (districtIn card) ≡ 6 ∷ 6 ∷ 7 ∷ 0 ∷ 7 ∷ 8 ∷ 0 ∷ 6 ∷ 7 ∷ 8 ∷ 0 ∷ 9 ∷ 0 ∷ []
-unfolding callRefusals card resultOf
+pub calls : callRefusals (districtIn card) ≡ 6 ∷ 6 ∷ 7 ∷ 7 ∷ 6 ∷ 0 ∷ 7 ∷ 7 ∷ 8 ∷ 0 ∷ 6 ∷ 6 ∷ 7 ∷ 7 ∷ 8 ∷ 0 ∷ 9 ∷ 0 ∷ []
+unfolding resultOf
 calls = refl
-
-unfoldable pub surveys : List Answer
-surveys =
-    surveyOf 6 3 1 0 ∷ surveyOf 8 2 3 2 ∷ surveyOf 7 1 3 3 ∷ surveyOf 1 0 3 0 ∷ surveyOf 7 1 1 0 ∷ surveyOf 6 1 1 1 ∷ surveyOf 9 1 1 1 ∷ surveyOf 1 4 1 0 ∷ surveyOf 1 0 0 0 ∷ surveyOf 7 3 3 4 ∷ surveyOf 1 1 4 0 ∷ surveyOf 0 1 1 0 ∷ []
-
-pub points :
-    surveys
-    ≡ Accepted 7 ∷ Accepted 15 ∷ Accepted 15 ∷ Accepted 0 ∷ Refused 10 ∷ Refused 10 ∷ Refused 10 ∷ Refused 10 ∷ Refused 10 ∷ Refused 10 ∷ Refused 10 ∷ Refused 10 ∷ []
-unfolding surveys deductPoints blockOf pointsOf surveyRefusal surveyOf resultOf
-points = refl
 
 -- ---- lists of calls, refused ones among them
 
-unfoldable pub lists : List Case
+abbrev pub lists : List WorkedCase
 lists =
-    -- barred twice; barred and unbarred; unbarred what is not barred; refused calls in between; export and show; loaded again
-    shown (Load card ∷ Bar 2 2 ∷ Bar 2 2 ∷ [])
-    ∷ shown (Load card ∷ Bar 2 2 ∷ Unbar 2 2 ∷ [])
-    ∷ shown (Load card ∷ Unbar 2 2 ∷ Unbar 1 1 ∷ [])
-    ∷ shown (Load card ∷ Load [] ∷ Bar 3 1 ∷ SetLimit 2 0 ∷ SetLimit 1 1_000_000_000 ∷ SetRating 1 1 21 ∷ Unbar 1 3 ∷ ExportTo [] ∷ Show ∷ [])
-    ∷ shown (Load card ∷ SetLimit 1 0 ∷ Load card ∷ [])
-    ∷ shown (Load [] ∷ Bar 1 1 ∷ [])
+    -- barred twice; barred and unbarred; unbarred what is not barred
+    shown (Load card ∷ Alter (Bar 2 2) ∷ Alter (Bar 2 2) ∷ []) ⇒ shows (2 ∷ 1 ∷ []) 7_200_000 7_200_000 7_200_000 0 0 0
+    ∷ shown (Load card ∷ Alter (Bar 2 2) ∷ Alter (Unbar 2 2) ∷ []) ⇒ shows (2 ∷ 1 ∷ []) 7_200_000 7_200_000 7_500_170 1 0 0
+    ∷ shown (Load card ∷ Alter (Unbar 2 2) ∷ Alter (Unbar 1 1) ∷ []) ⇒ shows (2 ∷ 1 ∷ []) 7_200_000 7_200_000 7_500_170 1 0 0
+    -- refused calls in between; export and show
+    ∷ shown (Load card ∷ Load [] ∷ Alter (Bar 3 1) ∷ Alter (SetLimit 2 0) ∷ Alter (SetLimit 1 1_000_000_000) ∷ Alter (SetRating 1 1 21) ∷ Alter (Unbar 1 3) ∷ ExportTo [] ∷ Show ∷ [])
+    ⇒ shows (2 ∷ 1 ∷ []) 7_200_000 7_200_000 7_500_170 1 0 0
+    -- loaded again; nothing but refused calls
+    ∷ shown (Load card ∷ Alter (SetLimit 1 0) ∷ Load card ∷ []) ⇒ shows (2 ∷ 1 ∷ []) 7_200_000 7_200_000 7_500_170 1 0 0
+    ∷ shown (Load [] ∷ Alter (Bar 1 1) ∷ []) ⇒ shows [] 0 0 0 0 0 0
     ∷ []
 
-unfoldable pub listResults : List (List ℤ)
-listResults =
-    (pos 2 ∷ pos 1 ∷ pos 7_200_000 ∷ pos 7_200_000 ∷ pos 7_200_000 ∷ pos 0 ∷ pos 0 ∷ pos 0 ∷ [])
-    ∷ (pos 2 ∷ pos 1 ∷ pos 7_200_000 ∷ pos 7_200_000 ∷ pos 7_500_170 ∷ pos 1 ∷ pos 0 ∷ pos 0 ∷ [])
-    ∷ (pos 2 ∷ pos 1 ∷ pos 7_200_000 ∷ pos 7_200_000 ∷ pos 7_500_170 ∷ pos 1 ∷ pos 0 ∷ pos 0 ∷ [])
-    ∷ (pos 2 ∷ pos 1 ∷ pos 7_200_000 ∷ pos 7_200_000 ∷ pos 7_500_170 ∷ pos 1 ∷ pos 0 ∷ pos 0 ∷ [])
-    ∷ (pos 2 ∷ pos 1 ∷ pos 7_200_000 ∷ pos 7_200_000 ∷ pos 7_500_170 ∷ pos 1 ∷ pos 0 ∷ pos 0 ∷ [])
-    ∷ (pos 0 ∷ pos 0 ∷ pos 0 ∷ pos 0 ∷ pos 0 ∷ pos 0 ∷ [])
-    ∷ []
-
-pub in-a-row : map resultOf lists ≡ listResults
-unfolding lists listResults card resultOf
+pub in-a-row : Agree lists
+unfolding resultOf
 in-a-row = refl
 
 -- three bytes are left over, and keep what they held
 pub buffer : exportOf (unitAfter (Load card ∷ [])) (replicate 90 255) ≡ record { answer = Accepted 87; buffer = card ++ 255 ∷ 255 ∷ 255 ∷ [] }
-unfolding card resultOf
-buffer = refl
-
-pub short : exportOf (unitAfter (Load card ∷ [])) (replicate 86 255) ≡ record { answer = Refused 9; buffer = replicate 86 255 }
-unfolding card resultOf
-short = refl
-
--- the file of the greatest counts; that none is longer is file/specs/Trips
-pub longest : length (encode (64 ∷ 11 ∷ 10 ∷ 9 ∷ 4 ∷ 16 ∷ [])) ≡ 3_788
 unfolding resultOf
-longest = refl
+buffer = refl

@@ -1,50 +1,111 @@
--- What a case comes to: numbers that a theorem can compute. A theorem that unfolds `resultOf` unfolds all the rules with it.
+-- A case and what it comes to: numbers that a theorem can compute. A theorem that unfolds `resultOf` unfolds all the rules with it, those
+-- that its `unfolding` names, file by file.
 use Prim.Native.Nat.{ℕ}
+use mathlib.Core.Path.{_≡_}
 use mathlib.Core.List.{List, [], _∷_, _++_, map}
 use lib.ListN.{take}
 use lib.IntN.{ℤ, pos}
 use Rattle.rules.specs.declared.Unit.{Unit}
 use Rattle.rules.specs.declared.Programme.{Programme}
-use Rattle.base.specs.Bits.{setBit, clearBit}
-use Rattle.base.specs.Over.{listed, sum, sumZ, all, most, betterOf, best, minZ, listedFrom}
-use Rattle.base.specs.Search.{first, run}
-use Rattle.rules.specs.Answers.{answerOf, accepting}
-use Rattle.rules.specs.Calls.{loadRefusalOf, loadRefusal, barRefusal, limitRefusal, ratingRefusal, exportRefusal, loadedOf, districtIn, unitOf, freshUnit, answered, loadOf, barOf, unbarOf, setLimitOf, setRatingOf, exported, exportOf, showOf}
-use Rattle.rules.specs.Ceiling.{downShare, costBy, cost, net, margin, ceilingAt, priced, pricedAll, pricesAfter, ceiling}
-use Rattle.rules.specs.District.{segmentsOf, yearsOf, limitOf, greatestOf, requirementOf, gainOf, percentOf, overallOf, minimumOf, pavementOf, trafficOf, environmentOf, lengthOf, widthOf, barsOf, barredIn, ratingOf, withLimit, withBar, withoutBar, withRating, freshDistrict}
-use Rattle.rules.specs.File.{readNumbers, readRecord, readRecords, decode, numberBytes, recordsBytes, encode, numbersInRange, recordsInRange, inRange}
-use Rattle.rules.specs.Format.{ranged, fieldAt}
-use Rattle.rules.specs.Lists.{Call, refusalOf, altered, districtFrom, districtAfter, lentTo, outcomeOf, unitFrom, unitAfter}
-use Rattle.rules.specs.Phases.{isCandidate, greater, chosenBenefit, total, chosenUsage, used, holds, within, topCandidate, start, share, chosenShare, surplus, pullBy, pull, pulls, ratio, lesserRatio, weakest, comesAfter, nextCandidate, stepDown, step, phase1, fitting, offer, offerBenefit, vacant, greaterOffer, bestOffer, pickedUp, pickUp, phase2, another, counts, single, pair, firstStrategy, singlesOf, firstSingle, pairsWith, pairsOf, pairsFrom, firstPair, change, phase3}
-use Rattle.rules.specs.Plan.{reduced, filled, improved, programmeOf, noProgramme, planOf}
-use Rattle.rules.specs.Rating.{gain, survival, improvement, rating, improvements, effect, area, benefit, usage, scaledLimit, reaches, minimumReached, yearsReached, minimaReached, firstRating, overallReached, permitted, fitsLimit, fitsAlone, candidate, usageBy, withinLimit, withinLimits, benefitBy, totalOf}
-use Rattle.rules.specs.Table.{candidateBenefit, usageIn, limitIn, tableOf}
+use Rattle.base.specs.Bits
+use Rattle.base.specs.Over
+use Rattle.base.specs.Search
+use Rattle.rules.specs.District
+use Rattle.rules.specs.Format
+use Rattle.rules.specs.File
+use Rattle.rules.specs.Rating
+use Rattle.rules.specs.Table
+use Rattle.rules.specs.Phases
+use Rattle.rules.specs.Ceiling
+use Rattle.rules.specs.Plan
+use Rattle.rules.specs.Answers
+use Rattle.rules.specs.Calls
+use Rattle.rules.specs.Survey
+use Rattle.rules.specs.Lists
+use Rattle.rules.specs.Writer
 
--- after the calls: what is shown, or what segment 1 comes to under strategy 1 for distress 1
+infix 70 _⇒_
+-- after the calls: what is shown, or what segment 1 comes to under strategy 1 for distress 1: its rating in year 0; ratings, and survivals, in
+-- years 1 to T; the effect
 pub data Case : Type 0 where
-  shown : List Call → Case
-  ratings : List Call → Case
-  survivals : List Call → Case
-  effects : List Call → Case
+  shown : List Lists.Call → Case
+  initialRating : List Lists.Call → Case
+  ratings : List Lists.Call → Case
+  survivals : List Lists.Call → Case
+  effects : List Lists.Call → Case
 
--- a strategy for each segment; total, total after phase 2, ceiling; steps, pick-ups, changes
+-- the district that is loaded, shown
+abbrev pub planned : Writer.Roads → Case
+planned d = shown (Lists.Load (Writer.fileOf d) ∷ [])
+
+-- what is shown: a strategy for each segment; total, total after phase 2, ceiling; steps, pick-ups, changes
+abbrev pub shows : List ℕ → ℕ → ℕ → ℕ → ℕ → ℕ → ℕ → List ℤ
+shows strategies total afterPickUps ceiling steps pickUps changes =
+    map (λ x. pos x) (strategies ++ (total ∷ afterPickUps ∷ ceiling ∷ steps ∷ pickUps ∷ changes ∷ []))
+
 unfoldable pub shownBy : ℕ → Programme → List ℤ
 shownBy n p =
-    map (λ x. pos x)
-    (take n (p .strategies) ++ (p .total ∷ p .«after_pickups» ∷ p .ceiling ∷ p .steps ∷ p .pickups ∷ p .changes ∷ []))
+    shows (take n (p .strategies)) (p .total) (p .«after_pickups») (p .ceiling) (p .steps) (p .pickups) (p .changes)
 
 unfoldable pub resultIn : Case → Unit → List ℤ
-resultIn (shown cs) u = shownBy (segmentsOf (u .district)) (showOf u)
-resultIn (ratings cs) u = listed (yearsOf (u .district)) (rating (u .district) 1 1 1)
-resultIn (survivals cs) u = listed (yearsOf (u .district)) (λ t. pos (survival (u .district) 1 1 1 t))
-resultIn (effects cs) u = effect (u .district) 1 1 ∷ []
+resultIn (shown cs) u = shownBy (District.segmentsOf (u .district)) (Calls.showOf u)
+resultIn (initialRating cs) u = Rating.rating (u .district) 1 1 1 0 ∷ []
+resultIn (ratings cs) u = Over.listed (District.yearsOf (u .district)) (Rating.rating (u .district) 1 1 1)
+resultIn (survivals cs) u = Over.listed (District.yearsOf (u .district)) (λ t. pos (Rating.survival (u .district) 1 1 1 t))
+resultIn (effects cs) u = Rating.effect (u .district) 1 1 ∷ []
 
-unfoldable pub callsOf : Case → List Call
+unfoldable pub callsOf : Case → List Lists.Call
 callsOf (shown cs) = cs
+callsOf (initialRating cs) = cs
 callsOf (ratings cs) = cs
 callsOf (survivals cs) = cs
 callsOf (effects cs) = cs
 
 unfoldable pub resultOf : Case → List ℤ
-unfolding shownBy resultIn callsOf setBit clearBit sum sumZ all most betterOf best minZ listedFrom first run answerOf accepting loadRefusalOf loadRefusal barRefusal limitRefusal ratingRefusal exportRefusal loadedOf districtIn unitOf freshUnit answered loadOf barOf unbarOf setLimitOf setRatingOf exported exportOf showOf downShare costBy cost net margin ceilingAt priced pricedAll pricesAfter ceiling limitOf greatestOf requirementOf gainOf percentOf overallOf minimumOf pavementOf trafficOf environmentOf lengthOf widthOf barsOf barredIn ratingOf withLimit withBar withoutBar withRating freshDistrict readNumbers readRecord readRecords decode numberBytes recordsBytes encode numbersInRange recordsInRange inRange ranged fieldAt refusalOf altered districtFrom districtAfter lentTo outcomeOf unitFrom unitAfter isCandidate greater chosenBenefit total chosenUsage used holds within topCandidate start share chosenShare surplus pullBy pull pulls ratio lesserRatio weakest comesAfter nextCandidate stepDown step phase1 fitting offer offerBenefit vacant greaterOffer bestOffer pickedUp pickUp phase2 another counts single pair firstStrategy singlesOf firstSingle pairsWith pairsOf pairsFrom firstPair change phase3 reduced filled improved programmeOf noProgramme planOf gain survival improvement rating improvements effect area benefit usage scaledLimit reaches minimumReached yearsReached minimaReached firstRating overallReached permitted fitsLimit fitsAlone candidate usageBy withinLimit withinLimits benefitBy totalOf candidateBenefit usageIn limitIn tableOf
-resultOf c = resultIn c (unitAfter (callsOf c))
+unfolding
+    shownBy resultIn callsOf
+    Writer.fileOf
+    Bits.setBit Bits.clearBit
+    Over.sum Over.sumZ Over.all Over.most Over.betterOf Over.best Over.minZ Over.listedFrom
+    Search.first Search.run
+    District.limitOf District.greatestOf District.requirementOf District.gainOf District.percentOf District.overallOf District.minimumOf
+    District.pavementOf District.trafficOf District.environmentOf District.lengthOf District.widthOf District.barsOf District.barredIn
+    District.ratingOf District.withLimit District.withBar District.withoutBar District.withRating District.freshDistrict
+    Format.ranged Format.fieldAt
+    File.readNumbers File.readRecord File.readRecords File.decode File.numberBytes File.recordsBytes File.encode File.numbersInRange
+    File.recordsInRange File.inRange
+    Rating.gain Rating.survival Rating.improvement Rating.rating Rating.improvements Rating.effect Rating.area Rating.benefit Rating.usage
+    Rating.scaledLimit Rating.reaches Rating.minimumReached Rating.yearsReached Rating.minimaReached Rating.firstRating
+    Rating.overallReached Rating.permitted Rating.fitsLimit Rating.fitsAlone Rating.candidate Rating.usageBy Rating.withinLimit
+    Rating.withinLimits Rating.benefitBy Rating.totalOf
+    Table.candidateBenefit Table.usageIn Table.limitIn Table.tableOf
+    Phases.isCandidate Phases.greater Phases.chosenBenefit Phases.total Phases.chosenUsage Phases.used Phases.holds Phases.within
+    Phases.topCandidate Phases.start Phases.share Phases.chosenShare Phases.surplus Phases.pullBy Phases.pull Phases.pulls Phases.ratio
+    Phases.lesserRatio Phases.weakest Phases.comesAfter Phases.nextCandidate Phases.stepDown Phases.step Phases.phase1 Phases.fitting
+    Phases.offer Phases.offerBenefit Phases.vacant Phases.greaterOffer Phases.bestOffer Phases.pickedUp Phases.pickUp Phases.phase2
+    Phases.another Phases.counts Phases.single Phases.pair Phases.firstStrategy Phases.singlesOf Phases.firstSingle Phases.pairsWith
+    Phases.pairsOf Phases.pairsFrom Phases.firstPair Phases.change Phases.phase3
+    Ceiling.downShare Ceiling.costBy Ceiling.cost Ceiling.net Ceiling.margin Ceiling.ceilingAt Ceiling.priced Ceiling.pricedAll
+    Ceiling.pricesAfter Ceiling.ceiling
+    Plan.reduced Plan.filled Plan.improved Plan.programmeOf Plan.noProgramme Plan.planOf
+    Answers.answerOf Answers.accepting
+    Calls.loadRefusalOf Calls.loadRefusal Calls.barRefusal Calls.limitRefusal Calls.ratingRefusal Calls.exportRefusal Calls.loadedOf
+    Calls.districtIn Calls.unitOf Calls.freshUnit Calls.answered Calls.loadOf Calls.alterOf
+    Calls.exported Calls.exportOf Calls.showOf
+    Survey.deductPoints Survey.blockOf Survey.pointsOf Survey.surveyRefusal Survey.surveyOf
+    Lists.refusalOf Lists.altered Lists.districtFrom Lists.districtAfter Lists.lentTo Lists.outcomeOf Lists.unitFrom Lists.unitAfter
+resultOf c = resultIn c (Lists.unitAfter (callsOf c))
+
+-- a case, and what it comes to as worked elsewhere
+pub data WorkedCase : Type 0 where
+  _⇒_ : Case → List ℤ → WorkedCase
+
+abbrev pub computed : WorkedCase → List ℤ
+computed (c ⇒ r) = resultOf c
+
+abbrev pub expected : WorkedCase → List ℤ
+expected (c ⇒ r) = r
+
+-- each case comes to what stands beside it
+abbrev pub Agree : List WorkedCase → Type 0
+Agree cases = map computed cases ≡ map expected cases

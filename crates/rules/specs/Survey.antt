@@ -6,7 +6,7 @@ use lib.Dec.{leb, eqb}
 use lib.ListN.{getD}
 use Rattle.base.specs.Choice.{pick}
 use Rattle.base.specs.Over.{between}
-use Rattle.rules.specs.Answers.{unless, answerOf}
+use Rattle.rules.specs.Answers.{noSuchPoints, unless, answerOf}
 use Rattle.rules.specs.declared.Answer.{Answer}
 
 abbrev pub row : ℕ → ℕ → ℕ → List ℕ
@@ -51,10 +51,10 @@ unfoldable pub pointsOf : ℕ → ℕ → ℕ → ℕ
 pointsOf block degree extent =
     pick (eqb degree 0) 0 (getD (getD (getD deductPoints (block - 1) []) (degree - 1) []) (extent - 1) 0)
 
--- refusal 10 for every number that the table does not have
+-- a refusal for every number that the table does not have
 unfoldable pub surveyRefusal : ℕ → ℕ → ℕ → ℕ → ℕ
 surveyRefusal code degree extent seal =
-    unless (leb 1 (blockOf code seal) && (leb degree 3 && between 1 3 extent)) 10 0
+    unless (leb 1 (blockOf code seal) && (leb degree 3 && between 1 3 extent)) noSuchPoints 0
 
 unfoldable pub surveyOf : ℕ → ℕ → ℕ → ℕ → Answer
 surveyOf code degree extent seal =

@@ -1,7 +1,11 @@
 // The types that the rules speak of. The rules themselves, document 01 as definitions, are in specs/.
 
-// A district: 2,620 numbers, each at its place (specs/District.antt).
-pub type District = [usize; 2620];
+pub mod places;
+pub mod records;
+pub mod refusals;
+
+// A district: its numbers, each at its place.
+pub type District = [usize; places::DISTRICT_PLACES];
 
 // One number of a record: how many bytes it has, and its range. Where hi < lo it is a signed byte, from lo to 255 and
 // from 0 to hi.
@@ -21,7 +25,7 @@ pub struct Slot {
 // The result of planning: which strategy each of 64 places gets (0 is nothing), three sums, and how much work each
 // phase did.
 pub struct Programme {
-    pub strategies: [usize; 64],
+    pub strategies: [usize; places::MOST_SEGMENTS],
     pub total: u64,
     pub after_pickups: u64,
     pub ceiling: u64,

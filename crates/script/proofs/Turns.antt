@@ -11,7 +11,7 @@ use Rattle.rules.specs.Calls.{showOf}
 use Rattle.rules.specs.Demands.{Sound}
 use Rattle.rules.specs.Lists.{Call, outcomeOf, unitFrom, unitAfter, districtAfter}
 use Rattle.rules.specs.declared.Reply.{Reply}
-use Rattle.unit.proofs.Demands.{one-claim}
+use Rattle.demands.proofs.OneClaim.{one-claim}
 use Rattle.script.specs.Script.{kindIn, numberAt, bodyIn, callOf, callIn, callsIn, callsOf, replyOf, replyFrom, replyAfter, lastAnswer}
 
 none-left : (n : ℕ) (s : List ℕ) → length s < 13 + bodyIn s → callsIn n s ≡ []

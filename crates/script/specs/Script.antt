@@ -8,7 +8,9 @@ use lib.ListN.{length, getD, take, drop, replicate}
 use Rattle.base.specs.Bytes.{numberOf}
 use Rattle.base.specs.Choice.{pick}
 use Rattle.rules.specs.Calls.{freshUnit}
-use Rattle.rules.specs.Lists.{Call, Load, Bar, Unbar, SetLimit, SetRating, ExportTo, Show, Outcome, outcomeOf}
+use Rattle.rules.specs.File.{longestFile}
+use Rattle.rules.specs.Lists.{Call, Load, Alter, ExportTo, Show, Outcome, outcomeOf}
+use Rattle.rules.specs.declared.Edit.the-variants.{Bar, Unbar, SetLimit, SetRating}
 use Rattle.rules.specs.declared.Reply.{Reply}
 use Rattle.rules.specs.declared.Answer.{Answer}
 use Rattle.rules.specs.declared.Answer.the-variants.{Accepted}
@@ -25,15 +27,15 @@ numberAt at bs = numberOf (take 4 (drop at bs))
 unfoldable pub bodyIn : List ℕ → ℕ
 bodyIn bs = pick (eqb (kindIn bs) 1) (numberAt 1 bs) 0
 
--- kinds: 1 load, 2 bar, 3 unbar, 4 set limit, 5 set rating, 6 and 7 export into 4,096 zeros and into one, any other show
+-- kinds: 1 load, 2 bar, 3 unbar, 4 set limit, 5 set rating, 6 and 7 export into zeros, as many as the longest file has and one, any other show
 unfoldable pub callOf : ℕ → ℕ → ℕ → ℕ → List ℕ → Call
 callOf kind a b c file =
     pick (eqb kind 1) (Load file)
-    (pick (eqb kind 2) (Bar a b)
-    (pick (eqb kind 3) (Unbar a b)
-    (pick (eqb kind 4) (SetLimit a b)
-    (pick (eqb kind 5) (SetRating a b c)
-    (pick (eqb kind 6) (ExportTo (replicate 4096 0))
+    (pick (eqb kind 2) (Alter (Bar a b))
+    (pick (eqb kind 3) (Alter (Unbar a b))
+    (pick (eqb kind 4) (Alter (SetLimit a b))
+    (pick (eqb kind 5) (Alter (SetRating a b c))
+    (pick (eqb kind 6) (ExportTo (replicate longestFile 0))
     (pick (eqb kind 7) (ExportTo (replicate 1 0))
     Show))))))
 

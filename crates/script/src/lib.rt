@@ -4,11 +4,14 @@ ghost use Prim.Native.Nat.{_+_, _≤_};
 ghost use lib.ListN.{length, replicate};
 ghost use Rattle.rules.specs.Calls.{showOf, exportOf};
 ghost use Rattle.rules.specs.Demands.{Sound};
+ghost use Rattle.rules.specs.File.{longestFile};
 ghost use Rattle.rules.specs.Lists.{outcomeOf, districtAfter, unitAfter};
 ghost use Rattle.script.specs.Script.{bodyIn, callOf, callsOf, replyOf, lastAnswer};
 use rules::Answer;
+use rules::Edit;
 use rules::Reply;
 use rules::Unit;
+use rules::records::LONGEST_FILE;
 
 // How many bytes follow the 13 of a call.
 fn body_of(call: &[u8]) -> usize
@@ -23,9 +26,9 @@ fn body_of(call: &[u8]) -> usize
 
 // What an export answers into a buffer of zeros with room for every file.
 fn exported(u: Unit) -> Answer
-    ensures { λ r. ⌜ r ≡ exportOf u (replicate 4096 0) .answer ⌝ }
+    ensures { λ r. ⌜ r ≡ exportOf u (replicate longestFile 0) .answer ⌝ }
 {
-    let mut buffer = [0u8; 4096];
+    let mut buffer = [0u8; LONGEST_FILE];
     unit::export(u, &mut buffer)
 }
 
@@ -43,10 +46,10 @@ fn make(u: Unit, kind: u8, a: usize, b: usize, c: usize, bytes: &[u8]) -> Reply
 {
     match kind {
         1 => unit::load(u, bytes),
-        2 => unit::bar(u, a, b),
-        3 => unit::unbar(u, a, b),
-        4 => unit::set_limit(u, a, b),
-        5 => unit::set_rating(u, a, b, c),
+        2 => unit::alter(u, Edit::Bar(a, b)),
+        3 => unit::alter(u, Edit::Unbar(a, b)),
+        4 => unit::alter(u, Edit::SetLimit(a, b)),
+        5 => unit::alter(u, Edit::SetRating(a, b, c)),
         6 => Reply {
             answer: exported(u),
             unit: u,

@@ -7,7 +7,7 @@ use borrow.Author.Tests.{lt-leb, ne-eqb}
 use lib.Dec.{leb}
 use Rattle.base.specs.Over.{between}
 use Rattle.base.proofs.Choice.{lt-eqb}
-use Rattle.rules.specs.Answers.{answerOf}
+use Rattle.rules.specs.Answers.{noSuchPoints, answerOf}
 use Rattle.rules.specs.Survey.{blockOf, pointsOf, surveyRefusal, surveyOf}
 use Rattle.rules.specs.declared.Answer.the-variants.{Accepted, Refused}
 
@@ -25,7 +25,7 @@ unfolding blockOf
 no-seal code seal l some = simp (ne-eqb seal 0 some, and-false, lt-eqb code 7 (omega arith), lt-eqb code 8 (omega arith))
 
 module _ (code degree extent seal block : ℕ) (at : block ≡ blockOf code seal) where
-  pub no-entry : tabled block degree extent ≡ false → Refused 10 ≡ surveyOf code degree extent seal
+  pub no-entry : tabled block degree extent ≡ false → Refused noSuchPoints ≡ surveyOf code degree extent seal
   unfolding surveyOf surveyRefusal answerOf
   no-entry e = rw (← at) (rw e)
 

@@ -5,6 +5,7 @@ ghost use Prim.Native.Nat.{_<_, _≤_};
 ghost use lib.ListN.{getD};
 ghost use Rattle.rules.specs.Survey.{deductPoints, blockOf, surveyOf};
 use rules::Answer;
+use rules::refusals::NO_SUCH_POINTS;
 
 // A block for each distress, and for each seal of 7 and 8: a row for each degree from 1, an entry for each extent from 1.
 const DEDUCT: [[[usize; 3]; 3]; 12] = [
@@ -55,22 +56,22 @@ fn entry(block: usize, row: usize, column: usize) -> usize
     DEDUCT[block][row][column]
 }
 
-// The points for a distress code, its degree, its extent and its seal: refusal 10 for what the table does not have.
+// The points for a distress code, its degree, its extent and its seal: a refusal for what the table does not have.
 pub fn survey_points(code: usize, degree: usize, extent: usize, seal: usize) -> Answer
     ensures { λ r. ⌜ r ≡ surveyOf code degree extent seal ⌝ }
 {
     let block = block_of(code, seal);
     if block < 1 {
-        return Answer::Refused(10);
+        return Answer::Refused(NO_SUCH_POINTS);
     }
     if 3 < degree {
-        return Answer::Refused(10);
+        return Answer::Refused(NO_SUCH_POINTS);
     }
     if extent < 1 {
-        return Answer::Refused(10);
+        return Answer::Refused(NO_SUCH_POINTS);
     }
     if 3 < extent {
-        return Answer::Refused(10);
+        return Answer::Refused(NO_SUCH_POINTS);
     }
     if degree == 0 {
         return Answer::Accepted(0);

@@ -13,6 +13,3 @@ pub mod Covers
 pub mod Totals
 pub mod Feasible
 pub mod Promises
-pub mod Settled
-pub mod Lists
-pub mod Reload

@@ -1,1 +1,1 @@
-// Theorems about the rules: what they promise of every table, every district and every list of calls. There is no code here.
+// Theorems about the rules: what they promise of every table and every district. There is no code here.

@@ -14,9 +14,9 @@ use Rattle.rules.specs.declared.Answer.{Answer}
 use Rattle.file.proofs.Refusals.{export-fits}
 use Rattle.file.specs.Readings.{loadedFrom}
 use Rattle.file.specs.declared.Loaded.{Loaded}
-use Rattle.transcode.specs.Transcoded.{headOf, framed, lengthIn, transcodedAs, transcoded}
+use Rattle.transcode.specs.Transcoded.{headOf, headBytes, framed, lengthIn, transcodedAs, transcoded}
 
-pub framed-length : (file : List ℕ) → length (framed file) ≡ 5 + length file
+pub framed-length : (file : List ℕ) → length (framed file) ≡ headBytes + length file
 unfolding framed
 framed-length file = length-append (headOf (length file)) file
 

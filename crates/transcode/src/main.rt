@@ -5,13 +5,19 @@ ghost use mathlib.Core.Path.{_≡_};
 ghost use Prim.Native.Nat.{_+_, _≤_};
 ghost use lib.ListN.{length};
 ghost use Rattle.base.specs.Text.{Put};
-ghost use Rattle.rules.specs.File.{encode};
-ghost use Rattle.transcode.specs.Transcoded.{headOf, framed, lengthIn, transcoded};
+ghost use Rattle.rules.specs.File.{encode, longestFile};
+ghost use Rattle.transcode.specs.Transcoded.{headOf, headBytes, framed, longestFramed, lengthIn, transcoded};
 use libc::STDOUT_FILENO;
 use rules::Answer;
 use rules::District;
+use rules::records::LONGEST_FILE;
 
-fn head(length: usize) -> [u8; 5]
+// What stands before an exported file.
+const HEAD_BYTES: usize = 5;
+
+const LONGEST_FRAMED: usize = HEAD_BYTES + LONGEST_FILE;
+
+fn head(length: usize) -> [u8; HEAD_BYTES]
     ensures { λ r. ⌜ r ≡ headOf length ⌝ }
 {
     [
@@ -24,7 +30,7 @@ fn head(length: usize) -> [u8; 5]
 }
 
 fn put_framed(out: &mut [u8], file: &[u8]) -> usize
-    requires { ⌜ 5 + length (now file) ≤ length (now out) ⌝ }
+    requires { ⌜ headBytes + length (now file) ≤ length (now out) ⌝ }
     ensures { λ r. ⌜ Put (framed (now (file .entry))) (now (out .entry)) (now (out .exit)) r ⌝ }
 {
     let head = head(file.len());
@@ -43,17 +49,17 @@ fn length_in(answer: Answer) -> usize
 }
 
 fn put_district(out: &mut [u8], d: District) -> usize
-    requires { ⌜ (4101 ≤ length (now out)) × (length (encode d) ≤ 4096) ⌝ }
+    requires { ⌜ (longestFramed ≤ length (now out)) × (length (encode d) ≤ longestFile) ⌝ }
     ensures { λ r. ⌜ Put (framed (encode d)) (now (out .entry)) (now (out .exit)) r ⌝ }
 {
-    let mut file = [0u8; 4096];
+    let mut file = [0u8; LONGEST_FILE];
     let n = length_in(file::export(d, &mut file));
     put_framed(out, &file[..n])
 }
 
 // What is answered to a frame, to the front of `out`.
 fn answer(frame: &[u8], out: &mut [u8]) -> usize
-    requires { ⌜ 4101 ≤ length (now out) ⌝ }
+    requires { ⌜ longestFramed ≤ length (now out) ⌝ }
     ensures { λ r. ⌜ Put (transcoded (now (frame .entry))) (now (out .entry)) (now (out .exit)) r ⌝ }
 {
     let loaded = file::load(frame);
@@ -74,7 +80,7 @@ fn next_frame() -> bool {
         return false;
     }
     let n = frame.length;
-    let mut out = [0u8; 4101];
+    let mut out = [0u8; LONGEST_FRAMED];
     let length = answer(&space[..n], &mut out);
     io::write_all(STDOUT_FILENO, &out[..length])
 }

@@ -1,10 +1,11 @@
 // The planning unit's calls. A unit goes in by value and comes back by value. Each call settles every input by itself:
 // its contract is an equality with the rules, refusals included, and has no `requires`.
 ghost use mathlib.Core.Path.{_≡_};
-ghost use Rattle.rules.specs.Calls.{freshUnit, unitOf, answered, loadOf, barOf, unbarOf, setLimitOf, setRatingOf, exportOf, showOf};
+ghost use Rattle.rules.specs.Calls.{freshUnit, unitOf, answered, loadOf, alterOf, exportOf, showOf};
 ghost use Rattle.rules.specs.Demands.{EveryAnswer, EveryPoints, TheRules, EveryFile, OneClaim};
 use rules::Answer;
 use rules::District;
+use rules::Edit;
 use rules::Programme;
 use rules::Reply;
 use rules::Unit;
@@ -58,36 +59,13 @@ pub fn load(u: Unit, bytes: &[u8]) -> Reply
     conclude(u, refusal, d)
 }
 
-pub fn bar(u: Unit, segment: usize, strategy: usize) -> Reply
-    ensures { λ r. ⌜ r ≡ barOf u segment strategy ⌝ }
+// Bar, unbar, set limit and set rating.
+pub fn alter(u: Unit, e: Edit) -> Reply
+    ensures { λ r. ⌜ r ≡ alterOf u e ⌝ }
 {
     let d = u.district;
-    let refusal = edits::bar_refusal(d, segment, strategy);
-    conclude(u, refusal, edits::with_bar(d, segment, strategy))
-}
-
-pub fn unbar(u: Unit, segment: usize, strategy: usize) -> Reply
-    ensures { λ r. ⌜ r ≡ unbarOf u segment strategy ⌝ }
-{
-    let d = u.district;
-    let refusal = edits::bar_refusal(d, segment, strategy);
-    conclude(u, refusal, edits::without_bar(d, segment, strategy))
-}
-
-pub fn set_limit(u: Unit, resource: usize, limit: usize) -> Reply
-    ensures { λ r. ⌜ r ≡ setLimitOf u resource limit ⌝ }
-{
-    let d = u.district;
-    let refusal = edits::limit_refusal(d, resource, limit);
-    conclude(u, refusal, edits::with_limit(d, resource, limit))
-}
-
-pub fn set_rating(u: Unit, segment: usize, distress: usize, rating: usize) -> Reply
-    ensures { λ r. ⌜ r ≡ setRatingOf u segment distress rating ⌝ }
-{
-    let d = u.district;
-    let refusal = edits::rating_refusal(d, segment, distress, rating);
-    conclude(u, refusal, edits::with_rating(d, segment, distress, rating))
+    let refusal = edits::refusal(d, e);
+    conclude(u, refusal, edits::edited(d, e))
 }
 
 // The file of the district held, written to the front of the buffer.

@@ -4,12 +4,13 @@
 ghost use Prim.Native.Nat.{_≤_};
 ghost use lib.ListN.{length};
 ghost use Rattle.base.specs.Text.{Put};
+ghost use Rattle.listing.specs.Listing.{longestListing};
 ghost use Rattle.vectors.specs.Worked.{worked};
 use libc::STDOUT_FILENO;
 
 // What is printed for a list of calls, to the front of `out`.
 fn answer(script: &[u8], out: &mut [u8]) -> usize
-    requires { ⌜ 2815 ≤ length (now out) ⌝ }
+    requires { ⌜ longestListing ≤ length (now out) ⌝ }
     ensures { λ r. ⌜ Put (worked (now (script .entry))) (now (out .entry)) (now (out .exit)) r ⌝ }
 {
     let last = script::run(script);
@@ -26,7 +27,7 @@ fn next_frame() -> bool {
         return false;
     }
     let n = frame.length;
-    let mut out = [0u8; 2815];
+    let mut out = [0u8; listing::LONGEST_LISTING];
     let length = answer(&script[..n], &mut out);
     io::write_all(STDOUT_FILENO, &out[..length])
 }

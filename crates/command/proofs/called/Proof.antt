@@ -1,153 +1,74 @@
--- `command::called` meets its contract. Assumes nothing.
-use mathlib.Core.Bool.{true, false}
-use mathlib.Core.Path.{_≡_, sym, ap, _∙_}
+-- `command::called` meets its contract: what the rows still to come say is what all say.
+use Prim.Native.Nat.{_+_, _-_, _≤_, _<_}
+use mathlib.Core.Bool.{true}
+use mathlib.Core.List.{List}
+use mathlib.Core.Path.{_≡_, refl, sym, ap, _∙_}
 use native.Mathlib.Omega.{arith}
-use Rattle.base.specs.Text.{text}
-use Rattle.command.specs.Reading.{begins, made, called}
-use Rattle.command.specs.declared.Name.the-variants.{Show, Bar, Unbar, Limit, Rating, Points}
-use Rattle.command.proofs.Laws.{begins-fits, made-few}
+use lib.ListN.{length, drop, drop-of-length-le}
 use borrow.Author.Needs.{needs}
+use Rattle.base.specs.Choice.{pick}
+use Rattle.command.specs.Reading.{row, rows, taken, meant, called}
+use Rattle.command.specs.declared.Row.{Row}
+use Rattle.command.proofs.Laws.{few, few-next}
 use Rattle.command.proofs.called.Statement.{statement}
 use Rattle.command.proofs.called.Tie as tie
 
--- the test for "show"
-no-show : (c : tie.Else1) → begins (text "show") (c .before .before .before .before .args .line .now) ≡ false
-unfolding text
-no-show c = sym (c .before .begins .ensures) ∙ c .if1 .left
+abbrev Inv-loop : tie.InvT-loop
+Inv-loop line i₀ i = (i ≤ length rows) × (called rows line ≡ called (drop i rows) line) × (few (drop i rows) ≡ true)
 
-is-show : (c : tie.Then1) → begins (text "show") (c .before .before .before .before .args .line .now) ≡ true
-unfolding text
-is-show c = sym (c .before .begins .ensures) ∙ c .if1 .taken
+abbrev μ-loop : tie.MeasureT-loop
+μ-loop line i₀ i = length rows - i
 
-read-arguments-requires : tie.Need-read-arguments-requires
-unfolding text
-read-arguments-requires c κs = (begins-fits (text "show") _ (is-show c), omega arith)
+loop-holds : tie.Need-loop-holds Inv-loop μ-loop
+unfolding row rows few
+loop-holds c = (omega arith, refl, refl)
 
-returns : tie.Need-returns
+more : (c : tie.In-loop Inv-loop μ-loop) → c .before .loop .i < length rows
+unfolding rows
+more c = c .loop-test .taken
+
+slice-aggregate-same-word : tie.Need-slice-aggregate-same-word Inv-loop μ-loop
+slice-aggregate-same-word c = search needs
+
+take-requires : tie.Need-take-requires Inv-loop μ-loop
+take-requires c κs = few-next (c .before .before .before .before .nth .ensures) (c .before .before .before .before .before .before .loop .inv .2) .0
+
+-- by this row, or by those behind it
+step :
+    (c : tie.After-same-word Inv-loop μ-loop) → let line = c .before .before .before .before .before .before .before .args .line .now in
+    let r = c .before .before .before .nth .result in
+    called rows line ≡ pick (c .same-word .result) (meant (r .1) (taken (r .2) line)) (called (drop (c .before .before .before .before .before .loop .i + 1) rows) line)
 unfolding called
-returns c = rw (is-show (c .before .before)) (c .make .ensures ∙ sym (made-few Show (c .before .read-arguments .result)) ∙ ap (made Show) (c .before .read-arguments .ensures))
+step c =
+    let line = c .before .before .before .before .before .before .before .args .line .now in
+    c .before .before .before .before .before .loop .inv .1 ∙ ap (λ (rs : List Row). called rs line) (c .before .before .before .nth .ensures) ∙ rw (c .same-word .ensures)
 
--- the test for "bar"
-no-bar : (c : tie.Else2) → begins (text "bar") (c .before .before .before .before .before .before .before .args .line .now) ≡ false
-unfolding text
-no-bar c = sym (c .before .begins2 .ensures) ∙ c .if2 .left
+returns : tie.Need-returns Inv-loop μ-loop
+returns c = c .mean .ensures ∙ ap (meant _) (c .before .take .ensures) ∙ sym (step (c .before .before .before) ∙ rw (c .before .before .if1 .taken))
 
-is-bar : (c : tie.Then2) → begins (text "bar") (c .before .before .before .before .before .before .before .args .line .now) ≡ true
-unfolding text
-is-bar c = sym (c .before .begins2 .ensures) ∙ c .if2 .taken
+loop-again : tie.Need-loop-again Inv-loop μ-loop
+loop-again c =
+    let l = c .before .before .before .before .before .before .loop in
+    (omega (arith, more (c .before .before .before .before .before)), step (c .before) ∙ rw (c .if1 .left), few-next (c .before .before .before .before .nth .ensures) (l .inv .2) .1)
 
-read-arguments-requires-2 : tie.Need-read-arguments-requires-2
-unfolding text
-read-arguments-requires-2 c κs = (begins-fits (text "bar") _ (is-bar c), omega arith)
-
-returns-2 : tie.Need-returns-2
-unfolding called
-returns-2 c = rw (no-show (c .before .before .before .before .before), is-bar (c .before .before)) (c .make2 .ensures ∙ sym (made-few Bar (c .before .read-arguments2 .result)) ∙ ap (made Bar) (c .before .read-arguments2 .ensures))
-
--- the test for "unbar"
-no-unbar : (c : tie.Else3) → begins (text "unbar") (c .before .before .before .before .before .before .before .before .before .before .args .line .now) ≡ false
-unfolding text
-no-unbar c = sym (c .before .begins3 .ensures) ∙ c .if3 .left
-
-is-unbar : (c : tie.Then3) → begins (text "unbar") (c .before .before .before .before .before .before .before .before .before .before .args .line .now) ≡ true
-unfolding text
-is-unbar c = sym (c .before .begins3 .ensures) ∙ c .if3 .taken
-
-read-arguments-requires-3 : tie.Need-read-arguments-requires-3
-unfolding text
-read-arguments-requires-3 c κs = (begins-fits (text "unbar") _ (is-unbar c), omega arith)
-
-returns-3 : tie.Need-returns-3
-unfolding called
-returns-3 c = rw (no-show (c .before .before .before .before .before .before .before .before), no-bar (c .before .before .before .before .before), is-unbar (c .before .before)) (c .make3 .ensures ∙ sym (made-few Unbar (c .before .read-arguments3 .result)) ∙ ap (made Unbar) (c .before .read-arguments3 .ensures))
-
--- the test for "limit"
-no-limit : (c : tie.Else4) → begins (text "limit") (c .before .before .before .before .before .before .before .before .before .before .before .before .before .args .line .now) ≡ false
-unfolding text
-no-limit c = sym (c .before .begins4 .ensures) ∙ c .if4 .left
-
-is-limit : (c : tie.Then4) → begins (text "limit") (c .before .before .before .before .before .before .before .before .before .before .before .before .before .args .line .now) ≡ true
-unfolding text
-is-limit c = sym (c .before .begins4 .ensures) ∙ c .if4 .taken
-
-read-arguments-requires-4 : tie.Need-read-arguments-requires-4
-unfolding text
-read-arguments-requires-4 c κs = (begins-fits (text "limit") _ (is-limit c), omega arith)
-
-returns-4 : tie.Need-returns-4
-unfolding called
-returns-4 c = rw (no-show (c .before .before .before .before .before .before .before .before .before .before .before), no-bar (c .before .before .before .before .before .before .before .before), no-unbar (c .before .before .before .before .before), is-limit (c .before .before)) (c .make4 .ensures ∙ sym (made-few Limit (c .before .read-arguments4 .result)) ∙ ap (made Limit) (c .before .read-arguments4 .ensures))
-
--- the test for "rating"
-no-rating : (c : tie.Else5) → begins (text "rating") (c .before .before .before .before .before .before .before .before .before .before .before .before .before .before .before .before .args .line .now) ≡ false
-unfolding text
-no-rating c = sym (c .before .begins5 .ensures) ∙ c .if5 .left
-
-is-rating : (c : tie.Then5) → begins (text "rating") (c .before .before .before .before .before .before .before .before .before .before .before .before .before .before .before .before .args .line .now) ≡ true
-unfolding text
-is-rating c = sym (c .before .begins5 .ensures) ∙ c .if5 .taken
-
-read-arguments-requires-5 : tie.Need-read-arguments-requires-5
-unfolding text
-read-arguments-requires-5 c κs = (begins-fits (text "rating") _ (is-rating c), omega arith)
-
-returns-5 : tie.Need-returns-5
-unfolding called
-returns-5 c = rw (no-show (c .before .before .before .before .before .before .before .before .before .before .before .before .before .before), no-bar (c .before .before .before .before .before .before .before .before .before .before .before), no-unbar (c .before .before .before .before .before .before .before .before), no-limit (c .before .before .before .before .before), is-rating (c .before .before)) (c .make5 .ensures ∙ sym (made-few Rating (c .before .read-arguments5 .result)) ∙ ap (made Rating) (c .before .read-arguments5 .ensures))
-
--- the test for "points"
-no-points : (c : tie.Else6) → begins (text "points") (c .before .before .before .before .before .before .before .before .before .before .before .before .before .before .before .before .before .before .before .args .line .now) ≡ false
-unfolding text
-no-points c = sym (c .before .begins6 .ensures) ∙ c .if6 .left
-
-is-points : (c : tie.Then6) → begins (text "points") (c .before .before .before .before .before .before .before .before .before .before .before .before .before .before .before .before .before .before .before .args .line .now) ≡ true
-unfolding text
-is-points c = sym (c .before .begins6 .ensures) ∙ c .if6 .taken
-
-read-arguments-requires-6 : tie.Need-read-arguments-requires-6
-unfolding text
-read-arguments-requires-6 c κs = (begins-fits (text "points") _ (is-points c), omega arith)
-
-returns-6 : tie.Need-returns-6
-unfolding called
-returns-6 c = rw (no-show (c .before .before .before .before .before .before .before .before .before .before .before .before .before .before .before .before .before), no-bar (c .before .before .before .before .before .before .before .before .before .before .before .before .before .before), no-unbar (c .before .before .before .before .before .before .before .before .before .before .before), no-limit (c .before .before .before .before .before .before .before .before), no-rating (c .before .before .before .before .before), is-points (c .before .before)) (c .make6 .ensures ∙ sym (made-few Points (c .before .read-arguments6 .result)) ∙ ap (made Points) (c .before .read-arguments6 .ensures))
-
-returns-7 : tie.Need-returns-7
-unfolding called
-returns-7 c = rw (no-show (c .before .before .before .before .before .before .before .before .before .before .before .before .before .before .before), no-bar (c .before .before .before .before .before .before .before .before .before .before .before .before), no-unbar (c .before .before .before .before .before .before .before .before .before), no-limit (c .before .before .before .before .before .before), no-rating (c .before .before .before), no-points (c))
+returns-2 : tie.Need-returns-2 Inv-loop μ-loop
+unfolding rows called
+returns-2 c = sym (c .before .loop .inv .1 ∙ rw (drop-of-length-le rows {i = c .before .loop .i} (c .loop-test .left)))
 
 pub called-spec : {M : Type 1} → statement M
 called-spec =
     tie.close
     (tie.spec
-    (λ c. search needs)
-    (λ c κs. search needs)
-    read-arguments-requires
-    (λ c κs. search needs)
+    Inv-loop
+    μ-loop
+    loop-holds
+    (λ c κs. more c)
+    slice-aggregate-same-word
+    (λ c κs. tt)
+    take-requires
+    (λ c κs. tt)
     returns
-    (λ c. search needs)
-    (λ c κs. search needs)
-    read-arguments-requires-2
-    (λ c κs. search needs)
-    returns-2
-    (λ c. search needs)
-    (λ c κs. search needs)
-    read-arguments-requires-3
-    (λ c κs. search needs)
-    returns-3
-    (λ c. search needs)
-    (λ c κs. search needs)
-    read-arguments-requires-4
-    (λ c κs. search needs)
-    returns-4
-    (λ c. search needs)
-    (λ c κs. search needs)
-    read-arguments-requires-5
-    (λ c κs. search needs)
-    returns-5
-    (λ c. search needs)
-    (λ c κs. search needs)
-    read-arguments-requires-6
-    (λ c κs. search needs)
-    returns-6
-    returns-7)
+    (λ c. omega arith)
+    (λ c. omega (arith, more (c .before .before .before .before .before)))
+    loop-again
+    returns-2)

@@ -1,5 +1,5 @@
--- `command::first_length` meets its contract. Assumes nothing.
-use Prim.Native.Nat.{ℕ, _+_, _-_, _≤_}
+-- `command::first_length` meets its contract.
+use Prim.Native.Nat.{ℕ, _+_, _≤_}
 use mathlib.Core.Path.{_≡_, sym, ap, _∙_}
 use mathlib.Core.List.{List}
 use native.Mathlib.Omega.{arith}
@@ -30,7 +30,7 @@ add-result c = omega (arith, fits c, c .before .before .before .before .good)
 returns-2 : tie.Need-returns-2
 returns-2 c =
     let bs = c .before .before .before .before .args .bytes .now in
-    let rest = sym (drop-drop (c .word-length .result) 1 bs) ∙ ap (λ (n : ℕ). drop n (drop 1 bs)) (size c) ∙ word-dropped (drop 1 bs) in
+    let rest = sym (drop-drop (c .word-length .result) 1 bs) ∙ word-dropped (drop 1 bs) _ (size c) in
     (fits c, rest ∙ sym (after-some bs (omega arith)))
 
 pub first-length-spec : {M : Type 1} → statement M

@@ -1,11 +1,9 @@
--- `command::first_number` meets its contract. Assumes nothing.
-use Prim.Native.Nat.{ℕ, _-_}
-use mathlib.Core.Path.{_≡_, sym, ap, _∙_}
+-- `command::first_number` meets its contract.
+use mathlib.Core.Path.{sym, ap, _∙_}
 use native.Mathlib.Omega.{arith}
-use lib.ListN.{length, take, drop}
 use Rattle.base.proofs.Buffers.{whole-tail}
 use Rattle.command.specs.Reading.{wordOf, numberIn, numberOf}
-use Rattle.command.proofs.Laws.{first-none, first-other, first-blank, word-taken}
+use Rattle.command.proofs.Laws.{first-none, first-other, first-blank, word-taken, word-size}
 use borrow.Author.Needs.{needs}
 use Rattle.command.proofs.first_number.Statement.{statement}
 use Rattle.command.proofs.first_number.Tie as tie
@@ -18,21 +16,14 @@ returns-2 : tie.Need-returns-2
 unfolding numberOf
 returns-2 c = sym (first-other _ (omega arith) (c .if2 .taken))
 
--- the word that was found, in what follows the blank
-word : (c : tie.After-word-length) → let bs = c .before .before .before .before .before .before .args .bytes .now in take (c .word-length .result) (take (length bs - 1) (drop 1 bs)) ≡ wordOf (take (length bs - 1) (drop 1 bs))
-word c =
-    let bs = c .before .before .before .before .before .before .args .bytes .now in
-    let rest = take (length bs - 1) (drop 1 bs) in
-    ap (λ (n : ℕ). take n rest) (c .word-length .ensures) ∙ word-taken rest
-
 slice-aggregate-read-number : tie.Need-slice-aggregate-read-number
-slice-aggregate-read-number c = c .before .word-length .ensures ∙ sym (ap length (word (c .before)))
+slice-aggregate-read-number c = word-size _ _ (c .before .word-length .ensures)
 
 returns-3 : tie.Need-returns-3
 returns-3 c =
     let bs = c .before .before .before .before .before .before .before .before .args .bytes .now in
-    let e = word (c .before .before) ∙ ap wordOf (whole-tail bs 1) in
-    c .read-number .ensures ∙ ap numberIn e ∙ sym (first-blank bs (omega arith) (c .before .before .before .before .if2 .left))
+    let word = word-taken _ _ (c .before .before .word-length .ensures) ∙ ap wordOf (whole-tail bs 1) in
+    c .read-number .ensures ∙ ap numberIn word ∙ sym (first-blank bs (omega arith) (c .before .before .before .before .if2 .left))
 
 pub first-number-spec : {M : Type 1} → statement M
 first-number-spec =

@@ -1,4 +1,4 @@
--- `command::read_arguments` meets its contract: the numbers read and those to come are all. Assumes nothing.
+-- `command::read_arguments` meets its contract: the numbers read and those to come are all.
 use Prim.Native.Nat.{suc, _+_, _-_, _≤_}
 use mathlib.Core.List.{[], _∷_, _++_}
 use mathlib.Core.Option.{some}
@@ -6,23 +6,24 @@ use mathlib.Core.Path.{_≡_, refl, sym, ap, _∙_}
 use native.Mathlib.Nat.{sub-zero}
 use native.Mathlib.Numerals.{add-one}
 use native.Mathlib.Omega.{arith}
+use lib.Dec.{leb}
 use lib.ListN.{length, take, drop, set, length-set, length-drop}
 use lib.Seq.{take-suc-set, drop-drop}
 use borrow.Author.Needs.{needs}
 use Rattle.base.proofs.Buffers.{whole-tail}
-use Rattle.command.specs.Reading.{firstNumber, afterNumber, arguments, numberOf, numbersOf}
-use Rattle.command.proofs.Laws.{prefixed, prefixed-none, arguments-more, arguments-stop, arguments-end}
+use Rattle.command.specs.Reading.{firstNumber, afterNumber, arguments, placed, numberOf, numbersOf}
+use Rattle.command.proofs.Laws.{Blank, blank-all, blank-set, at-front, placed-only, prefixed, prefixed-none, arguments-more, arguments-stop, arguments-end}
 use Rattle.command.proofs.read_arguments.Statement.{statement}
 use Rattle.command.proofs.read_arguments.Tie as tie
 
 abbrev Inv-loop : tie.InvT-loop
-Inv-loop line from n numbers₀ at₀ i₀ numbers at i = (i ≤ n) × (at ≤ length line) × (length numbers ≡ 4) × (arguments n (drop from line) ≡ prefixed (take i numbers) (arguments (n - i) (drop at line)))
+Inv-loop line from n numbers₀ at₀ i₀ numbers at i = (i ≤ n) × (at ≤ length line) × (length numbers ≡ 4) × (arguments n (drop from line) ≡ prefixed (take i numbers) (arguments (n - i) (drop at line))) × Blank i numbers
 
 abbrev μ-loop : tie.MeasureT-loop
 μ-loop line from n numbers₀ at₀ i₀ numbers at i = n - i
 
 loop-holds : tie.Need-loop-holds Inv-loop μ-loop
-loop-holds c = (omega arith, omega (arith, c .before .pre), refl, rw sub-zero (sym (prefixed-none _)))
+loop-holds c = (omega arith, omega (arith, c .before .pre), refl, rw sub-zero (sym (prefixed-none _)), blank-all 4)
 
 sub-first-number : tie.Need-sub-first-number Inv-loop μ-loop
 sub-first-number c = c .before .loop .inv .1
@@ -68,15 +69,15 @@ loop-again c =
     let rest : afterNumber (drop (l .at) s) ≡ drop (l .at + r) s = sym (rw (whole-tail s (l .at)) at (c .first-length .ensures .1)) ∙ drop-drop r (l .at) s in
     let kept : take (l .i + 1) (set (l .numbers) (l .i) v) ≡ take (l .i) (l .numbers) ++ (v ∷ []) = rw (add-one (l .i)) (take-suc-set (l .numbers) (l .i) v (omega (arith, l .inv .2))) in
     let more = left (c .before .before .before .before .before .before .before) ∙ arguments-more (n - (l .i + 1)) (drop (l .at) s) v (take (l .i) (l .numbers)) read in
-    (omega arith, fits c, length-set (l .numbers) (l .i) v ∙ l .inv .2, rw (kept, sym rest) more)
+    (omega arith, fits c, length-set (l .numbers) (l .i) v ∙ l .inv .2, rw (kept, sym rest) more, blank-set (l .numbers) (l .i) v (l .inv .4))
 
 returns : tie.Need-returns Inv-loop μ-loop
-unfolding numberOf numbersOf
+unfolding numberOf numbersOf placed
 returns c =
     let l = c .before .before .before .before .before .loop in
     let a = c .before .before .before .before .before .before .before .args in
     let none-read = sym (first-at (c .before .before)) ∙ ap numberOf (c .enum-told .given .1) in
-    sym (left (c .before .before .before .before) ∙ arguments-stop (a .n - (l .i + 1)) (drop (l .at) (a .line .now)) (take (l .i) (l .numbers)) none-read)
+    sym (ap placed (left (c .before .before .before .before) ∙ arguments-stop (a .n - (l .i + 1)) (drop (l .at) (a .line .now)) (take (l .i) (l .numbers)) none-read))
 
 returns-2 : tie.Need-returns-2 Inv-loop μ-loop
 unfolding numbersOf
@@ -84,9 +85,8 @@ returns-2 c =
     let l = c .before .loop in
     let a = c .before .before .before .args in
     let none : a .n - l .i ≡ 0 = omega arith in
-    let all : l .i ≡ a .n = omega arith in
     let end = rw none at (l .inv .3) ∙ arguments-end (a .line .now) (l .at) (take (l .i) (l .numbers)) in
-    sym (rw all at end)
+    rw (at-front (l .i) (l .numbers) (l .inv .4)) (sym (ap placed end ∙ placed-only (leb (length (a .line .now)) (l .at)) (take (l .i) (l .numbers))))
 
 pub read-arguments-spec : {M : Type 1} → statement M
 read-arguments-spec =

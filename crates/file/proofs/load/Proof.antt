@@ -6,7 +6,7 @@ use native.Mathlib.Omega.{arith}
 use lib.ListN.{length, take, drop, length-drop, length-replicate}
 use lib.Seq.{take-all, take-add}
 use Rattle.rules.specs.File.{refused, found, readRecord, readRecords, decode}
-use Rattle.rules.specs.Format.{slotOf}
+use Rattle.rules.specs.Format.{slotOf, fileRecords}
 use Rattle.rules.specs.declared.Slot.{Slot}
 use Rattle.grammar.specs.Places.{startOf}
 use Rattle.grammar.proofs.Slots.{ready, start-next}
@@ -23,41 +23,41 @@ use Rattle.rules.specs.District.{districtPlaces}
 
 abbrev Inv-loop : tie.InvT-loop
 Inv-loop file d₀ at₀ place₀ n₀ d at place n =
-    (n ≤ 83)
-    × (decode file ≡ readRecords (83 - n) n (take place d) (drop at file))
+    (n ≤ fileRecords)
+    × (decode file ≡ readRecords (fileRecords - n) n (take place d) (drop at file))
     × (place ≡ startOf n)
     × (at ≤ length file)
     × (length d ≡ districtPlaces)
 
 abbrev μ-loop : tie.MeasureT-loop
-μ-loop file d₀ at₀ place₀ n₀ d at place n = 83 - n
+μ-loop file d₀ at₀ place₀ n₀ d at place n = fileRecords - n
 
 -- what a reader's answer says of the records from the n-th on
-module _ (n place at : ℕ) (slot : Slot) (d next file : List ℕ) (res : Reading) (h : n < 83) (e : slot ≡ slotOf n) (r : ReadInto (readRecord (take place d) slot (drop at file)) place (slot .places) file d next res) where
+module _ (n place at : ℕ) (slot : Slot) (d next file : List ℕ) (res : Reading) (h : n < fileRecords) (e : slot ≡ slotOf n) (r : ReadInto (readRecord (take place d) slot (drop at file)) place (slot .places) file d next res) where
   answer : readRecord (take place d) (slotOf n) (drop at file) ≡ readOf res (take (slot .places) (drop place next)) file
   answer = ap (λ (s : Slot). readRecord (take place d) s (drop at file)) (sym e) ∙ r .same
 
-  took : (k : ℕ) → res ≡ At k → readRecords (83 - n) n (take place d) (drop at file) ≡ readRecords (83 - (n + 1)) (n + 1) (take (place + slot .places) next) (drop k file)
+  took : (k : ℕ) → res ≡ At k → readRecords (fileRecords - n) n (take place d) (drop at file) ≡ readRecords (fileRecords - (n + 1)) (n + 1) (take (place + slot .places) next) (drop k file)
   took k q =
       let vs = take (slot .places) (drop place next) in
-      ap (λ (m : ℕ). readRecords m n (take place d) (drop at file)) (less 83 n h)
-      ∙ records-found (83 - (n + 1)) n (take place d) (drop at file) vs (drop k file) (answer ∙ ap (λ (x : Reading). readOf x vs file) q)
-      ∙ ap (λ (l : List ℕ). readRecords (83 - (n + 1)) (n + 1) l (drop k file)) (ap (λ (l : List ℕ). l ++ vs) (sym (r .before)) ∙ sym (take-add place (slot .places) next))
+      ap (λ (m : ℕ). readRecords m n (take place d) (drop at file)) (less fileRecords n h)
+      ∙ records-found (fileRecords - (n + 1)) n (take place d) (drop at file) vs (drop k file) (answer ∙ ap (λ (x : Reading). readOf x vs file) q)
+      ∙ ap (λ (l : List ℕ). readRecords (fileRecords - (n + 1)) (n + 1) l (drop k file)) (ap (λ (l : List ℕ). l ++ vs) (sym (r .before)) ∙ sym (take-add place (slot .places) next))
 
-  refuses : (k : ℕ) → res ≡ Refused k → readRecords (83 - n) n (take place d) (drop at file) ≡ refused k
+  refuses : (k : ℕ) → res ≡ Refused k → readRecords (fileRecords - n) n (take place d) (drop at file) ≡ refused k
   refuses k q =
-      ap (λ (m : ℕ). readRecords m n (take place d) (drop at file)) (less 83 n h)
-      ∙ records-refused (83 - (n + 1)) n (take place d) (drop at file) k (answer ∙ ap (λ (x : Reading). readOf x (take (slot .places) (drop place next)) file) q)
+      ap (λ (m : ℕ). readRecords m n (take place d) (drop at file)) (less fileRecords n h)
+      ∙ records-refused (fileRecords - (n + 1)) n (take place d) (drop at file) k (answer ∙ ap (λ (x : Reading). readOf x (take (slot .places) (drop place next)) file) q)
 
 -- after the last record
-last : (c : tie.After-loop Inv-loop μ-loop) → c .before .loop .n ≡ 83
+last : (c : tie.After-loop Inv-loop μ-loop) → c .before .loop .n ≡ fileRecords
 last c = omega arith
 
 ended : (c : tie.After-loop Inv-loop μ-loop) → let l = c .before .loop in let file = c .before .before .before .args .file .now in decode file ≡ readRecords 0 (l .n) (take (l .place) (l .d)) (drop (l .at) file)
 ended c =
     let l = c .before .loop in
     let file = c .before .before .before .args .file .now in
-    let z : 83 - l .n ≡ 0 = omega arith in
+    let z : fileRecords - l .n ≡ 0 = omega arith in
     l .inv .1 ∙ ap (λ (m : ℕ). readRecords m (l .n) (take (l .place) (l .d)) (drop (l .at) file)) z
 
 loop-holds : tie.Need-loop-holds Inv-loop μ-loop

@@ -1,13 +1,14 @@
 -- `listing::put_number` meets its contract; the number falls at each call of itself. Assumes nothing.
-use Prim.Native.Nat.{ℕ, _+_, _/_, _%_, _≤_, _<_}
+use Prim.Native.Nat.{ℕ, _+_, _/_, _%_, _^_, _≤_, _<_}
 use mathlib.Core.Path.{_≡_, ap, _∙_}
-use mathlib.Core.List.{[], _∷_, _++_}
+use mathlib.Core.List.{List, [], _∷_, _++_}
 use native.Mathlib.Omega.{arith}
-use lib.ListN.{length, length-set, length-append}
+use lib.ListN.{length, take, length-set, length-append}
 use borrow.Fn.Kinds.{In}
 use borrow.Fn.PlainCycle.{Measures, is, falls, and}
-use Rattle.base.specs.Text.{decimal}
+use Rattle.base.specs.Text.{decimal, Writes, Put}
 use Rattle.base.proofs.Buffers.{written-none, written-one}
+use Rattle.base.proofs.Digits.{put-writes}
 use Rattle.base.proofs.Text.{decimal-small, decimal-large, put-front, put-all}
 use Rattle.listing.proofs.put_number.Reads as put-number
 use Rattle.listing.proofs.put_number.Kinds as put-number-kinds
@@ -38,10 +39,14 @@ slice-write-out t c =
 same-length : (t : ℕ) → lts.Need-same-length (Below t, put-number.Post) (At t) put-number.Post
 same-length t c = simp length-set
 
+-- the digits are put, so they read back
+read-back : (n : ℕ) {old new : List ℕ} {r : ℕ} → n < 2 ^ 64 → Put (decimal n) old new r → Put (decimal n) old new r × Writes (take r new) n
+read-back n l p = (p, put-writes l p)
+
 returns : (t : ℕ) → lts.Need-returns (Below t, put-number.Post) (At t) put-number.Post
 returns t c =
     let a = c .before .before .args in
-    rw (decimal-small (a .value) (omega arith)) (put-all (written-one (48 + a .value) [] (written-none (a .out .now) ((48 + a .value) ∷ [])) (slice-write-out t c)))
+    read-back (a .value) (omega arith) (rw (decimal-small (a .value) (omega arith)) (put-all (written-one (48 + a .value) [] (written-none (a .out .now) ((48 + a .value) ∷ [])) (slice-write-out t c))))
 
 -- past the test: the digits of the tenth and one more, and their number
 large : (t : ℕ) (c : lts.Else1 (Below t, put-number.Post) (At t) put-number.Post) → let v = c .before .before .args .value in decimal v ≡ decimal (v / 10) ++ ((48 + v % 10) ∷ [])
@@ -64,7 +69,7 @@ add-out-2 t c = omega arith
 room : (t : ℕ) (c : lts.After-slice-known2 (Below t, put-number.Post) (At t) put-number.Post) → c .before .before .put-number .result < length (c .before .before .put-number .last .0)
 room t c =
     let p = c .before .before .put-number in
-    omega (arith, longer t (c .before .before .before .before), p .ensures .count, p .kept .0)
+    omega (arith, longer t (c .before .before .before .before), p .ensures .0 .count, p .kept .0)
 
 slice-write-out-2 : (t : ℕ) → lts.Need-slice-write-out-2 (Below t, put-number.Post) (At t) put-number.Post
 slice-write-out-2 t c = omega (arith, room t c)
@@ -80,7 +85,7 @@ returns-2 t c =
     let e = c .before .before .before .before in
     let a = e .before .before .args in
     let p = c .before .before .put-number in
-    rw (large t e) (put-all (written-one (48 + a .value % 10) [] (put-front (decimal (a .value / 10)) ((48 + a .value % 10) ∷ []) (p .ensures) (omega (arith, longer t e))) (room t c)))
+    read-back (a .value) (omega arith) (rw (large t e) (put-all (written-one (48 + a .value % 10) [] (put-front (decimal (a .value / 10)) ((48 + a .value % 10) ∷ []) (p .ensures .0) (omega (arith, longer t e))) (room t c))))
 
 pub +put-number-spec : {M : Type 1} → statement M
 +put-number-spec =

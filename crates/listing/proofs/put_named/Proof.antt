@@ -30,7 +30,7 @@ put-number-requires : tie.Need-put-number-requires
 put-number-requires c κs = last-fits (after-word (c .before .before .before)) (c .before .before .before .before .before .before .before .pre)
 
 returns : tie.Need-returns
-returns c = put-last (after-word (c .before .before .before .before .before .before)) (c .before .before .before .before .before .before .before .before .before .before .pre) (c .before .before .put-number .ensures)
+returns c = put-last (after-word (c .before .before .before .before .before .before)) (c .before .before .before .before .before .before .before .before .before .before .pre) (c .before .before .put-number .ensures .0)
 
 add-result : tie.Need-add-result
 add-result c =

@@ -20,7 +20,7 @@ unfolding segmentLine text
 after-first c =
     let s = c .before .before .before in
     let a = s .args in
-    put-front (decimal (a .segment)) (line (text " ") (a .strategy)) (c .put-number .ensures) (front-fits (decimal (a .segment)) (line (text " ") (a .strategy)) (s .pre))
+    put-front (decimal (a .segment)) (line (text " ") (a .strategy)) (c .put-number .ensures .0) (front-fits (decimal (a .segment)) (line (text " ") (a .strategy)) (s .pre))
 
 sub-put-line : tie.Need-sub-put-line
 sub-put-line c = after-first (c .before .before) .room

@@ -4,14 +4,14 @@ use Prim.Native.Nat.{_≤_}
 use mathlib.Core.Path.{_≡_, refl, sym, _∙_}
 use lib.ListN.{length}
 use lib.Seq.{length-take-le}
-use Rattle.panel.specs.Lines.{Reached}
+use Rattle.panel.specs.Lines.{keptBytes, Reached}
 use Rattle.panel.proofs.Reached.{reached-fresh}
 use borrow.Author.Needs.{needs}
 use Rattle.panel.proofs.main.Statement.{statement}
 use Rattle.panel.proofs.main.Tie as tie
 
 abbrev Inv-loop : tie.InvT-loop
-Inv-loop unit₀ line₀ n₀ turns₀ unit line n turns = (length line ≡ 513) × (n ≤ 513) × Reached unit
+Inv-loop unit₀ line₀ n₀ turns₀ unit line n turns = (length line ≡ keptBytes) × (n ≤ keptBytes) × Reached unit
 
 abbrev μ-loop : tie.MeasureT-loop
 μ-loop unit₀ line₀ n₀ turns₀ unit line n turns = turns
@@ -28,7 +28,7 @@ feed-requires c κs = let l = c .before .before .before .before .before .before 
 loop-again : tie.Need-loop-again Inv-loop μ-loop
 loop-again c =
     let f = c .before .before .feed in
-    let line : length (f .last .1 .0) ≡ 513 = f .kept .1 .0 ∙ c .before .before .before .before .before .before .before .before .before .before .before .before .before .loop .inv .0 in
+    let line : length (f .last .1 .0) ≡ keptBytes = f .kept .1 .0 ∙ c .before .before .before .before .before .before .before .before .before .before .before .before .before .loop .inv .0 in
     (line, omega (arith, f .ensures .within), f .ensures .reached)
 
 last-line : (c : tie.At-loop Inv-loop μ-loop) → c .loop .length ≤ length (c .loop .line)

@@ -12,19 +12,19 @@ returns c = rw (c .before .match .keys1, c .load .ensures)
 
 returns-2 : tie.Need-returns-2
 unfolding callOf outcomeOf
-returns-2 c = rw (c .before .match .keys2, c .bar .ensures)
+returns-2 c = rw (c .before .match .keys2, c .alter .ensures)
 
 returns-3 : tie.Need-returns-3
 unfolding callOf outcomeOf
-returns-3 c = rw (c .before .match .keys3, c .unbar .ensures)
+returns-3 c = rw (c .before .match .keys3, c .alter2 .ensures)
 
 returns-4 : tie.Need-returns-4
 unfolding callOf outcomeOf
-returns-4 c = rw (c .before .match .keys4, c .set-limit .ensures)
+returns-4 c = rw (c .before .match .keys4, c .alter3 .ensures)
 
 returns-5 : tie.Need-returns-5
 unfolding callOf outcomeOf
-returns-5 c = rw (c .before .match .keys5, c .set-rating .ensures)
+returns-5 c = rw (c .before .match .keys5, c .alter4 .ensures)
 
 returns-6 : tie.Need-returns-6
 unfolding callOf outcomeOf

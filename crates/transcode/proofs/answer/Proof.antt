@@ -1,4 +1,4 @@
--- `transcode::answer` meets its contract: a refusal is at most 5, and no file is longer than 3,788 bytes. Assumes nothing.
+-- `transcode::answer` meets its contract: a refusal is a byte, and no file is longer than the buffer. Assumes nothing.
 use mathlib.Core.Path.{ap}
 use native.Mathlib.Omega.{arith}
 use borrow.Author.Needs.{needs}

@@ -2,18 +2,18 @@
 use lib.ListN.{replicate, length-replicate}
 use borrow.Author.Needs.{needs}
 use Rattle.base.specs.Text.{Put}
-use Rattle.rules.specs.File.{encode}
+use Rattle.rules.specs.File.{encode, longestFile}
 use Rattle.listing.proofs.Laws.{put-within, put-part}
 use Rattle.transcode.proofs.Laws.{file-put, put-taken}
 use Rattle.transcode.proofs.put_district.Statement.{statement}
 use Rattle.transcode.proofs.put_district.Tie as tie
 
 -- the export has room, and puts the file
-filed : (c : tie.After-length-in) → let start = c .before .before .before .before .before in Put (encode (start .args .d)) (replicate 4096 0) (c .before .before .export .last .1 .0) (c .length-in .result)
+filed : (c : tie.After-length-in) → let start = c .before .before .before .before .before in Put (encode (start .args .d)) (replicate longestFile 0) (c .before .before .export .last .1 .0) (c .length-in .result)
 filed c =
     let start = c .before .before .before .before .before in
     let e = c .before .before .export in
-    file-put (start .args .d) (replicate 4096 0) (e .last .1 .0) (e .result) (c .length-in .result) (rw (length-replicate) (start .pre .1)) (e .ensures) (c .length-in .ensures)
+    file-put (start .args .d) (replicate longestFile 0) (e .last .1 .0) (e .result) (c .length-in .result) (rw (length-replicate) (start .pre .1)) (e .ensures) (c .length-in .ensures)
 
 array-share-prefix-file : tie.Need-array-share-prefix-file
 array-share-prefix-file c = put-within (filed (c .before))

@@ -1,15 +1,16 @@
 -- `unit::fresh` meets its contract. Assumes nothing.
 use borrow.Author.Needs.{needs}
 use Rattle.rules.specs.Calls.{freshUnit}
-use Rattle.file.proofs.Forth.{byte-for-byte}
-use Rattle.theorems.proofs.Settled.{settled, points-settled}
-use Rattle.unit.proofs.Demands.{the-rules, one-claim}
+use Rattle.demands.proofs.EveryAnswer.{every-answer, every-points}
+use Rattle.demands.proofs.EveryFile.{every-file}
+use Rattle.demands.proofs.OneClaim.{one-claim}
+use Rattle.demands.proofs.TheRules.{the-rules}
 use Rattle.unit.proofs.fresh.Statement.{statement}
 use Rattle.unit.proofs.fresh.Tie as tie
 
 returns : tie.Need-returns
 unfolding freshUnit
-returns c = (cc, (settled, (points-settled, (the-rules, (byte-for-byte, one-claim)))))
+returns c = (cc, (every-answer, (every-points, (the-rules, (every-file, one-claim)))))
 
 pub fresh-spec : {M : Type 1} → statement M
 fresh-spec = tie.close (tie.spec (λ c κs. search needs) (λ c κs. search needs) returns)

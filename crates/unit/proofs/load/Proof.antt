@@ -2,7 +2,7 @@
 use borrow.Author.Needs.{needs}
 use mathlib.Core.Path.{_∙_}
 use Rattle.rules.specs.Calls.{loadOf}
-use Rattle.unit.proofs.Demands.{answered-same}
+use Rattle.unit.proofs.Laws.{answered-same}
 use Rattle.unit.proofs.load.Statement.{statement}
 use Rattle.unit.proofs.load.Tie as tie
 

@@ -7,6 +7,7 @@ use lib.ListN.{drop}
 use borrow.Author.Tests.{not-true, not-false}
 use Rattle.rules.specs.File.{recordsInRange}
 use Rattle.rules.specs.declared.Slot.{Slot}
+use Rattle.rules.specs.Format.{fileRecords}
 use Rattle.grammar.specs.Places.{startOf}
 use Rattle.grammar.proofs.Slots.{ready, start-next}
 use Rattle.file.proofs.Steps.{ranges-step}
@@ -15,19 +16,19 @@ use Rattle.file.proofs.ranges.records_in_range.Statement.{statement}
 use Rattle.file.proofs.ranges.records_in_range.Tie as tie
 
 abbrev Inv-loop : tie.InvT-loop
-Inv-loop d place₀ n₀ place n = (n ≤ 83) × (recordsInRange 83 d 0 d ≡ recordsInRange (83 - n) d n (drop place d)) × (place ≡ startOf n)
+Inv-loop d place₀ n₀ place n = (n ≤ fileRecords) × (recordsInRange fileRecords d 0 d ≡ recordsInRange (fileRecords - n) d n (drop place d)) × (place ≡ startOf n)
 
 abbrev μ-loop : tie.MeasureT-loop
-μ-loop d place₀ n₀ place n = 83 - n
+μ-loop d place₀ n₀ place n = fileRecords - n
 
-tested : (c : tie.After-numbers-in-range Inv-loop μ-loop) (t : Bool) → c .numbers-in-range .result ≡ t → let l = c .before .before .before .loop in let d = c .before .before .before .before .args .d .now in recordsInRange 83 d 0 d ≡ (t && recordsInRange (83 - (l .n + 1)) d (l .n + 1) (drop (l .place + c .before .slot-at .result .places) d))
+tested : (c : tie.After-numbers-in-range Inv-loop μ-loop) (t : Bool) → c .numbers-in-range .result ≡ t → let l = c .before .before .before .loop in let d = c .before .before .before .before .args .d .now in recordsInRange fileRecords d 0 d ≡ (t && recordsInRange (fileRecords - (l .n + 1)) d (l .n + 1) (drop (l .place + c .before .slot-at .result .places) d))
 tested c t e =
     let l = c .before .before .before .loop in
     let d = c .before .before .before .before .args .d .now in
     let s = c .before .slot-at in
     l .inv .1
     ∙ ranges-step d (l .n) (l .place) (s .result) (omega arith) (s .ensures)
-    ∙ ap (λ (t : Bool). t && recordsInRange (83 - (l .n + 1)) d (l .n + 1) (drop (l .place + s .result .places) d)) (sym (c .numbers-in-range .ensures) ∙ e)
+    ∙ ap (λ (t : Bool). t && recordsInRange (fileRecords - (l .n + 1)) d (l .n + 1) (drop (l .place + s .result .places) d)) (sym (c .numbers-in-range .ensures) ∙ e)
 
 loop-holds : tie.Need-loop-holds Inv-loop μ-loop
 loop-holds c = (omega arith, refl, refl)
@@ -60,7 +61,7 @@ unfolding recordsInRange
 returns-2 c =
     let l = c .before .loop in
     let d = c .before .before .args .d .now in
-    let z : 83 - l .n ≡ 0 = omega arith in
+    let z : fileRecords - l .n ≡ 0 = omega arith in
     sym (l .inv .1 ∙ ap (λ (m : ℕ). recordsInRange m d (l .n) (drop (l .place) d)) z)
 
 pub records-in-range-spec : {M : Type 1} → statement M

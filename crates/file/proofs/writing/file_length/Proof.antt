@@ -6,6 +6,7 @@ use native.Mathlib.Omega.{arith}
 use lib.ListN.{length, length-append}
 use Rattle.rules.specs.File.{recordBytes, recordsBytes, encode}
 use Rattle.rules.specs.declared.Slot.{Slot}
+use Rattle.rules.specs.Format.{fileRecords}
 use Rattle.grammar.specs.Places.{startOf}
 use Rattle.grammar.proofs.Slots.{few-places, start-next, ready}
 use Rattle.file.proofs.Steps.{records-step, length-records}
@@ -14,17 +15,17 @@ use Rattle.file.proofs.writing.file_length.Statement.{statement}
 use Rattle.file.proofs.writing.file_length.Tie as tie
 
 abbrev Inv-loop : tie.InvT-loop
-Inv-loop d sum₀ place₀ n₀ sum place n = (n ≤ 83) × (sum + length (recordsBytes (83 - n) d n place) ≡ length (encode d)) × (place ≡ startOf n)
+Inv-loop d sum₀ place₀ n₀ sum place n = (n ≤ fileRecords) × (sum + length (recordsBytes (fileRecords - n) d n place) ≡ length (encode d)) × (place ≡ startOf n)
 
 abbrev μ-loop : tie.MeasureT-loop
-μ-loop d sum₀ place₀ n₀ sum place n = 83 - n
+μ-loop d sum₀ place₀ n₀ sum place n = fileRecords - n
 
-left : (c : tie.After-record-length Inv-loop μ-loop) → let l = c .before .before .before .loop in let a = c .before .before .before .before .args in l .sum + c .record-length .result + length (recordsBytes (83 - (l .n + 1)) (a .d .now) (l .n + 1) (l .place + c .before .slot-at .result .places)) ≡ length (encode (a .d .now))
+left : (c : tie.After-record-length Inv-loop μ-loop) → let l = c .before .before .before .loop in let a = c .before .before .before .before .args in l .sum + c .record-length .result + length (recordsBytes (fileRecords - (l .n + 1)) (a .d .now) (l .n + 1) (l .place + c .before .slot-at .result .places)) ≡ length (encode (a .d .now))
 left c =
     let l = c .before .before .before .loop in
     let d = c .before .before .before .before .args .d .now in
     let s = c .before .slot-at in
-    omega (arith, c .record-length .ensures, ap length (records-step d (l .n) (l .place) (s .result) (omega arith) (s .ensures)) ∙ length-append (recordBytes d (s .result) (l .place)) (recordsBytes (83 - (l .n + 1)) d (l .n + 1) (l .place + s .result .places)))
+    omega (arith, c .record-length .ensures, ap length (records-step d (l .n) (l .place) (s .result) (omega arith) (s .ensures)) ∙ length-append (recordBytes d (s .result) (l .place)) (recordsBytes (fileRecords - (l .n + 1)) d (l .n + 1) (l .place + s .result .places)))
 
 loop-holds : tie.Need-loop-holds Inv-loop μ-loop
 unfolding encode
@@ -36,7 +37,7 @@ record-length-requires c κs = omega (arith, few-places (c .before .before .loop
 add-sum : tie.Need-add-sum Inv-loop μ-loop
 unfolding encode
 add-sum c =
-    omega (arith, left c, length-records 83 (c .before .before .before .before .args .d .now) 0 0)
+    omega (arith, left c, length-records fileRecords (c .before .before .before .before .args .d .now) 0 0)
 
 add-place : tie.Need-add-place Inv-loop μ-loop
 add-place c =
@@ -53,7 +54,7 @@ unfolding recordsBytes
 returns c =
     let l = c .before .loop in
     let a = c .before .before .args in
-    let z : 83 - l .n ≡ 0 = omega arith in
+    let z : fileRecords - l .n ≡ 0 = omega arith in
     omega (arith, l .inv .1, ap (λ (m : ℕ). length (recordsBytes m (a .d .now) (l .n) (l .place))) z)
 
 pub file-length-spec : {M : Type 1} → statement M

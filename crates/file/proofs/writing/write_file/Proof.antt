@@ -7,6 +7,7 @@ use lib.ListN.{length, length-drop}
 use Rattle.base.proofs.Buffers.{Written, whole-tail, tail-room, written-none, written-more, written-all}
 use Rattle.rules.specs.File.{recordBytes, recordsBytes, encode}
 use Rattle.rules.specs.declared.Slot.{Slot}
+use Rattle.rules.specs.Format.{fileRecords}
 use Rattle.grammar.specs.Places.{startOf}
 use Rattle.grammar.proofs.Slots.{ready, start-next}
 use Rattle.file.proofs.Steps.{records-step}
@@ -15,13 +16,13 @@ use Rattle.file.proofs.writing.write_file.Statement.{statement}
 use Rattle.file.proofs.writing.write_file.Tie as tie
 
 abbrev Inv-loop : tie.InvT-loop
-Inv-loop out₀ d at₀ place₀ n₀ out at place n = (n ≤ 83) × Written out₀ (encode d) (recordsBytes (83 - n) d n place) at out × (place ≡ startOf n)
+Inv-loop out₀ d at₀ place₀ n₀ out at place n = (n ≤ fileRecords) × Written out₀ (encode d) (recordsBytes (fileRecords - n) d n place) at out × (place ≡ startOf n)
 
 abbrev μ-loop : tie.MeasureT-loop
-μ-loop out₀ d at₀ place₀ n₀ out at place n = 83 - n
+μ-loop out₀ d at₀ place₀ n₀ out at place n = fileRecords - n
 
 -- a record is to come, and there is room for it
-now : (c : tie.After-slot-at Inv-loop μ-loop) → let l = c .before .before .loop in let a = c .before .before .before .before .args in Written (a .out .now) (encode (a .d .now)) (recordBytes (a .d .now) (c .slot-at .result) (l .place) ++ recordsBytes (83 - (l .n + 1)) (a .d .now) (l .n + 1) (l .place + c .slot-at .result .places)) (l .at) (l .out)
+now : (c : tie.After-slot-at Inv-loop μ-loop) → let l = c .before .before .loop in let a = c .before .before .before .before .args in Written (a .out .now) (encode (a .d .now)) (recordBytes (a .d .now) (c .slot-at .result) (l .place) ++ recordsBytes (fileRecords - (l .n + 1)) (a .d .now) (l .n + 1) (l .place + c .slot-at .result .places)) (l .at) (l .out)
 now c =
     let l = c .before .before .loop in
     rw (records-step (c .before .before .before .before .args .d .now) (l .n) (l .place) (c .slot-at .result) (omega arith) (c .slot-at .ensures)) at (l .inv .1)
@@ -63,7 +64,7 @@ loop-again c =
     let s = c .before .before .before .before .before .slot-at in
     let w = c .before .before .before .write-record in
     let d = st .args .d .now in
-    let more = written-more (recordBytes d (s .result) (l .place)) (recordsBytes (83 - (l .n + 1)) d (l .n + 1) (l .place + s .result .places)) (now (c .before .before .before .before .before)) (st .pre) (w .last .0) (w .ensures .1) in (
+    let more = written-more (recordBytes d (s .result) (l .place)) (recordsBytes (fileRecords - (l .n + 1)) d (l .n + 1) (l .place + s .result .places)) (now (c .before .before .before .before .before)) (st .pre) (w .last .0) (w .ensures .1) in (
       omega arith,
       rw (sym (w .ensures .0)) at more,
       omega (arith, l .inv .2, start-next (l .n), ap (λ (s : Slot). s .places) (s .ensures)),
@@ -77,7 +78,7 @@ unfolding recordsBytes
 returns c =
     let l = c .before .loop in
     let a = c .before .before .before .args in
-    let z : 83 - l .n ≡ 0 = omega arith in
+    let z : fileRecords - l .n ≡ 0 = omega arith in
     written-all (l .inv .1) (ap (λ (m : ℕ). recordsBytes m (a .d .now) (l .n) (l .place)) z) .1
 
 pub write-file-spec : {M : Type 1} → statement M

@@ -16,8 +16,8 @@ returns c =
     let s = c .before .before .before .before .before .before .before .before .before .before .before in
     let path = s .args .path .now in
     let name = s .args .name .now in
-    let fits : length (path ++ text ".new") ≤ length name = omega (arith, length-append path (text ".new"), s .pre) in
-    let p = put-last (put-front path (text ".new") (c .before .before .before .before .before .before .before .put .ensures) (omega (arith, s .pre))) fits (c .before .before .put2 .ensures) in
+    let fits : length (path ++ text ".XXXXXX") ≤ length name = omega (arith, length-append path (text ".XXXXXX"), s .pre) in
+    let p = put-last (put-front path (text ".XXXXXX") (c .before .before .before .before .before .before .before .put .ensures) (omega (arith, s .pre))) fits (c .before .before .put2 .ensures) in
     ((put-within p, put-part p), p)
 
 pub new-name-spec : {M : Type 1} → statement M

@@ -1,0 +1,28 @@
+-- `command::same_word` meets its contract.
+use Rattle.command.proofs.Laws.{word-taken, word-size}
+use borrow.Author.Needs.{needs}
+use Rattle.command.proofs.same_word.Statement.{statement}
+use Rattle.command.proofs.same_word.Tie as tie
+
+slice-aggregate-same : tie.Need-slice-aggregate-same
+slice-aggregate-same c = word-size _ _ (c .before .before .word-length .ensures)
+
+slice-aggregate-same-2 : tie.Need-slice-aggregate-same-2
+slice-aggregate-same-2 c = word-size _ _ (c .before .before .word-length2 .ensures)
+
+returns : tie.Need-returns
+returns c =
+    let a = word-taken (c .before .before .before .before .before .before .before .args .a .now) _ (c .before .before .before .before .word-length .ensures) in
+    let b = word-taken (c .before .before .before .before .before .before .before .args .b .now) _ (c .before .before .before .word-length2 .ensures) in
+    rw (a, b) at (c .same .ensures)
+
+pub same-word-spec : {M : Type 1} → statement M
+same-word-spec =
+    tie.close
+    (tie.spec
+    (λ c κs. search needs)
+    (λ c κs. search needs)
+    slice-aggregate-same
+    slice-aggregate-same-2
+    (λ c κs. search needs)
+    returns)

@@ -1,0 +1,36 @@
+-- `command::take` meets its contract.
+use mathlib.Core.Path.{ap, _∙_}
+use native.Mathlib.Omega.{arith}
+use Rattle.command.specs.Reading.{isPath, taken, numbersOf}
+use Rattle.command.proofs.Laws.{word-fits, word-dropped, blank-all, at-front}
+use borrow.Author.Needs.{needs}
+use Rattle.command.proofs.take.Statement.{statement}
+use Rattle.command.proofs.take.Tie as tie
+
+read-arguments-requires : tie.Need-read-arguments-requires
+read-arguments-requires c κs =
+    let a = c .before .before .before .before .before in
+    (omega (arith, c .word-length .ensures, word-fits (a .args .line .now)), rw (c .before .before .takes .given .1) at (a .pre))
+
+returns : tie.Need-returns
+unfolding taken
+returns c =
+    let rest = word-dropped (c .before .before .before .before .before .before .args .line .now) _ (c .before .word-length .ensures) in
+    rw (c .before .before .before .takes .given .1) (rw rest at (c .read-arguments .ensures))
+
+returns-2 : tie.Need-returns-2
+unfolding numbersOf taken
+returns-2 c = rw (c .before .before .enum-told .given .1, c .is-path .ensures ∙ ap isPath (c .before .path .ensures), at-front 0 _ (blank-all 4))
+
+pub take-spec : {M : Type 1} → statement M
+take-spec =
+    tie.close
+    (tie.spec
+    (λ c. search needs)
+    (λ c κs. search needs)
+    read-arguments-requires
+    (λ c. search needs)
+    (λ c κs. search needs)
+    (λ c κs. search needs)
+    returns
+    returns-2)

@@ -1,0 +1,79 @@
+-- Demand 1: of a unit in any state, a call that meets no condition for a refusal gives a full result, and any other gives the first condition's
+-- number and changes nothing.
+use Prim.Native.Nat.{ℕ, zero, suc}
+use mathlib.Core.List.{List, []}
+use mathlib.Core.Path.{_≡_, refl}
+use native.Mathlib.Omega.{arith}
+use lib.Dec.{leb}
+use lib.ListN.{length}
+use mathlib.Core.Bool.{Bool, true, false, _&&_}
+use Rattle.base.specs.Over.{between}
+use Rattle.rules.specs.District.{District}
+use Rattle.rules.specs.Answers.{unless, answerOf, accepting}
+use Rattle.rules.specs.Calls.{unitOf, answered, loadOf, alterOf, exported, exportOf}
+use Rattle.rules.specs.Lists.{Load, Alter, ExportTo, Show, refusalOf, altered, Outcome, outcomeOf, lentTo, replied, written}
+use Rattle.rules.specs.Demands.{returned, EveryAnswer, EveryPoints}
+use Rattle.rules.specs.Survey.{blockOf, pointsOf, surveyRefusal, surveyOf}
+use Rattle.rules.specs.declared.Unit.{Unit}
+use Rattle.rules.specs.declared.Answer.the-variants.{Accepted, Refused}
+
+-- an answer where nothing refuses it
+accepted-answer : (n value : ℕ) → n ≡ 0 → answerOf n value ≡ Accepted value
+unfolding answerOf
+accepted-answer zero value e = refl
+accepted-answer (suc n) value e = absurd (omega arith)
+
+module _ (u : Unit) (bytes : List ℕ) where
+  -- the outcome of a refusal
+  abbrev refusedWith : ℕ → Outcome
+  refusedWith n = record { answer = Refused n; unit = u; bytes = bytes }
+
+  -- a call that changes the district
+  reply-accepted : (n : ℕ) (d : District) → n ≡ 0 → replied (answered u n d) bytes .answer ≡ Accepted 0
+  unfolding answered
+  reply-accepted n d e = accepted-answer n 0 e
+
+  reply-held : (n : ℕ) (d : District) → n ≡ 0 → replied (answered u n d) bytes .unit .district ≡ d
+  unfolding answered accepting unitOf
+  reply-held zero d e = refl
+  reply-held (suc n) d e = absurd (omega arith)
+
+  reply-refused : (n : ℕ) (d : District) (m : ℕ) → n ≡ suc m → replied (answered u n d) bytes ≡ refusedWith (suc m)
+  unfolding answered answerOf accepting
+  reply-refused zero d m e = absurd (omega arith)
+  reply-refused (suc n) d m e = rw e
+
+  -- an export into these bytes
+  export-accepted : (n : ℕ) (file : List ℕ) → n ≡ 0 → written (exported n file bytes) u .answer ≡ Accepted (length file)
+  unfolding exported
+  export-accepted n file e = accepted-answer n (length file) e
+
+  export-refused : (n : ℕ) (file : List ℕ) (m : ℕ) → n ≡ suc m → written (exported n file bytes) u ≡ refusedWith (suc m)
+  unfolding exported answerOf accepting
+  export-refused zero file m e = absurd (omega arith)
+  export-refused (suc n) file m e = rw e
+
+pub every-answer : EveryAnswer
+unfolding refusalOf altered outcomeOf lentTo returned loadOf alterOf exportOf
+every-answer u (Load file) =
+    record { accepted = reply-accepted u file _ _; held = reply-held u file _ _; refused = reply-refused u file _ _ }
+every-answer u (Alter e) =
+    record { accepted = reply-accepted u [] _ _; held = reply-held u [] _ _; refused = reply-refused u [] _ _ }
+every-answer u (ExportTo buffer) =
+    record { accepted = export-accepted u buffer _ _; held = λ e. refl; refused = export-refused u buffer _ _ }
+every-answer u Show = record { accepted = λ e. refl; held = λ e. refl; refused = λ n e. absurd (omega arith) }
+
+-- survey points
+
+pub every-points : EveryPoints
+unfolding surveyOf surveyRefusal answerOf
+every-points code degree extent seal =
+    record {
+      accepted = λ e. accepted-answer (surveyRefusal code degree extent seal) _ e;
+      refused = λ some. go (leb 1 (blockOf code seal) && (leb degree 3 && between 1 3 extent)) refl some;
+    }
+  where
+    go : (t : Bool) → (leb 1 (blockOf code seal) && (leb degree 3 && between 1 3 extent)) ≡ t → ¬ (unless t 10 0 ≡ 0)
+        → answerOf (unless t 10 0) (pointsOf (blockOf code seal) degree extent) ≡ Refused 10
+    go true e some = absurd (some refl)
+    go false e some = refl

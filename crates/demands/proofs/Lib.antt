@@ -1,0 +1,5 @@
+pub mod Lists
+pub mod EveryAnswer
+pub mod EveryFile
+pub mod TheRules
+pub mod OneClaim

@@ -1,0 +1,2 @@
+// The three demands, proved. Each statement of crates/rules/specs/Demands.antt has its proof in the file of its name in
+// proofs/: EveryAnswer, TheRules, EveryFile, OneClaim. There is no code here.

@@ -1,0 +1,148 @@
+-- A district by names, and its file byte for byte by document 01, "The district and its file". The computed cases are written so.
+-- It does not go by Format and File, which are what the cases try.
+use Prim.Native.Nat.{ℕ, zero, suc, _+_, _-_, _/_, _%_, _^_}
+use mathlib.Core.List.{List, [], _∷_, _++_, foldr}
+use lib.ListN.{length, take, replicate}
+use lib.IntN.{ℤ, pos, negsuc}
+
+-- In all of these, numbers at the end of a row that are 0 need not be written.
+
+pub record Strategy : Type 0 where
+  -- of each resource, in thousandths of a unit
+  pub requirements : List ℕ
+  -- of each distress type
+  pub gains : List ℤ
+  -- of each distress type a row, with a percent for each year
+  pub percents : List (List ℕ)
+
+pub record Pavement : Type 0 where
+  pub overall : ℕ
+  -- of each distress type a row, with a minimum rating for each year
+  pub minima : List (List ℕ)
+
+pub record Segment : Type 0 where
+  pub pavement : ℕ
+  pub traffic : ℕ
+  pub environment : ℕ
+  pub length : ℕ
+  pub width : ℕ
+  -- the numbers of the strategies that are barred
+  pub barred : List ℕ
+  -- of each distress type
+  pub ratings : List ℕ
+
+-- a district; N, S, D, Y and R follow from how many there are of each
+pub record Roads : Type 0 where
+  pub years : ℕ
+  pub limits : List ℕ
+  pub greatest : List ℕ
+  pub strategies : List Strategy
+  pub pavements : List Pavement
+  pub segments : List Segment
+
+-- ---- what is usual
+
+-- −n
+abbrev pub minus : ℕ → ℤ
+minus zero = pos 0
+minus (suc n) = negsuc n
+
+-- for one distress type and one year: requirements, gain, percent
+abbrev pub strategy : List ℕ → ℤ → ℕ → Strategy
+strategy requirements gain percent =
+    record { requirements = requirements; gains = gain ∷ []; percents = (percent ∷ []) ∷ [] }
+
+abbrev pub nothingDemanded : Pavement
+nothingDemanded = record { overall = 0; minima = [] }
+
+-- of a length and a width, with these ratings: pavement type 1, both indexes 100, nothing barred
+abbrev pub segment : ℕ → ℕ → List ℕ → Segment
+segment length width ratings =
+    record { pavement = 1; traffic = 100; environment = 100; length = length; width = width; barred = []; ratings = ratings }
+
+-- the same with strategies barred
+abbrev pub barring : List ℕ → Segment → Segment
+barring strategies s =
+    record {
+      pavement = s .pavement;
+      traffic = s .traffic;
+      environment = s .environment;
+      length = s .length;
+      width = s .width;
+      barred = strategies;
+      ratings = s .ratings;
+    }
+
+-- ---- bytes
+
+-- low byte first
+abbrev pub twoBytes : ℕ → List ℕ
+twoBytes x = x % 256 ∷ x / 256 ∷ []
+
+abbrev pub fourBytes : ℕ → List ℕ
+fourBytes x = x % 256 ∷ x / 256 % 256 ∷ x / 65_536 % 256 ∷ x / 16_777_216 ∷ []
+
+abbrev pub signedByte : ℤ → ℕ
+signedByte (pos n) = n
+signedByte (negsuc n) = 255 - n
+
+-- what f gives for each, in a row
+abbrev pub each : {A : Type 0} → (A → List ℕ) → List A → List ℕ
+each f xs = foldr (λ x rest. f x ++ rest) [] xs
+
+-- n in all, the last ones `none` where they are not written
+abbrev pub filledUp : {A : Type 0} → A → ℕ → List A → List A
+filledUp none n xs = take n (xs ++ replicate n none)
+
+-- bit j − 1 for strategy j
+abbrev pub mask : List ℕ → ℕ
+mask strategies = foldr (λ j rest. 2 ^ (j - 1) + rest) 0 strategies
+
+-- ---- records: the payload's length, the kind, the payload
+
+abbrev pub recordOf : ℕ → List ℕ → List ℕ
+recordOf kind payload = twoBytes (length payload) ++ twoBytes kind ++ payload
+
+module _ (d : Roads) where
+  -- a row for each distress type, a byte for each year
+  abbrev pub rows : List (List ℕ) → List ℕ
+  rows xs = each (filledUp 0 (d .years)) (filledUp [] (length (d .greatest)) xs)
+
+  abbrev pub strategyRecord : Strategy → List ℕ
+  strategyRecord s =
+      recordOf 4
+      (each fourBytes (filledUp 0 (length (d .limits)) (s .requirements))
+      ++ each (λ g. signedByte g ∷ []) (filledUp (pos 0) (length (d .greatest)) (s .gains))
+      ++ rows (s .percents))
+
+  abbrev pub pavementRecord : Pavement → List ℕ
+  pavementRecord p = recordOf 5 (twoBytes (p .overall) ++ rows (p .minima))
+
+  abbrev pub segmentRecord : Segment → List ℕ
+  segmentRecord s =
+      recordOf 6
+      (s .pavement ∷ []
+      ++ twoBytes (s .traffic)
+      ++ twoBytes (s .environment)
+      ++ twoBytes (s .length)
+      ++ s .width ∷ []
+      ++ twoBytes (mask (s .barred))
+      ++ filledUp 0 (length (d .greatest)) (s .ratings))
+
+  -- the file
+  unfoldable pub fileOf : List ℕ
+  fileOf =
+      recordOf 1
+      (length (d .segments)
+      ∷ length (d .strategies)
+      ∷ d .years
+      ∷ length (d .greatest)
+      ∷ length (d .pavements)
+      ∷ length (d .limits)
+      ∷ [])
+      ++ recordOf 2 (each fourBytes (d .limits))
+      ++ recordOf 3 (d .greatest)
+      ++ each strategyRecord (d .strategies)
+      ++ each pavementRecord (d .pavements)
+      ++ each segmentRecord (d .segments)
+      ++ recordOf 7 []

@@ -1,0 +1,22 @@
+// The numbers of the refusals, in document 01's order (specs/Answers.antt).
+
+// A file ends within a record.
+pub const CUT_SHORT: usize = 1;
+
+pub const OTHER_KIND: usize = 2;
+
+pub const OTHER_LENGTH: usize = 3;
+
+pub const OUT_OF_RANGE: usize = 4;
+
+pub const BYTES_FOLLOW: usize = 5;
+
+pub const NO_SUCH_SEGMENT: usize = 6;
+// No such strategy, resource or distress.
+pub const NO_SUCH_NUMBER: usize = 7;
+// A new limit or rating.
+pub const NEW_OUT_OF_RANGE: usize = 8;
+
+pub const BUFFER_TOO_SHORT: usize = 9;
+
+pub const NO_SUCH_POINTS: usize = 10;
