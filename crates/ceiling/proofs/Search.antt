@@ -13,10 +13,11 @@ use lib.Pow.{pow-pos}
 use lib.Seq.{getD-set-other}
 use Rattle.base.proofs.Choice.{pick-all}
 use Rattle.base.proofs.Sums.{sum-cong, sum-zero}
+use Rattle.rules.specs.District.{mostResources}
 use Rattle.rules.specs.Table.{Table}
 use Rattle.rules.specs.Ceiling.{priceAt, downShare, costBy, cost, raised, lowered, ceilingAt, lowers, priced, pricedAll, pricesAfter}
 use Rattle.laws.proofs.Give.{set-le}
-use Rattle.tables.specs.Arrays.{entry}
+use Rattle.tables.specs.Arrays.{entry, entries}
 use Rattle.tables.specs.declared.Size.{Size}
 use Rattle.ceiling.specs.Prices.{Sized, shown, Prices, Costs, Trial, Headroom}
 use Rattle.ceiling.proofs.Costs.{ceiling-small}
@@ -59,7 +60,7 @@ priced-all P t s p r up down same =
 
 -- 16 prices up to m, and from place k on there is room for the step s
 pub record Raisable (m s k : ℕ) (p : List ℕ) : Type 0 where
-  pub places : length p ≡ 16
+  pub places : length p ≡ mostResources
   pub small : (q : ℕ) → getD p q 0 ≤ m
   pub room : (q : ℕ) → k ≤ q → getD p q 0 + s ≤ m
 
@@ -94,7 +95,7 @@ pub all-next : (t : Table) (s : ℕ) (p : List ℕ) (k : ℕ) {q x : List ℕ} �
 unfolding pricedAll
 all-next t s p k e h = h ∙ rw (add-one, e)
 
-pub after-none : (t : Table) → replicate 16 0 ≡ pricesAfter t 0
+pub after-none : (t : Table) → replicate mostResources 0 ≡ pricesAfter t 0
 unfolding pricesAfter
 after-none t = refl
 
@@ -113,7 +114,7 @@ zeros (suc n) (suc k) = zeros n k
 -- before round n + 1 there is room for all the steps that are left
 after-raisable : (t : Table) (n : ℕ) → n ≤ 41 → Raisable (2 ^ 41) (2 ^ (41 - n)) 0 (pricesAfter t n)
 unfolding pricesAfter
-after-raisable t zero h = record { places = refl; small = λ q. omega (arith, zeros 16 q); room = λ q l. omega (arith, zeros 16 q) }
+after-raisable t zero h = record { places = refl; small = λ q. omega (arith, zeros mostResources q); room = λ q l. omega (arith, zeros mostResources q) }
 after-raisable t (suc n) h =
     let e : 41 - suc n ≡ 40 - n = omega arith in
     let before : Raisable (2 ^ 41) (2 ^ (41 - n)) 0 (pricesAfter t n) = after-raisable t n (omega arith) in
@@ -128,7 +129,7 @@ after-room t n e q h =
     let before = after-raisable t n (omega arith) in
     rw e (record { places = before .places; room = λ k. omega (arith, before .room k (omega arith), halved n h, pow-pos (40 - n)) })
 
-pub after-places : (t : Table) (n : ℕ) {p : List ℕ} → p ≡ pricesAfter t n → n ≤ 41 → length p ≡ 16
+pub after-places : (t : Table) (n : ℕ) {p : List ℕ} → p ≡ pricesAfter t n → n ≤ 41 → length p ≡ mostResources
 after-places t n e h = rw e (after-raisable t n h .places)
 
 pub room-at : (t : Table) (s : ℕ) (p : List ℕ) (k : ℕ) {q : List ℕ} → Headroom s p → q ≡ pricedAll t s k p → Raisable (2 ^ 41 - 1) s k q
@@ -150,26 +151,26 @@ module _ (z : Size) (b d : List ℕ) where
   -- ---- the start: all prices are 0, so nothing costs anything
 
   module _ (sized : Sized z b d) where
-    pub start-trial : Trial z b d (replicate 16 0) 1 0
+    pub start-trial : Trial z b d (replicate mostResources 0) 1 0
     start-trial =
         record {
           sized = sized;
-          prices = record { places = length-replicate {A = ℕ} 16 0; small = λ k. omega (arith, zeros 16 k) };
+          prices = record { places = length-replicate {A = ℕ} mostResources 0; small = λ k. omega (arith, zeros mostResources k) };
           resource-from = omega arith;
           resource-to = sized .resources-from;
           small = omega arith;
         }
 
-    pub start-costs : Costs z b d (replicate 16 0) (replicate 16 0) 0 (replicate 768 0)
+    pub start-costs : Costs z b d (replicate mostResources 0) (replicate mostResources 0) 0 (replicate entries 0)
     unfolding cost costBy
     start-costs =
         record {
-          places = length-replicate {A = ℕ} 768 0;
+          places = length-replicate {A = ℕ} entries 0;
           costs = λ i j inside worth.
               let e = le-ltb (entry i j) 0 (omega arith) in
-              zeros 768 (entry i j) ∙ sym (rw e (sum-cong (z .resources) (costBy (shown z b d) (replicate 16 0) i j) (λ _. 0) (λ r l h. rw (zeros 16 (r - 1)) (zero-mul (downShare (shown z b d) i j r))) ∙ sum-zero (z .resources)));
+              zeros entries (entry i j) ∙ sym (rw e (sum-cong (z .resources) (costBy (shown z b d) (replicate mostResources 0) i j) (λ _. 0) (λ r l h. rw (zeros mostResources (r - 1)) (zero-mul (downShare (shown z b d) i j r))) ∙ sum-zero (z .resources)));
         }
 
-    pub start-value : {x : ℕ} → x ≡ min (ceilingAt (shown z b d) (set (replicate 16 0) 0 0)) (2 ^ 62) → x ≡ ceilingAt (shown z b d) (replicate 16 0)
+    pub start-value : {x : ℕ} → x ≡ min (ceilingAt (shown z b d) (set (replicate mostResources 0) 0 0)) (2 ^ 62) → x ≡ ceilingAt (shown z b d) (replicate mostResources 0)
     start-value e =
-        e ∙ min-eq-left (le-of-lt (ceiling-small z b d sized (replicate 16 0) (start-trial .prices)))
+        e ∙ min-eq-left (le-of-lt (ceiling-small z b d sized (replicate mostResources 0) (start-trial .prices)))

@@ -6,9 +6,10 @@ use mathlib.Core.List.{List}
 use lib.Dec.{ltb}
 use lib.ListN.{getD, length}
 use Rattle.base.specs.Choice.{pick}
+use Rattle.rules.specs.District.{mostSegments, mostStrategies, mostResources}
 use Rattle.rules.specs.Table.{Table}
 use Rattle.rules.specs.Ceiling.{downShare, cost, ceilingAt}
-use Rattle.tables.specs.Arrays.{entry, useEntry}
+use Rattle.tables.specs.Arrays.{entry, useEntry, entries, useEntries}
 use Rattle.tables.specs.declared.Size.{Size}
 
 -- segment i and strategy j are of the sizes
@@ -28,12 +29,12 @@ pub record Priced (t : Table) (z : Size) (b d : List ℕ) : Type 0 where
 
 -- the sizes, and bounds under which no sum wraps: a candidate has no down-share above the whole limit
 pub record Sized (z : Size) (b d : List ℕ) : Type 0 where
-  pub segments : z .segments ≤ 64
-  pub strategies : z .strategies ≤ 11
+  pub segments : z .segments ≤ mostSegments
+  pub strategies : z .strategies ≤ mostStrategies
   pub resources-from : 1 ≤ z .resources
-  pub resources-to : z .resources ≤ 16
-  pub benefits-length : length b ≡ 768
-  pub shares-length : length d ≡ 12_288
+  pub resources-to : z .resources ≤ mostResources
+  pub benefits-length : length b ≡ entries
+  pub shares-length : length d ≡ useEntries
   pub benefit-small : (k : ℕ) → getD b k 0 < 2 ^ 40
   pub share-small : (i j r : ℕ) → In z i j → 0 < getD b (entry i j) 0 → 1 ≤ r → r ≤ z .resources → getD d (useEntry i j r) 0 ≤ 10_000
 
@@ -51,12 +52,12 @@ shown z b d =
 
 -- 16 prices, each below 2 ^ 41
 pub record Prices (p : List ℕ) : Type 0 where
-  pub places : length p ≡ 16
+  pub places : length p ≡ mostResources
   pub small : (k : ℕ) → getD p k 0 < 2 ^ 41
 
 -- of the candidates, those whose entry stands before e have what they cost at the prices new, the others what they cost at old
 pub record Costs (z : Size) (b d new old : List ℕ) (e : ℕ) (c : List ℕ) : Type 0 where
-  pub places : length c ≡ 768
+  pub places : length c ≡ entries
   pub costs : (i j : ℕ) → In z i j → 0 < getD b (entry i j) 0 → getD c (entry i j) 0 ≡ cost (shown z b d) (pick (ltb (entry i j) e) new old) i j
 
 -- what a trial reads beside the costs: arrays, prices, and a new price for resource r
@@ -69,7 +70,7 @@ pub record Trial (z : Size) (b d p : List ℕ) (r price : ℕ) : Type 0 where
 
 -- 16 prices, with room for a step of each
 pub record Headroom (step : ℕ) (p : List ℕ) : Type 0 where
-  pub places : length p ≡ 16
+  pub places : length p ≡ mostResources
   pub room : (k : ℕ) → getD p k 0 + step < 2 ^ 41
 
 -- the search stands at the prices p: what each candidate costs at them, and the ceiling

@@ -12,23 +12,23 @@ use Rattle.rules.specs.Phases.{share}
 use Rattle.rules.specs.Ceiling.{downShare}
 use Rattle.laws.specs.Tables.{FitAlone}
 use Rattle.tables.specs.declared.Size.{Size}
-use Rattle.tables.specs.Arrays.{useEntry, usageAt, limitAt, tables, Uses, Cell}
+use Rattle.tables.specs.Arrays.{useEntry, usageAt, limitAt, tables, Uses, Cell, useEntries}
 use Rattle.tables.proofs.Arrays.{usage-at, limit-at}
 use Rattle.grammar.specs.Ranges.{Ranges}
-use Rattle.rules.specs.District.{District}
+use Rattle.rules.specs.District.{District, mostResources}
 use Rattle.fill.specs.Filled.{Filled}
 use Rattle.fill.proofs.Tables.{table-is, tabled, fit-alone}
 use Rattle.fill.specs.Lists.{sizeOf, benefitList, usageList, limitList, shareEntry, shareList, downShareEntry, downShareList}
 
-pub shares-length : (u l : List ℕ) → length (shareList u l) ≡ 12_288
+pub shares-length : (u l : List ℕ) → length (shareList u l) ≡ useEntries
 unfolding shareList
-shares-length u l = listed-length (shareEntry u l) 12_288 0
+shares-length u l = listed-length (shareEntry u l) useEntries 0
 
-pub down-shares-length : (u l : List ℕ) → length (downShareList u l) ≡ 12_288
+pub down-shares-length : (u l : List ℕ) → length (downShareList u l) ≡ useEntries
 unfolding downShareList
-down-shares-length u l = listed-length (downShareEntry u l) 12_288 0
+down-shares-length u l = listed-length (downShareEntry u l) useEntries 0
 
-module _ (z : Size) (b u l : List ℕ) (uses : Uses u) (i j r : ℕ) (cell : Cell i j) (low : 1 ≤ r) (high : r ≤ 16) where
+module _ (z : Size) (b u l : List ℕ) (uses : Uses u) (i j r : ℕ) (cell : Cell i j) (low : 1 ≤ r) (high : r ≤ mostResources) where
   place : ℕ
   place = useEntry i j r
 
@@ -38,24 +38,24 @@ module _ (z : Size) (b u l : List ℕ) (uses : Uses u) (i j r : ℕ) (cell : Cel
       let e : 0 + useEntry i j r ≡ useEntry i j r = omega arith in
       ap (λ n. getD u n 0) e ∙ usage-at uses i j r cell low high
 
-  limit-here : getD l ((0 + place) % 16) 0 ≡ limitAt l r
+  limit-here : getD l ((0 + place) % mostResources) 0 ≡ limitAt l r
   unfolding place
   limit-here =
-      let e : (0 + useEntry i j r) % 16 ≡ r - 1 = omega arith in
+      let e : (0 + useEntry i j r) % mostResources ≡ r - 1 = omega arith in
       ap (λ n. getD l n 0) e ∙ sym (limit-at l r low high)
 
   -- i, j and r are within the arrays
-  within : place < 12_288
+  within : place < useEntries
   unfolding place
   within = omega (arith, cell .low, cell .high, cell .number)
 
   pub share-entry : getD (shareList u l) (useEntry i j r) 0 ≡ share (tables z b u l) i j r
   unfolding place shareList shareEntry share
-  share-entry = listed-at 12_288 0 place (shareEntry u l) within ∙ ap₂ (λ a m. divideUp (a * 10_000) m) use-here limit-here
+  share-entry = listed-at useEntries 0 place (shareEntry u l) within ∙ ap₂ (λ a m. divideUp (a * 10_000) m) use-here limit-here
 
   pub down-share-entry : getD (downShareList u l) (useEntry i j r) 0 ≡ downShare (tables z b u l) i j r
   unfolding place downShareList downShareEntry downShare
-  down-share-entry = listed-at 12_288 0 place (downShareEntry u l) within ∙ ap₂ (λ a m. a * 10_000 / m) use-here limit-here
+  down-share-entry = listed-at useEntries 0 place (downShareEntry u l) within ∙ ap₂ (λ a m. a * 10_000 / m) use-here limit-here
 
 -- ---- of a candidate
 
@@ -87,7 +87,7 @@ filled d ok =
 
 -- the same of arrays that equal them, with what the shares need of uses and limits
 module _ (d : District) (ok : Ranges d) {u l : List ℕ} (hu : u ≡ usageList d) (hl : l ≡ limitList d) where
-  pub sized : (length u ≡ 12_288) × (length l ≡ 16)
+  pub sized : (length u ≡ useEntries) × (length l ≡ mostResources)
   sized = rw (hu, hl) (tabled d ok .uses .places, tabled d ok .limits .places)
 
   pub bounded : ((k : ℕ) → getD u k 0 < 2 ^ 41) × ((k : ℕ) → getD l k 0 < 2 ^ 47)

@@ -11,6 +11,7 @@ use lib.Seq.{ext-getD}
 use Rattle.base.proofs.Choice.{and-both}
 use Rattle.base.proofs.Best.{best-le, Leads, leads-none, leads-taken, leads-kept, leads-end}
 use Rattle.base.proofs.Listed.{listed-length}
+use Rattle.rules.specs.District.{mostSegments}
 use Rattle.rules.specs.Table.{Table}
 use Rattle.rules.specs.Phases.{strategyAt, isCandidate, greater, comesAfter, topCandidate, nextCandidate, start}
 use Rattle.laws.proofs.Steps.{start-at}
@@ -68,17 +69,17 @@ module _ (z : Size) (b u l : List ℕ) (i : ℕ) where
 
 -- ---- the start
 
-pub start-is : (t : Table) (c : List ℕ) → length c ≡ 64 → ((k : ℕ) → 1 ≤ k → k ≤ 64 → strategyAt c k ≡ topCandidate t k) → c ≡ start t
+pub start-is : (t : Table) (c : List ℕ) → length c ≡ mostSegments → ((k : ℕ) → 1 ≤ k → k ≤ mostSegments → strategyAt c k ≡ topCandidate t k) → c ≡ start t
 unfolding start
 start-is t c places tops =
-    ext-getD 0 c (start t) (places ∙ sym (listed-length (topCandidate t) 64 1))
+    ext-getD 0 c (start t) (places ∙ sym (listed-length (topCandidate t) mostSegments 1))
     (λ k h.
     let e : k + 1 - 1 ≡ k = omega arith in
     rw e at (tops (k + 1) (omega arith) (omega arith) ∙ sym (start-at t (k + 1) (omega arith) (omega arith))))
 
 pub start-chosen : {z : Size} (b u l : List ℕ) {c : List ℕ} → c ≡ start (tables z b u l) → Chosen z c
 unfolding start topCandidate
-start-chosen {z} b u l is = rw is (record { places = listed-length (topCandidate t) 64 1; numbers = λ i. known i (leb i 64) refl })
+start-chosen {z} b u l is = rw is (record { places = listed-length (topCandidate t) mostSegments 1; numbers = λ i. known i (leb i mostSegments) refl })
   where
     t : Table
     t = tables z b u l
@@ -86,10 +87,10 @@ start-chosen {z} b u l is = rw is (record { places = listed-length (topCandidate
     small : (i : ℕ) → topCandidate t i ≤ z .strategies
     small i = best-le (z .strategies) (isCandidate t i) (greater t i)
 
-    known : (i : ℕ) (v : Bool) → leb i 64 ≡ v → strategyAt (start t) i ≤ z .strategies
+    known : (i : ℕ) (v : Bool) → leb i mostSegments ≡ v → strategyAt (start t) i ≤ z .strategies
     known zero v e = rw (start-at t 1 (omega arith) (omega arith)) (small 1)
-    known (suc i) true e = rw (start-at t (suc i) (omega arith) (leb-true (suc i) 64 e)) (small (suc i))
-    known (suc i) false e = rw (List·getD-eq-default (start t) 0 {n = suc i - 1} (omega (arith, listed-length (topCandidate t) 64 1, leb-false (suc i) 64 e))) (omega arith)
+    known (suc i) true e = rw (start-at t (suc i) (omega arith) (leb-true (suc i) mostSegments e)) (small (suc i))
+    known (suc i) false e = rw (List·getD-eq-default (start t) 0 {n = suc i - 1} (omega (arith, listed-length (topCandidate t) mostSegments 1, leb-false (suc i) mostSegments e))) (omega arith)
 
 pub next-le : (z : Size) (b u l : List ℕ) (i a : ℕ) {j : ℕ} → j ≡ nextCandidate (tables z b u l) i a → j ≤ z .strategies
 unfolding nextCandidate

@@ -7,6 +7,7 @@ use mathlib.Core.Option.{none, some}
 use native.Mathlib.Nat.{mul-le-mul}
 use native.Mathlib.Omega.{arith}
 use Rattle.base.proofs.Runs.{Reached, reached-start, reached-next, reached-end, reached-spent}
+use Rattle.rules.specs.District.{mostSegments, mostStrategies}
 use Rattle.rules.specs.Table.{Table}
 use Rattle.rules.specs.Phases.{strategyAt, chosenShare, within, nextCandidate, weakest, give, step, phase1}
 use Rattle.laws.proofs.Steps.{weakest-le, stepped, step-within, step-nobody, step-some, step-allowed}
@@ -17,7 +18,7 @@ use Rattle.tables.proofs.Arrays.{cell-of}
 use Rattle.phase1.specs.Reduce.{Shares, Measured, Held}
 
 pub bound-le : {z : Size} → Bounded z → z .segments * z .strategies ≤ 704
-bound-le {z} bounded = mul-le-mul {n₁ = z .segments} {m₁ = z .strategies} {n₂ = 64} {m₂ = 11} (bounded .segments) (bounded .strategies)
+bound-le {z} bounded = mul-le-mul {n₁ = z .segments} {m₁ = z .strategies} {n₂ = mostSegments} {m₂ = mostStrategies} (bounded .segments) (bounded .strategies)
 
 -- each candidate fits alone, so no share of a programme of candidates is above the whole limit
 pub held-measured : {z : Size} {b u l s c sums : List ℕ} → Held z b u l s c sums → Measured z s c

@@ -10,7 +10,7 @@ use Rattle.rules.specs.Table.{Table}
 use Rattle.rules.specs.Phases.{strategyAt, share, surplus, pulls, ratio, lesserRatio}
 use Rattle.laws.specs.Tables.{FitAlone, OfCandidates}
 use Rattle.tables.specs.declared.Size.{Size}
-use Rattle.tables.specs.Arrays.{useEntry, tables, Benefits, Limits, Bounded, Chosen, Running}
+use Rattle.tables.specs.Arrays.{useEntry, tables, Benefits, Limits, Bounded, Chosen, Running, useEntries}
 use Rattle.phase1.specs.declared.Weak.{Weak}
 
 -- what an array at the places of uses holds for resource r of strategy j on segment i
@@ -26,7 +26,7 @@ heldPull s c over i r = heldShare s c r i * getD over (r - 1) 0
 
 -- an array of the table's shares
 pub record Shares (z : Size) (b u l s : List ℕ) : Type 0 where
-  pub places : length s ≡ 12_288
+  pub places : length s ≡ useEntries
   pub shares-are :
       (i j r : ℕ) → 1 ≤ i → i ≤ z .segments → j ≤ z .strategies → 1 ≤ r → r ≤ z .resources
       → shareAt s i j r ≡ share (tables z b u l) i j r
@@ -35,7 +35,7 @@ pub record Shares (z : Size) (b u l s : List ℕ) : Type 0 where
 pub record Measured (z : Size) (s c : List ℕ) : Type 0 where
   pub bounded : Bounded z
   pub chosen : Chosen z c
-  pub places : length s ≡ 12_288
+  pub places : length s ≡ useEntries
   pub small : (i r : ℕ) → 1 ≤ i → i ≤ z .segments → 1 ≤ r → r ≤ z .resources → heldShare s c r i ≤ 10_000
 
 -- what reduce takes, and keeps from step to step: a programme of candidates with its running sums

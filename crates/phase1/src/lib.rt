@@ -4,6 +4,7 @@ ghost use mathlib.Core.List.{List};
 ghost use Prim.Native.Nat.{ℕ, _-_, _*_, _/_, _^_, _<_, _≤_};
 ghost use lib.ListN.{getD, length};
 ghost use Rattle.base.specs.Over.{sum};
+ghost use Rattle.rules.specs.District.{mostSegments, mostStrategies, mostResources};
 ghost use Rattle.rules.specs.Table.{Table};
 ghost use Rattle.rules.specs.Phases.{
   strategyAt,
@@ -15,8 +16,11 @@ ghost use Rattle.rules.specs.Phases.{
   nextCandidate,
   phase1,
 };
-ghost use Rattle.tables.specs.Arrays.{usageAt, tables, Benefits, Uses, Limits, Bounded, Cell, Chosen, Running};
+ghost use Rattle.tables.specs.Arrays.{usageAt, tables, Benefits, Uses, Limits, Bounded, Cell, Chosen, Running, useEntries};
 ghost use Rattle.phase1.specs.Reduce.{shareAt, heldShare, heldPull, Shares, Measured, Held, Surplus, Surpluses, IsWeaker, follows};
+use rules::places::MOST_RESOURCES;
+use rules::places::MOST_SEGMENTS;
+use tables::COLUMNS;
 use tables::Size;
 
 // A segment with its ratio; segment 0 is none.
@@ -78,11 +82,11 @@ fn next_candidate(z: Size, benefits: &[u64], i: usize, a: usize) -> usize
 
 // The share of segment i's strategy in resource r.
 fn chosen_share(shares: &[u64], choice: &[usize], i: usize, r: usize) -> u64
-    requires { ⌜ (length (now shares) ≡ 12_288) × (length (now choice) ≡ 64) ⌝ }
-    requires { ⌜ Cell i (strategyAt (now choice) i) × (1 ≤ r) × (r ≤ 16) ⌝ }
+    requires { ⌜ (length (now shares) ≡ useEntries) × (length (now choice) ≡ mostSegments) ⌝ }
+    requires { ⌜ Cell i (strategyAt (now choice) i) × (1 ≤ r) × (r ≤ mostResources) ⌝ }
     ensures { λ v. ⌜ v ≡ shareAt (now (shares .entry)) i (strategyAt (now (choice .entry)) i) r ⌝ }
 {
-    shares[16 * (12 * (i - 1) + choice[i - 1]) + (r - 1)]
+    shares[MOST_RESOURCES * (COLUMNS * (i - 1) + choice[i - 1]) + (r - 1)]
 }
 
 // The shares of a programme in resource r, together.
@@ -108,7 +112,7 @@ fn surplus_of(
     sums: &[u64],
     r: usize,
 ) -> u64
-    requires { ⌜ Limits (now limits) × Measured z (now shares) (now choice) × (length (now sums) ≡ 16) ⌝ }
+    requires { ⌜ Limits (now limits) × Measured z (now shares) (now choice) × (length (now sums) ≡ mostResources) ⌝ }
     requires { ⌜ (1 ≤ r) × (r ≤ z .resources) ⌝ }
     ensures { λ v. ⌜ Surplus z (now (limits .entry)) (now (shares .entry)) (now (choice .entry)) (now (sums .entry)) r v ⌝ }
 {
@@ -123,11 +127,17 @@ fn surplus_of(
 }
 
 // The surplus of each resource.
-fn surpluses(z: Size, limits: &[u64], shares: &[u64], choice: &[usize], sums: &[u64]) -> [u64; 16]
-    requires { ⌜ Limits (now limits) × Measured z (now shares) (now choice) × (length (now sums) ≡ 16) ⌝ }
+fn surpluses(
+    z: Size,
+    limits: &[u64],
+    shares: &[u64],
+    choice: &[usize],
+    sums: &[u64],
+) -> [u64; MOST_RESOURCES]
+    requires { ⌜ Limits (now limits) × Measured z (now shares) (now choice) × (length (now sums) ≡ mostResources) ⌝ }
     ensures { λ v. ⌜ ((r : ℕ) → 1 ≤ r → r ≤ z .resources → Surplus z (now (limits .entry)) (now (shares .entry)) (now (choice .entry)) (now (sums .entry)) r (getD v (r - 1) 0)) ⌝ }
 {
-    let mut over = [0u64; 16];
+    let mut over = [0u64; MOST_RESOURCES];
     let resources = z.resources;
     for r in 0..resources {
         over[r] = surplus_of(z, limits, shares, choice, sums, r + 1);
@@ -136,7 +146,7 @@ fn surpluses(z: Size, limits: &[u64], shares: &[u64], choice: &[usize], sums: &[
 }
 
 // The pull of segment i: its shares times the surpluses. A resource without surplus adds nothing.
-fn pull_of(z: Size, shares: &[u64], choice: &[usize], over: &[u64; 16], i: usize) -> u64
+fn pull_of(z: Size, shares: &[u64], choice: &[usize], over: &[u64; MOST_RESOURCES], i: usize) -> u64
     requires { ⌜ Measured z (now shares) (now choice) ⌝ }
     requires { ⌜ ((r : ℕ) → 1 ≤ r → r ≤ z .resources → getD (now over) (r - 1) 0 ≤ 640_000) ⌝ }
     requires { ⌜ (1 ≤ i) × (i ≤ z .segments) ⌝ }
@@ -167,7 +177,7 @@ fn weaker(
     benefits: &[u64],
     shares: &[u64],
     choice: &[usize],
-    over: &[u64; 16],
+    over: &[u64; MOST_RESOURCES],
     w: Weak,
     i: usize,
 ) -> Weak
@@ -205,7 +215,7 @@ fn weakest_of(
     choice: &[usize],
     sums: &[u64],
 ) -> usize
-    requires { ⌜ Benefits (now benefits) × Limits (now limits) × Measured z (now shares) (now choice) × (length (now sums) ≡ 16) ⌝ }
+    requires { ⌜ Benefits (now benefits) × Limits (now limits) × Measured z (now shares) (now choice) × (length (now sums) ≡ mostResources) ⌝ }
     ensures { λ i. ⌜ ((u : List ℕ) → Shares z (now (benefits .entry)) u (now (limits .entry)) (now (shares .entry)) → Running z u (now (choice .entry)) (now (sums .entry)) → i ≡ weakest (tables z (now (benefits .entry)) u (now (limits .entry))) (now (choice .entry))) ⌝ }
 {
     let over = surpluses(z, limits, shares, choice, sums);
@@ -222,7 +232,7 @@ fn weakest_of(
 
 // Every limit holds.
 fn limits_hold(z: Size, limits: &[u64], sums: &[u64]) -> bool
-    requires { ⌜ (z .resources ≤ 16) × Limits (now limits) × (length (now sums) ≡ 16) ⌝ }
+    requires { ⌜ (z .resources ≤ mostResources) × Limits (now limits) × (length (now sums) ≡ mostResources) ⌝ }
     ensures { λ ok. ⌜ ((b u c : List ℕ) → Running z u c (now (sums .entry)) → ok ≡ within (tables z b u (now (limits .entry))) c) ⌝ }
 {
     let resources = z.resources;
@@ -270,18 +280,18 @@ pub fn reduce(
 
 // Each segment takes its top candidate.
 fn choose_tops(z: Size, benefits: &[u64], choice: &mut [usize])
-    requires { ⌜ Benefits (now benefits) × (z .strategies ≤ 11) × (length (now choice) ≡ 64) ⌝ }
+    requires { ⌜ Benefits (now benefits) × (z .strategies ≤ mostStrategies) × (length (now choice) ≡ mostSegments) ⌝ }
     ensures { λ _. ⌜ ((u l : List ℕ) → now (choice .exit) ≡ start (tables z (now (benefits .entry)) u l)) ⌝ }
 {
-    for i in 0..64 {
+    for i in 0..MOST_SEGMENTS {
         choice[i] = top_candidate(z, benefits, i + 1);
     }
 }
 
 // What segment i's strategy uses of resource r.
 fn chosen_usage(uses: &[u64], choice: &[usize], i: usize, r: usize) -> u64
-    requires { ⌜ Uses (now uses) × (length (now choice) ≡ 64) ⌝ }
-    requires { ⌜ Cell i (strategyAt (now choice) i) × (1 ≤ r) × (r ≤ 16) ⌝ }
+    requires { ⌜ Uses (now uses) × (length (now choice) ≡ mostSegments) ⌝ }
+    requires { ⌜ Cell i (strategyAt (now choice) i) × (1 ≤ r) × (r ≤ mostResources) ⌝ }
     ensures { λ v. ⌜ v ≡ usageAt (now (uses .entry)) i (strategyAt (now (choice .entry)) i) r ⌝ }
 {
     tables::usage(uses, i, choice[i - 1], r)
@@ -290,7 +300,7 @@ fn chosen_usage(uses: &[u64], choice: &[usize], i: usize, r: usize) -> u64
 // What a programme uses of resource r.
 fn used_of(z: Size, uses: &[u64], choice: &[usize], r: usize) -> u64
     requires { ⌜ Bounded z × Uses (now uses) × Chosen z (now choice) ⌝ }
-    requires { ⌜ (1 ≤ r) × (r ≤ 16) ⌝ }
+    requires { ⌜ (1 ≤ r) × (r ≤ mostResources) ⌝ }
     ensures { λ v. ⌜ ((b l : List ℕ) → v ≡ used (tables z b (now (uses .entry)) l) (now (choice .entry)) r) ⌝ }
 {
     let mut so_far: u64 = 0;
@@ -304,7 +314,7 @@ fn used_of(z: Size, uses: &[u64], choice: &[usize], r: usize) -> u64
 // Phase 1, the start: each segment takes its top candidate, and the sums are made.
 pub fn start(z: Size, benefits: &[u64], uses: &[u64], choice: &mut [usize], sums: &mut [u64])
     requires { ⌜ Bounded z × Benefits (now benefits) × Uses (now uses) ⌝ }
-    requires { ⌜ (length (now choice) ≡ 64) × (length (now sums) ≡ 16) ⌝ }
+    requires { ⌜ (length (now choice) ≡ mostSegments) × (length (now sums) ≡ mostResources) ⌝ }
     ensures { λ _. ⌜ Running z (now (uses .entry)) (now (choice .exit)) (now (sums .exit)) ⌝ }
     ensures { λ _. ⌜ ((l : List ℕ) → now (choice .exit) ≡ start (tables z (now (benefits .entry)) (now (uses .entry)) l)) ⌝ }
 {

@@ -7,6 +7,7 @@ use mathlib.Core.Option.{Option, none, some}
 use lib.Dec.{ltb}
 use lib.ListN.{getD, length}
 use Rattle.base.specs.Over.{most}
+use Rattle.rules.specs.District.{mostSegments}
 use Rattle.rules.specs.Table.{Table}
 use Rattle.rules.specs.Phases.{strategyAt, give, within, another, counts}
 use Rattle.tables.specs.declared.Size.{Size}
@@ -54,13 +55,13 @@ abbrev pub top : Table → ℕ → ℕ
 top t i = most (t .strategies) (t .benefit i)
 
 pub record Tops (z : Size) (b tops : List ℕ) : Type 0 where
-  pub places : length tops ≡ 64
+  pub places : length tops ≡ mostSegments
   pub each : (i : ℕ) → 1 ≤ i → i ≤ z .segments → getD tops (i - 1) 0 ≡ most (z .strategies) (benefitAt b i)
 
 -- what a comparison of segments i and k reads: the benefits, and a programme
 pub record Compared (b c : List ℕ) (i k : ℕ) : Type 0 where
   pub benefits : Benefits b
-  pub places : length c ≡ 64
+  pub places : length c ≡ mostSegments
   pub first : Cell i (strategyAt c i)
   pub second : Cell k (strategyAt c k)
 

@@ -5,8 +5,11 @@ ghost use mathlib.Core.Bool.{true};
 ghost use mathlib.Core.List.{List};
 ghost use lib.ListN.{getD, length};
 ghost use Rattle.base.specs.Over.{most};
+ghost use Rattle.rules.specs.District.{mostSegments, mostStrategies, mostResources};
 ghost use Rattle.rules.specs.Table.{Table};
 ghost use Rattle.rules.specs.Phases.{strategyAt, another, firstSingle, firstPair, change, phase3};
+use rules::places::MOST_RESOURCES;
+use rules::places::MOST_SEGMENTS;
 use tables::Size;
 ghost use Rattle.tables.specs.declared.Size.{Size};
 ghost use Rattle.tables.specs.Arrays.{benefitAt, tables, Benefits, Uses, Limits, Cell, Running};
@@ -30,7 +33,7 @@ fn larger(a: u64, b: u64) -> u64
 // The greatest of segment i's benefits.
 fn top_of(strategies: usize, benefits: &[u64], i: usize) -> u64
     requires { ⌜ Benefits (now benefits) ⌝ }
-    requires { ⌜ (1 ≤ i) × (i ≤ 64) × (strategies ≤ 11) ⌝ }
+    requires { ⌜ (1 ≤ i) × (i ≤ mostSegments) × (strategies ≤ mostStrategies) ⌝ }
     ensures { λ v. ⌜ v ≡ most strategies (benefitAt (now (benefits .entry)) i) ⌝ }
 {
     let mut greatest: u64 = 0;
@@ -43,7 +46,7 @@ fn top_of(strategies: usize, benefits: &[u64], i: usize) -> u64
 // Every segment's greatest benefit.
 fn fill_tops(z: Size, benefits: &[u64], tops: &mut [u64])
     requires { ⌜ Benefits (now benefits) ⌝ }
-    requires { ⌜ (z .segments ≤ 64) × (z .strategies ≤ 11) × (length (now tops) ≡ 64) ⌝ }
+    requires { ⌜ (z .segments ≤ mostSegments) × (z .strategies ≤ mostStrategies) × (length (now tops) ≡ mostSegments) ⌝ }
     ensures { λ _. ⌜ Tops z (now (benefits .entry)) (now (tops .exit)) ⌝ }
 {
     let segments = z.segments;
@@ -54,7 +57,7 @@ fn fill_tops(z: Size, benefits: &[u64], tops: &mut [u64])
 
 // Strategy a is not the one that segment i has, and is a candidate or nothing.
 fn is_another(benefits: &[u64], choice: &[usize], i: usize, a: usize) -> bool
-    requires { ⌜ Benefits (now benefits) × (length (now choice) ≡ 64) × Cell i a ⌝ }
+    requires { ⌜ Benefits (now benefits) × (length (now choice) ≡ mostSegments) × Cell i a ⌝ }
     ensures { λ ok. ⌜ ((z : Size) (u l : List ℕ) → ok ≡ another (tables z (now (benefits .entry)) u l) (now (choice .entry)) i a) ⌝ }
 {
     if a == choice[i - 1] {
@@ -76,7 +79,7 @@ fn present_benefit(benefits: &[u64], choice: &[usize], i: usize, k: usize) -> u6
 
 // The greatest benefits of segments i and k are more than the present ones.
 fn pair_may_rise(benefits: &[u64], choice: &[usize], tops: &[u64], i: usize, k: usize) -> bool
-    requires { ⌜ Compared (now benefits) (now choice) i k × (length (now tops) ≡ 64) ⌝ }
+    requires { ⌜ Compared (now benefits) (now choice) i k × (length (now tops) ≡ mostSegments) ⌝ }
     requires { ⌜ (getD (now tops) (i - 1) 0 ≤ 2 ^ 40) × (getD (now tops) (k - 1) 0 ≤ 2 ^ 40) ⌝ }
     ensures { λ ok. ⌜ ((z : Size) (u l : List ℕ) → Tops z (now (benefits .entry)) (now (tops .entry)) → i ≤ z .segments → k ≤ z .segments → ok ≡ pairMayRise (tables z (now (benefits .entry)) u l) (now (choice .entry)) i k) ⌝ }
 {
@@ -91,8 +94,8 @@ fn both_give_up(
     choice: &[usize],
     i: usize,
     k: usize,
-) -> [u64; 16]
-    requires { ⌜ (z .resources ≤ 16) × Uses (now uses) × Limits (now limits) × (length (now choice) ≡ 64) ⌝ }
+) -> [u64; MOST_RESOURCES]
+    requires { ⌜ (z .resources ≤ mostResources) × Uses (now uses) × Limits (now limits) × (length (now choice) ≡ mostSegments) ⌝ }
     requires { ⌜ Cell i (strategyAt (now choice) i) × Cell k (strategyAt (now choice) k) ⌝ }
     ensures { λ v. ⌜ Budgets (z .resources) (now (uses .entry)) (now (limits .entry)) i (strategyAt (now (choice .entry)) i) k (strategyAt (now (choice .entry)) k) v ⌝ }
 {
@@ -121,7 +124,7 @@ fn with_may_count(
     k: usize,
     a: usize,
 ) -> bool
-    requires { ⌜ Benefits (now benefits) × Running z (now uses) (now choice) (now sums) × Tops z (now benefits) (now tops) × (length (now given) ≡ 16) ⌝ }
+    requires { ⌜ Benefits (now benefits) × Running z (now uses) (now choice) (now sums) × Tops z (now benefits) (now tops) × (length (now given) ≡ mostResources) ⌝ }
     requires { ⌜ (1 ≤ i) × (i < k) × (k ≤ z .segments) × (a ≤ z .strategies) ⌝ }
     ensures { λ ok. ⌜ ((l : List ℕ) → Budgets (z .resources) (now (uses .entry)) l i (strategyAt (now (choice .entry)) i) k (strategyAt (now (choice .entry)) k) (now (given .entry)) → ok ≡ withMayCount (tables z (now (benefits .entry)) (now (uses .entry)) l) (now (choice .entry)) i k a) ⌝ }
 {
@@ -170,7 +173,7 @@ fn counts_two(
     a: usize,
     b: usize,
 ) -> bool
-    requires { ⌜ Benefits (now benefits) × Running z (now uses) (now choice) (now sums) × (length (now given) ≡ 16) ⌝ }
+    requires { ⌜ Benefits (now benefits) × Running z (now uses) (now choice) (now sums) × (length (now given) ≡ mostResources) ⌝ }
     requires { ⌜ (1 ≤ i) × (i < k) × (k ≤ z .segments) × (a ≤ z .strategies) × (b ≤ z .strategies) ⌝ }
     ensures { λ ok. ⌜ ((l : List ℕ) → Budgets (z .resources) (now (uses .entry)) l i (strategyAt (now (choice .entry)) i) k (strategyAt (now (choice .entry)) k) (now (given .entry)) → another (tables z (now (benefits .entry)) (now (uses .entry)) l) (now (choice .entry)) i a ≡ true → ok ≡ countsTwo (tables z (now (benefits .entry)) (now (uses .entry)) l) (now (choice .entry)) i k a b) ⌝ }
 {
@@ -322,7 +325,7 @@ pub fn improve(
     ensures { λ t _. ⌜ now (choice .exit) ≡ phase3 t (now (choice .entry)) .last ⌝ }
     ensures { λ t n. ⌜ n ≡ phase3 t (now (choice .entry)) .count ⌝ }
 {
-    let mut tops: [u64; 64] = [0; 64];
+    let mut tops: [u64; MOST_SEGMENTS] = [0; MOST_SEGMENTS];
     fill_tops(z, benefits, &mut tops);
     let mut changes: u64 = 0;
     loop {

@@ -11,7 +11,11 @@ ghost use Rattle.rules.specs.Table.{Table, tableOf};
 ghost use Rattle.tables.specs.Arrays.{tables, Tabled};
 use rules::District;
 use rules::Programme;
+use rules::places::MOST_RESOURCES;
+use rules::places::MOST_SEGMENTS;
+use tables::ENTRIES;
 use tables::Size;
+use tables::USE_ENTRIES;
 
 // The three phases over arrays that hold a table, with the table's ceiling beside them.
 fn phases(
@@ -28,8 +32,8 @@ fn phases(
     requires { λ t. ⌜ bound ≡ ceiling t ⌝ }
     ensures { λ t r. ⌜ r ≡ programmeOf t ⌝ }
 {
-    let mut choice = [0usize; 64];
-    let mut sums = [0u64; 16];
+    let mut choice = [0usize; MOST_SEGMENTS];
+    let mut sums = [0u64; MOST_RESOURCES];
     phase1::start(z, benefits, uses, &mut choice, &mut sums);
     let steps = phase1::reduce(z, benefits, uses, limits, shares, &mut choice, &mut sums);
     let pickups = phase2::pick_up(z, benefits, uses, limits, &mut choice, &mut sums);
@@ -52,11 +56,11 @@ fn programme_of(d: &District) -> Programme
     requires { ⌜ inRange (now d) ≡ true ⌝ }
     ensures { λ r. ⌜ r ≡ programmeOf (tableOf (now (d .entry))) ⌝ }
 {
-    let mut benefits = [0u64; 768];
-    let mut uses = [0u64; 12288];
-    let mut limits = [0u64; 16];
-    let mut shares = [0u64; 12288];
-    let mut downs = [0u64; 12288];
+    let mut benefits = [0u64; ENTRIES];
+    let mut uses = [0u64; USE_ENTRIES];
+    let mut limits = [0u64; MOST_RESOURCES];
+    let mut shares = [0u64; USE_ENTRIES];
+    let mut downs = [0u64; USE_ENTRIES];
     let z = fill::fill_all(
         d,
         &mut benefits,
@@ -74,7 +78,7 @@ fn no_programme() -> Programme
     ensures { λ r. ⌜ r ≡ noProgramme ⌝ }
 {
     Programme {
-        strategies: [0usize; 64],
+        strategies: [0usize; MOST_SEGMENTS],
         total: 0,
         after_pickups: 0,
         ceiling: 0,

@@ -9,6 +9,7 @@ use Rattle.base.specs.Over.{all}
 use Rattle.base.proofs.Choice.{leb-same}
 use Rattle.base.proofs.Sums.{sum-part}
 use Rattle.base.proofs.All.{all-cong}
+use Rattle.rules.specs.District.{mostResources}
 use Rattle.rules.specs.Phases.{strategyAt, give, chosenUsage, used, holds, within}
 use Rattle.laws.proofs.Give.{kept, used-give, give-numbers}
 use Rattle.tables.specs.declared.Size.{Size}
@@ -36,7 +37,7 @@ module _ {z : Size} {u c sums : List ℕ} (running : Running z u c sums) where
   sums-le : (r : ℕ) → 1 ≤ r → r ≤ z .resources → getD sums (r - 1) 0 ≤ 2 ^ 47
   sums-le r low high = omega (arith, running .sums-are [] [] r low high, used-le (running .bounded) (running .uses) [] [] c r)
 
-  pub testable : {given : List ℕ} → length given ≡ 16 → Testable (z .resources) u sums given
+  pub testable : {given : List ℕ} → length given ≡ mostResources → Testable (z .resources) u sums given
   testable places =
       record {
         few = running .bounded .resources;
@@ -104,7 +105,7 @@ module _ {z : Size} {u c sums : List ℕ} (running : Running z u c sums) where
     chosen-give =
         record { places = simp length-set (running .chosen .places); numbers = give-numbers c i a (z .strategies) number (running .chosen .numbers) }
 
-    pub running-give : {sums₂ : List ℕ} → length sums₂ ≡ 16 → ((r : ℕ) → 1 ≤ r → r ≤ z .resources → moved u sums sums₂ i (strategyAt c i) a r) → Running z u (give c i a) sums₂
+    pub running-give : {sums₂ : List ℕ} → length sums₂ ≡ mostResources → ((r : ℕ) → 1 ≤ r → r ≤ z .resources → moved u sums sums₂ i (strategyAt c i) a r) → Running z u (give c i a) sums₂
     unfolding moved
     running-give len h =
         record {

@@ -3,10 +3,22 @@ ghost use mathlib.Core.Path.{_≡_};
 ghost use Prim.Native.Nat.{ℕ, _<_, _≤_};
 ghost use mathlib.Core.List.{List};
 ghost use Rattle.base.specs.Over.{all};
+ghost use Rattle.rules.specs.District.{mostSegments, mostResources};
 ghost use lib.ListN.{length};
 ghost use Rattle.rules.specs.Phases.{strategyAt, give, total, within};
 ghost use Rattle.tables.specs.Arrays.{benefitAt, usageAt, tables, Benefits, Uses, Limits, Bounded, Cell, Chosen, Running};
 ghost use Rattle.tables.specs.Moves.{Budgets, Testable, roomFor, Movable, moved};
+use rules::places::MOST_RESOURCES;
+use rules::places::MOST_SEGMENTS;
+use rules::places::MOST_STRATEGIES;
+
+// The entries of a segment, one for nothing and one for each strategy; those of all segments; and a use of each
+// resource for each.
+pub const COLUMNS: usize = MOST_STRATEGIES + 1;
+
+pub const ENTRIES: usize = MOST_SEGMENTS * COLUMNS;
+
+pub const USE_ENTRIES: usize = MOST_RESOURCES * ENTRIES;
 
 // How many segments, strategies and resources there are.
 pub struct Size {
@@ -21,12 +33,12 @@ pub fn benefit(benefits: &[u64], i: usize, j: usize) -> u64
     requires { ⌜ Cell i j ⌝ }
     ensures { λ v. ⌜ v ≡ benefitAt (now (benefits .entry)) i j ⌝ }
 {
-    benefits[12 * (i - 1) + j]
+    benefits[COLUMNS * (i - 1) + j]
 }
 
 // The benefit of the strategy that segment i has.
 pub fn chosen_benefit(benefits: &[u64], choice: &[usize], i: usize) -> u64
-    requires { ⌜ Benefits (now benefits) × (length (now choice) ≡ 64) ⌝ }
+    requires { ⌜ Benefits (now benefits) × (length (now choice) ≡ mostSegments) ⌝ }
     requires { ⌜ Cell i (strategyAt (now choice) i) ⌝ }
     ensures { λ v. ⌜ v ≡ benefitAt (now (benefits .entry)) i (strategyAt (now (choice .entry)) i) ⌝ }
 {
@@ -36,10 +48,10 @@ pub fn chosen_benefit(benefits: &[u64], choice: &[usize], i: usize) -> u64
 // What strategy j on segment i uses of resource r; 0 for nothing.
 pub fn usage(uses: &[u64], i: usize, j: usize, r: usize) -> u64
     requires { ⌜ Uses (now uses) ⌝ }
-    requires { ⌜ Cell i j × (1 ≤ r) × (r ≤ 16) ⌝ }
+    requires { ⌜ Cell i j × (1 ≤ r) × (r ≤ mostResources) ⌝ }
     ensures { λ v. ⌜ v ≡ usageAt (now (uses .entry)) i j r ⌝ }
 {
-    uses[16 * (12 * (i - 1) + j) + (r - 1)]
+    uses[MOST_RESOURCES * (COLUMNS * (i - 1) + j) + (r - 1)]
 }
 
 // Resource r suffices where segment i gets strategy a and segment k strategy b.
@@ -93,12 +105,12 @@ pub fn budgets(
     x: usize,
     k: usize,
     y: usize,
-) -> [u64; 16]
-    requires { ⌜ (resources ≤ 16) × Uses (now uses) × Limits (now limits) ⌝ }
+) -> [u64; MOST_RESOURCES]
+    requires { ⌜ (resources ≤ mostResources) × Uses (now uses) × Limits (now limits) ⌝ }
     requires { ⌜ Cell i x × Cell k y ⌝ }
     ensures { λ v. ⌜ Budgets resources (now (uses .entry)) (now (limits .entry)) i x k y v ⌝ }
 {
-    let mut each = [0u64; 16];
+    let mut each = [0u64; MOST_RESOURCES];
     for r in 0..resources {
         each[r] = limits[r] + (usage(uses, i, x, r + 1) + usage(uses, k, y, r + 1));
     }

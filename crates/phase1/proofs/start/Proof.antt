@@ -7,6 +7,7 @@ use native.Mathlib.Omega.{arith}
 use borrow.Author.Needs.{needs}
 use lib.ListN.{length, getD, length-set}
 use Rattle.base.proofs.All.{each-none, each-set}
+use Rattle.rules.specs.District.{mostResources}
 use Rattle.rules.specs.Phases.{used}
 use Rattle.tables.specs.Arrays.{tables}
 use Rattle.phase1.proofs.Candidates.{start-chosen}
@@ -15,7 +16,7 @@ use Rattle.phase1.proofs.start.Tie as tie
 
 abbrev Inv-loop : tie.InvT-loop
 Inv-loop z benefits uses choice sums₀ resources r₀ sums r =
-    (r ≤ resources) × (length sums ≡ 16) × ((q : ℕ) → 1 ≤ q → q ≤ r → (b l : List ℕ) → getD sums (q - 1) 0 ≡ used (tables z b uses l) choice q)
+    (r ≤ resources) × (length sums ≡ mostResources) × ((q : ℕ) → 1 ≤ q → q ≤ r → (b l : List ℕ) → getD sums (q - 1) 0 ≡ used (tables z b uses l) choice q)
 
 abbrev μ-loop : tie.MeasureT-loop
 μ-loop z benefits uses choice sums₀ resources r₀ sums r = resources - r

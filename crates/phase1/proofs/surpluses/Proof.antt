@@ -6,13 +6,14 @@ use denote.Ref.{now}
 use borrow.Author.Needs.{needs}
 use lib.ListN.{length, getD, length-set}
 use Rattle.base.proofs.All.{each-none, each-set}
+use Rattle.rules.specs.District.{mostResources}
 use Rattle.phase1.specs.Reduce.{Surplus}
 use Rattle.phase1.proofs.surpluses.Statement.{statement}
 use Rattle.phase1.proofs.surpluses.Tie as tie
 
 abbrev Inv-loop : tie.InvT-loop
 Inv-loop z limits shares choice sums over₀ resources r₀ over r =
-    (r ≤ resources) × (length over ≡ 16) × ((q : ℕ) → 1 ≤ q → q ≤ r → Surplus z limits shares choice sums q (getD over (q - 1) 0))
+    (r ≤ resources) × (length over ≡ mostResources) × ((q : ℕ) → 1 ≤ q → q ≤ r → Surplus z limits shares choice sums q (getD over (q - 1) 0))
 
 abbrev μ-loop : tie.MeasureT-loop
 μ-loop z limits shares choice sums over₀ resources r₀ over r = resources - r

@@ -4,6 +4,7 @@ use mathlib.Core.Path.{_≡_, refl}
 use native.Mathlib.Omega.{arith}
 use lib.ListN.{getD, length, length-set}
 use Rattle.base.proofs.All.{each-none, each-set}
+use Rattle.rules.specs.District.{mostResources}
 use Rattle.tables.specs.Arrays.{usageAt}
 use Rattle.tables.proofs.Arrays.{usage-lt}
 use borrow.Author.Needs.{needs}
@@ -12,7 +13,7 @@ use Rattle.tables.proofs.budgets.Tie as tie
 
 abbrev Inv-loop : tie.InvT-loop
 Inv-loop resources uses limits i x k y each₀ r₀ each r =
-    (r ≤ resources) × (length each ≡ 16)
+    (r ≤ resources) × (length each ≡ mostResources)
     × ((q : ℕ) → 1 ≤ q → q ≤ r → getD each (q - 1) 0 ≡ getD limits (q - 1) 0 + (usageAt uses i x q + usageAt uses k y q))
 
 abbrev μ-loop : tie.MeasureT-loop
