@@ -13,12 +13,13 @@ use Rattle.base.specs.Choice.{pick}
 use Rattle.base.specs.Over.{sum, most}
 use Rattle.base.proofs.Choice.{leb-same}
 use Rattle.base.proofs.Sums.{sum-bound, sum-change, sum-more, most-bound, most-next, sum-next}
+use Rattle.rules.specs.District.{mostSegments, mostStrategies}
 use Rattle.rules.specs.Table.{Table}
 use Rattle.rules.specs.Ceiling.{priceAt, downShare, costBy, cost, net, margin, ceilingAt}
 use Rattle.laws.proofs.Give.{given, kept}
-use Rattle.tables.specs.Arrays.{entry}
+use Rattle.tables.specs.Arrays.{entry, useEntry, columns, entries}
 use Rattle.tables.specs.declared.Size.{Size}
-use Rattle.ceiling.specs.Prices.{shareEntry, In, Sized, shown, Prices, Costs, Trial}
+use Rattle.ceiling.specs.Prices.{In, Sized, shown, Prices, Costs, Trial}
 
 -- ---- resource r gets the price q
 
@@ -51,9 +52,9 @@ prices-small p prices n = sum-bound n (2 ^ 41) (priceAt p) (λ k l h. omega (ari
 -- ---- over arrays
 
 module _ (z : Size) (b d : List ℕ) where
-  pub share-is : (i j r : ℕ) → downShare (shown z b d) i j r ≡ getD d (shareEntry i j r) 0
+  pub share-is : (i j r : ℕ) → downShare (shown z b d) i j r ≡ getD d (useEntry i j r) 0
   unfolding downShare
-  share-is i j r = mul-div-cancel (getD d (shareEntry i j r) 0) (omega arith)
+  share-is i j r = mul-div-cancel (getD d (useEntry i j r) 0) (omega arith)
 
   module _ (sized : Sized z b d) where
     -- 16 × 2 ^ 41 × 10,000
@@ -92,7 +93,7 @@ module _ (z : Size) (b d p : List ℕ) (r price : ℕ) (m : Trial z b d p r pric
 
   module _ (i j : ℕ) (inside : In z i j) (worth : 0 < getD b (entry i j) 0) {c : ℕ} (old : c ≡ cost t p i j) where
     abbrev share : ℕ
-    share = getD d (shareEntry i j r) 0
+    share = getD d (useEntry i j r) 0
 
     change : cost t new i j + priceAt p r * share ≡ c + price * share
     change =
@@ -147,11 +148,11 @@ module _ (z : Size) (b d new old c : List ℕ) where
   costs-start h = record { places = h .places; costs = λ i j inside worth. h .costs i j inside worth ∙ rw (le-ltb (entry i j) 0 (omega arith)) }
 
   -- past the last segment's
-  pub costs-end : Costs z b d new old (12 * z .segments) c → z .strategies ≤ 11 → Costs z b d new new 0 c
+  pub costs-end : Costs z b d new old (columns * z .segments) c → z .strategies ≤ mostStrategies → Costs z b d new new 0 c
   costs-end h few =
       record {
         places = h .places;
-        costs = λ i j inside worth. h .costs i j inside worth ∙ rw (lt-ltb (entry i j) (12 * z .segments) (omega (arith, inside .segment-to, inside .strategy-to, inside .segment-from)), le-ltb (entry i j) 0 (omega arith));
+        costs = λ i j inside worth. h .costs i j inside worth ∙ rw (lt-ltb (entry i j) (columns * z .segments) (omega (arith, inside .segment-to, inside .strategy-to, inside .segment-from)), le-ltb (entry i j) 0 (omega arith));
       }
 
   -- from e to f where no candidate's entry stands between them
@@ -162,8 +163,8 @@ module _ (z : Size) (b d new old c : List ℕ) where
   pub costs-held : (e : ℕ) → Costs z b d new old e c → (i j : ℕ) → In z i j → 0 < getD b (entry i j) 0 → e ≤ entry i j → getD c (entry i j) 0 ≡ cost (shown z b d) old i j
   costs-held e h i j inside worth le = h .costs i j inside worth ∙ rw (le-ltb (entry i j) e le)
 
-  module _ (i j : ℕ) (inside : In z i j) (few : z .strategies ≤ 11) (h : Costs z b d new old (entry i j) c) where
-    costs-next : (e : List ℕ) → length e ≡ 768 → (0 < getD b (entry i j) 0 → getD e (entry i j) 0 ≡ cost (shown z b d) new i j) → ((k : ℕ) → (k ≡ entry i j → ⊥) → getD e k 0 ≡ getD c k 0) → Costs z b d new old (entry i (j + 1)) e
+  module _ (i j : ℕ) (inside : In z i j) (few : z .strategies ≤ mostStrategies) (h : Costs z b d new old (entry i j) c) where
+    costs-next : (e : List ℕ) → length e ≡ entries → (0 < getD b (entry i j) 0 → getD e (entry i j) 0 ≡ cost (shown z b d) new i j) → ((k : ℕ) → (k ≡ entry i j → ⊥) → getD e k 0 ≡ getD c k 0) → Costs z b d new old (entry i (j + 1)) e
     costs-next e long here there = record { places = long; costs = λ k l in' worth. go k l in' worth (eqb (entry k l) (entry i j)) refl }
       where
         go : (k l : ℕ) → In z k l → 0 < getD b (entry k l) 0 → (x : Bool) → eqb (entry k l) (entry i j) ≡ x → getD e (entry k l) 0 ≡ cost (shown z b d) (pick (ltb (entry k l) (entry i (j + 1))) new old) k l
@@ -176,7 +177,7 @@ module _ (z : Size) (b d new old c : List ℕ) where
             let ne = eqb-false (entry k l) (entry i j) q in
             there (entry k l) ne ∙ h .costs k l in' worth ∙ rw (leb-same (suc (entry k l)) (entry i j) (suc (entry k l)) (entry i (j + 1)) (λ lt. omega arith) (λ lt. omega (arith, ne)))
 
-    pub costs-set : {x : ℕ} → i ≤ 64 → x ≡ cost (shown z b d) new i j → Costs z b d new old (entry i (j + 1)) (set c (entry i j) x)
+    pub costs-set : {x : ℕ} → i ≤ mostSegments → x ≡ cost (shown z b d) new i j → Costs z b d new old (entry i (j + 1)) (set c (entry i j) x)
     costs-set {x} l e =
         costs-next (set c (entry i j) x) (length-set c (entry i j) x ∙ h .places)
         (λ _. getD-set-same c (entry i j) x 0 (omega (arith, h .places, inside .strategy-to)) ∙ e)

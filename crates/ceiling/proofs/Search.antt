@@ -13,12 +13,13 @@ use lib.Pow.{pow-pos}
 use lib.Seq.{getD-set-other}
 use Rattle.base.proofs.Choice.{pick-all}
 use Rattle.base.proofs.Sums.{sum-cong, sum-zero}
+use Rattle.rules.specs.District.{mostResources}
 use Rattle.rules.specs.Table.{Table}
 use Rattle.rules.specs.Ceiling.{priceAt, downShare, costBy, cost, raised, lowered, ceilingAt, lowers, priced, pricedAll, pricesAfter}
 use Rattle.laws.proofs.Give.{set-le}
-use Rattle.tables.specs.Arrays.{entry}
+use Rattle.tables.specs.Arrays.{entry, entries}
 use Rattle.tables.specs.declared.Size.{Size}
-use Rattle.ceiling.specs.Prices.{Sized, shown, Prices, Costs, Trial, Room}
+use Rattle.ceiling.specs.Prices.{Sized, shown, Prices, Costs, Trial, Headroom}
 use Rattle.ceiling.proofs.Costs.{ceiling-small}
 
 -- ---- which case a step takes
@@ -58,31 +59,31 @@ priced-all P t s p r up down same =
 -- ---- how far prices go
 
 -- 16 prices up to m, and from place k on there is room for the step s
-pub record Ready (m s k : ℕ) (p : List ℕ) : Type 0 where
-  pub places : length p ≡ 16
+pub record Raisable (m s k : ℕ) (p : List ℕ) : Type 0 where
+  pub places : length p ≡ mostResources
   pub small : (q : ℕ) → getD p q 0 ≤ m
   pub room : (q : ℕ) → k ≤ q → getD p q 0 + s ≤ m
 
-ready-set : (m s k : ℕ) (p : List ℕ) (v : ℕ) → Ready m s k p → v ≤ m → Ready m s (suc k) (set p k v)
-ready-set m s k p v h l =
+raisable-set : (m s k : ℕ) (p : List ℕ) (v : ℕ) → Raisable m s k p → v ≤ m → Raisable m s (suc k) (set p k v)
+raisable-set m s k p v h l =
     record {
       places = length-set p k v ∙ h .places;
       small = set-le p k v m l (h .small);
       room = λ q le. rw (getD-set-other p k q v 0 (λ e. omega arith)) (h .room q (omega arith));
     }
 
-priced-ready : (t : Table) (m s k : ℕ) (p : List ℕ) → Ready m s k p → Ready m s (suc k) (priced t s p (suc k))
-priced-ready t m s k p h =
+priced-raisable : (t : Table) (m s k : ℕ) (p : List ℕ) → Raisable m s k p → Raisable m s (suc k) (priced t s p (suc k))
+priced-raisable t m s k p h =
     let at : suc k - 1 ≡ k = omega arith in
-    priced-all (Ready m s (suc k)) t s p (suc k)
-    (rw at (ready-set m s k p (getD p k 0 + s) h (h .room k (omega arith))))
-    (rw at (ready-set m s k p (getD p k 0 - s) h (omega (arith, h .small k))))
+    priced-all (Raisable m s (suc k)) t s p (suc k)
+    (rw at (raisable-set m s k p (getD p k 0 + s) h (h .room k (omega arith))))
+    (rw at (raisable-set m s k p (getD p k 0 - s) h (omega (arith, h .small k))))
     (record { places = h .places; small = h .small; room = λ q le. h .room q (omega arith) })
 
-pub all-ready : (t : Table) (m s : ℕ) (p : List ℕ) → Ready m s 0 p → (k : ℕ) → Ready m s k (pricedAll t s k p)
+pub all-raisable : (t : Table) (m s : ℕ) (p : List ℕ) → Raisable m s 0 p → (k : ℕ) → Raisable m s k (pricedAll t s k p)
 unfolding pricedAll
-all-ready t m s p h zero = h
-all-ready t m s p h (suc k) = priced-ready t m s k (pricedAll t s k p) (all-ready t m s p h k)
+all-raisable t m s p h zero = h
+all-raisable t m s p h (suc k) = priced-raisable t m s k (pricedAll t s k p) (all-raisable t m s p h k)
 
 -- ---- a round, and the rounds
 
@@ -94,7 +95,7 @@ pub all-next : (t : Table) (s : ℕ) (p : List ℕ) (k : ℕ) {q x : List ℕ} �
 unfolding pricedAll
 all-next t s p k e h = h ∙ rw (add-one, e)
 
-pub after-none : (t : Table) → replicate 16 0 ≡ pricesAfter t 0
+pub after-none : (t : Table) → replicate mostResources 0 ≡ pricesAfter t 0
 unfolding pricesAfter
 after-none t = refl
 
@@ -111,37 +112,37 @@ zeros (suc n) zero = refl
 zeros (suc n) (suc k) = zeros n k
 
 -- before round n + 1 there is room for all the steps that are left
-after-ready : (t : Table) (n : ℕ) → n ≤ 41 → Ready (2 ^ 41) (2 ^ (41 - n)) 0 (pricesAfter t n)
+after-raisable : (t : Table) (n : ℕ) → n ≤ 41 → Raisable (2 ^ 41) (2 ^ (41 - n)) 0 (pricesAfter t n)
 unfolding pricesAfter
-after-ready t zero h = record { places = refl; small = λ q. omega (arith, zeros 16 q); room = λ q l. omega (arith, zeros 16 q) }
-after-ready t (suc n) h =
+after-raisable t zero h = record { places = refl; small = λ q. omega (arith, zeros mostResources q); room = λ q l. omega (arith, zeros mostResources q) }
+after-raisable t (suc n) h =
     let e : 41 - suc n ≡ 40 - n = omega arith in
-    let before : Ready (2 ^ 41) (2 ^ (41 - n)) 0 (pricesAfter t n) = after-ready t n (omega arith) in
-    let start : Ready (2 ^ 41 - 2 ^ (40 - n)) (2 ^ (40 - n)) 0 (pricesAfter t n) =
+    let before : Raisable (2 ^ 41) (2 ^ (41 - n)) 0 (pricesAfter t n) = after-raisable t n (omega arith) in
+    let start : Raisable (2 ^ 41 - 2 ^ (40 - n)) (2 ^ (40 - n)) 0 (pricesAfter t n) =
     record { places = before .places; small = λ q. omega (arith, before .room q (omega arith), halved n h); room = λ q l. omega (arith, before .room q l, halved n h) } in
-    let done = all-ready t (2 ^ 41 - 2 ^ (40 - n)) (2 ^ (40 - n)) (pricesAfter t n) start (t .resources) in
+    let done = all-raisable t (2 ^ 41 - 2 ^ (40 - n)) (2 ^ (40 - n)) (pricesAfter t n) start (t .resources) in
     rw e (record { places = done .places; small = λ q. omega (arith, done .small q); room = λ q l. omega (arith, done .small q, before .room q l, halved n h) })
 
 -- for the code: at the start of a round, and at each resource in it
-pub after-room : (t : Table) (n : ℕ) {s : ℕ} {p : List ℕ} → p ≡ pricesAfter t n → s ≡ 2 ^ (40 - n) → n < 41 → Room s p
+pub after-room : (t : Table) (n : ℕ) {s : ℕ} {p : List ℕ} → p ≡ pricesAfter t n → s ≡ 2 ^ (40 - n) → n < 41 → Headroom s p
 after-room t n e q h =
-    let before = after-ready t n (omega arith) in
+    let before = after-raisable t n (omega arith) in
     rw e (record { places = before .places; room = λ k. omega (arith, before .room k (omega arith), halved n h, pow-pos (40 - n)) })
 
-pub after-places : (t : Table) (n : ℕ) {p : List ℕ} → p ≡ pricesAfter t n → n ≤ 41 → length p ≡ 16
-after-places t n e h = rw e (after-ready t n h .places)
+pub after-places : (t : Table) (n : ℕ) {p : List ℕ} → p ≡ pricesAfter t n → n ≤ 41 → length p ≡ mostResources
+after-places t n e h = rw e (after-raisable t n h .places)
 
-pub room-at : (t : Table) (s : ℕ) (p : List ℕ) (k : ℕ) {q : List ℕ} → Room s p → q ≡ pricedAll t s k p → Ready (2 ^ 41 - 1) s k q
+pub room-at : (t : Table) (s : ℕ) (p : List ℕ) (k : ℕ) {q : List ℕ} → Headroom s p → q ≡ pricedAll t s k p → Raisable (2 ^ 41 - 1) s k q
 room-at t s p k h e =
-    rw e (all-ready t (2 ^ 41 - 1) s p (record { places = h .places; small = λ q. omega (arith, h .room q); room = λ q l. omega (arith, h .room q) }) k)
+    rw e (all-raisable t (2 ^ 41 - 1) s p (record { places = h .places; small = λ q. omega (arith, h .room q); room = λ q l. omega (arith, h .room q) }) k)
 
-pub ready-prices : {s k : ℕ} {p : List ℕ} → Ready (2 ^ 41 - 1) s k p → Prices p
-ready-prices h = record { places = h .places; small = λ q. omega (arith, h .small q) }
+pub raisable-prices : {s k : ℕ} {p : List ℕ} → Raisable (2 ^ 41 - 1) s k p → Prices p
+raisable-prices h = record { places = h .places; small = λ q. omega (arith, h .small q) }
 
 module _ (z : Size) (b d : List ℕ) where
-  pub ready-trial : (p : List ℕ) (s r : ℕ) → Sized z b d → Ready (2 ^ 41 - 1) s r p → r < z .resources → Trial z b d p (r + 1) (priceAt p (r + 1) + s)
-  ready-trial p s r sized h l =
-      record { sized = sized; prices = ready-prices h; resource-from = omega arith; resource-to = omega arith; small = omega (arith, h .room (r + 1 - 1) (omega arith)) }
+  pub raisable-trial : (p : List ℕ) (s r : ℕ) → Sized z b d → Raisable (2 ^ 41 - 1) s r p → r < z .resources → Trial z b d p (r + 1) (priceAt p (r + 1) + s)
+  raisable-trial p s r sized h l =
+      record { sized = sized; prices = raisable-prices h; resource-from = omega arith; resource-to = omega arith; small = omega (arith, h .room (r + 1 - 1) (omega arith)) }
 
   pub trial-lower : {p : List ℕ} {r q : ℕ} (price : ℕ) → Trial z b d p r q → price ≤ q → Trial z b d p r price
   trial-lower price m l =
@@ -150,26 +151,26 @@ module _ (z : Size) (b d : List ℕ) where
   -- ---- the start: all prices are 0, so nothing costs anything
 
   module _ (sized : Sized z b d) where
-    pub start-trial : Trial z b d (replicate 16 0) 1 0
+    pub start-trial : Trial z b d (replicate mostResources 0) 1 0
     start-trial =
         record {
           sized = sized;
-          prices = record { places = length-replicate {A = ℕ} 16 0; small = λ k. omega (arith, zeros 16 k) };
+          prices = record { places = length-replicate {A = ℕ} mostResources 0; small = λ k. omega (arith, zeros mostResources k) };
           resource-from = omega arith;
           resource-to = sized .resources-from;
           small = omega arith;
         }
 
-    pub start-costs : Costs z b d (replicate 16 0) (replicate 16 0) 0 (replicate 768 0)
+    pub start-costs : Costs z b d (replicate mostResources 0) (replicate mostResources 0) 0 (replicate entries 0)
     unfolding cost costBy
     start-costs =
         record {
-          places = length-replicate {A = ℕ} 768 0;
+          places = length-replicate {A = ℕ} entries 0;
           costs = λ i j inside worth.
               let e = le-ltb (entry i j) 0 (omega arith) in
-              zeros 768 (entry i j) ∙ sym (rw e (sum-cong (z .resources) (costBy (shown z b d) (replicate 16 0) i j) (λ _. 0) (λ r l h. rw (zeros 16 (r - 1)) (zero-mul (downShare (shown z b d) i j r))) ∙ sum-zero (z .resources)));
+              zeros entries (entry i j) ∙ sym (rw e (sum-cong (z .resources) (costBy (shown z b d) (replicate mostResources 0) i j) (λ _. 0) (λ r l h. rw (zeros mostResources (r - 1)) (zero-mul (downShare (shown z b d) i j r))) ∙ sum-zero (z .resources)));
         }
 
-    pub start-value : {x : ℕ} → x ≡ min (ceilingAt (shown z b d) (set (replicate 16 0) 0 0)) (2 ^ 62) → x ≡ ceilingAt (shown z b d) (replicate 16 0)
+    pub start-value : {x : ℕ} → x ≡ min (ceilingAt (shown z b d) (set (replicate mostResources 0) 0 0)) (2 ^ 62) → x ≡ ceilingAt (shown z b d) (replicate mostResources 0)
     start-value e =
-        e ∙ min-eq-left (le-of-lt (ceiling-small z b d sized (replicate 16 0) (start-trial .prices)))
+        e ∙ min-eq-left (le-of-lt (ceiling-small z b d sized (replicate mostResources 0) (start-trial .prices)))

@@ -1,12 +1,17 @@
 // The ceiling: the search for prices, with each candidate's cost kept from trial to trial.
+use rules::places::MOST_RESOURCES;
+use tables::COLUMNS;
+use tables::ENTRIES;
 use tables::Size;
 ghost use mathlib.Core.Path.{_≡_};
 ghost use Prim.Native.Nat.{_+_, _*_, _-_, _≤_, _<_, _^_, max, min};
 ghost use lib.ListN.{set};
 ghost use Rattle.base.specs.Over.{sum};
+ghost use Rattle.tables.specs.Arrays.{columns};
+ghost use Rattle.rules.specs.District.{mostResources};
 ghost use Rattle.rules.specs.Table.{Table};
 ghost use Rattle.rules.specs.Ceiling.{priceAt, margin, ceilingAt, priced, pricedAll, ceiling};
-ghost use Rattle.ceiling.specs.Prices.{Priced, Sized, shown, Prices, Costs, Trial, Room, Standing};
+ghost use Rattle.ceiling.specs.Prices.{Priced, Sized, shown, Prices, Costs, Trial, Headroom, Standing};
 
 fn larger(a: u64, b: u64) -> u64
     ensures { λ x. ⌜ x ≡ max a b ⌝ }
@@ -31,7 +36,7 @@ fn moved(cost: u64, share: u64, old: u64, new: u64) -> u64
 
 // The whole limits at their prices.
 fn whole(z: Size, prices: &[u64]) -> u64
-    requires { ⌜ (z .resources ≤ 16) × Prices (now prices) ⌝ }
+    requires { ⌜ (z .resources ≤ mostResources) × Prices (now prices) ⌝ }
     ensures { λ x. ⌜ x ≡ 10_000 * sum (z .resources) (priceAt (now (prices .entry))) ⌝ }
 {
     let mut total: u64 = 0;
@@ -43,8 +48,8 @@ fn whole(z: Size, prices: &[u64]) -> u64
     10_000 * total
 }
 
-// The margin of segment i with the price of resource r at `price`. A strategy that gains no more than the best so far has left is passed
-// over, and so is one that is no candidate.
+// The margin of segment i with the price of resource r at `price`. A strategy whose benefit is no more than what the best so far
+// leaves is passed over, and so is one that is no candidate.
 fn margin_at(
     z: Size,
     benefits: &[u64],
@@ -62,10 +67,10 @@ fn margin_at(
     let mut best: u64 = 0;
     let mut j: usize = 0;
     while j < z.strategies {
-        let at = 12 * (i - 1) + (j + 1);
+        let at = COLUMNS * (i - 1) + (j + 1);
         let benefit = benefits[at];
         if best < benefit {
-            let cost = moved(costs[at], downs[16 * at + (r - 1)], old, price);
+            let cost = moved(costs[at], downs[MOST_RESOURCES * at + (r - 1)], old, price);
             best = larger(best, above(benefit, cost));
         }
         j += 1;
@@ -110,15 +115,15 @@ fn reprice_segment(
     price: u64,
     i: usize,
 )
-    requires { ⌜ (Trial z (now benefits) (now downs) (now prices) r price) × (Costs z (now benefits) (now downs) (set (now prices) (r - 1) price) (now prices) (12 * (i - 1)) (now costs)) × (1 ≤ i) × (i ≤ z .segments) ⌝ }
-    ensures { λ _. ⌜ Costs z (now (benefits .entry)) (now (downs .entry)) (set (now (prices .entry)) (r - 1) price) (now (prices .entry)) (12 * i) (now (costs .exit)) ⌝ }
+    requires { ⌜ (Trial z (now benefits) (now downs) (now prices) r price) × (Costs z (now benefits) (now downs) (set (now prices) (r - 1) price) (now prices) (columns * (i - 1)) (now costs)) × (1 ≤ i) × (i ≤ z .segments) ⌝ }
+    ensures { λ _. ⌜ Costs z (now (benefits .entry)) (now (downs .entry)) (set (now (prices .entry)) (r - 1) price) (now (prices .entry)) (columns * i) (now (costs .exit)) ⌝ }
 {
     let old = prices[r - 1];
     let mut j: usize = 0;
     while j < z.strategies {
-        let at = 12 * (i - 1) + (j + 1);
+        let at = COLUMNS * (i - 1) + (j + 1);
         if 0 < benefits[at] {
-            costs[at] = moved(costs[at], downs[16 * at + (r - 1)], old, price);
+            costs[at] = moved(costs[at], downs[MOST_RESOURCES * at + (r - 1)], old, price);
         }
         j += 1;
     }
@@ -190,7 +195,7 @@ fn price_all(
     present: u64,
     step: u64,
 ) -> u64
-    requires { ⌜ (Sized z (now benefits) (now downs)) × (Room step (now prices)) × (Standing z (now benefits) (now downs) (now prices) (now costs) present) ⌝ }
+    requires { ⌜ (Sized z (now benefits) (now downs)) × (Headroom step (now prices)) × (Standing z (now benefits) (now downs) (now prices) (now costs) present) ⌝ }
     ensures { λ x. ⌜ now (prices .exit) ≡ pricedAll (shown z (now (benefits .entry)) (now (downs .entry))) step (z .resources) (now (prices .entry)) ⌝ }
     ensures { λ x. ⌜ Standing z (now (benefits .entry)) (now (downs .entry)) (now (prices .exit)) (now (costs .exit)) x ⌝ }
 {
@@ -216,8 +221,8 @@ pub fn ceiling_of(z: Size, benefits: &[u64], downs: &[u64]) -> u64
     requires { ⌜ Sized z (now benefits) (now downs) ⌝ }
     ensures { λ x. ⌜ ((t : Table) → Priced t z (now (benefits .entry)) (now (downs .entry)) → x ≡ ceiling t) ⌝ }
 {
-    let mut prices = [0u64; 16];
-    let mut costs = [0u64; 768];
+    let mut prices = [0u64; MOST_RESOURCES];
+    let mut costs = [0u64; ENTRIES];
     let mut value = trial(z, benefits, downs, &prices, &costs, 1, 0, 1u64 << 62);
     for k in 0..41 {
         value = price_all(

@@ -11,52 +11,51 @@ use Rattle.rules.specs.Table.{Table}
 use Rattle.rules.specs.Phases.{share}
 use Rattle.rules.specs.Ceiling.{downShare}
 use Rattle.laws.specs.Tables.{FitAlone}
-use Rattle.laws.proofs.Shares.{divide-up-small}
 use Rattle.tables.specs.declared.Size.{Size}
-use Rattle.tables.specs.Arrays.{entry, usageAt, limitAt, tables, Sound, Cell}
-use Rattle.tables.proofs.Laws.{usage-at, limit-at}
+use Rattle.tables.specs.Arrays.{useEntry, usageAt, limitAt, tables, Uses, Cell, useEntries}
+use Rattle.tables.proofs.Arrays.{usage-at, limit-at}
 use Rattle.grammar.specs.Ranges.{Ranges}
-use Rattle.rules.specs.District.{District}
+use Rattle.rules.specs.District.{District, mostResources}
 use Rattle.fill.specs.Filled.{Filled}
-use Rattle.fill.proofs.Tables.{table-is, sound, fit-alone}
+use Rattle.fill.proofs.Tables.{table-is, tabled, fit-alone}
 use Rattle.fill.specs.Lists.{sizeOf, benefitList, usageList, limitList, shareEntry, shareList, downShareEntry, downShareList}
 
-pub shares-length : (u l : List ℕ) → length (shareList u l) ≡ 12_288
+pub shares-length : (u l : List ℕ) → length (shareList u l) ≡ useEntries
 unfolding shareList
-shares-length u l = listed-length (shareEntry u l) 12_288 0
+shares-length u l = listed-length (shareEntry u l) useEntries 0
 
-pub down-shares-length : (u l : List ℕ) → length (downShareList u l) ≡ 12_288
+pub down-shares-length : (u l : List ℕ) → length (downShareList u l) ≡ useEntries
 unfolding downShareList
-down-shares-length u l = listed-length (downShareEntry u l) 12_288 0
+down-shares-length u l = listed-length (downShareEntry u l) useEntries 0
 
-module _ (z : Size) (b u l : List ℕ) (sound : Sound z b u l) (i j r : ℕ) (cell : Cell i j) (low : 1 ≤ r) (high : r ≤ 16) where
+module _ (z : Size) (b u l : List ℕ) (uses : Uses u) (i j r : ℕ) (cell : Cell i j) (low : 1 ≤ r) (high : r ≤ mostResources) where
   place : ℕ
-  place = 16 * entry i j + (r - 1)
+  place = useEntry i j r
 
   use-here : getD u (0 + place) 0 ≡ usageAt u i j r
   unfolding place
   use-here =
-      let e : 0 + (16 * entry i j + (r - 1)) ≡ 16 * entry i j + (r - 1) = omega arith in
-      ap (λ n. getD u n 0) e ∙ usage-at u (sound .uses) i j r cell low high
+      let e : 0 + useEntry i j r ≡ useEntry i j r = omega arith in
+      ap (λ n. getD u n 0) e ∙ usage-at uses i j r cell low high
 
-  limit-here : getD l ((0 + place) % 16) 0 ≡ limitAt l r
+  limit-here : getD l ((0 + place) % mostResources) 0 ≡ limitAt l r
   unfolding place
   limit-here =
-      let e : (0 + (16 * entry i j + (r - 1))) % 16 ≡ r - 1 = omega arith in
+      let e : (0 + useEntry i j r) % mostResources ≡ r - 1 = omega arith in
       ap (λ n. getD l n 0) e ∙ sym (limit-at l r low high)
 
   -- i, j and r are within the arrays
-  within : place < 12_288
+  within : place < useEntries
   unfolding place
   within = omega (arith, cell .low, cell .high, cell .number)
 
-  pub share-entry : getD (shareList u l) (16 * entry i j + (r - 1)) 0 ≡ share (tables z b u l) i j r
+  pub share-entry : getD (shareList u l) (useEntry i j r) 0 ≡ share (tables z b u l) i j r
   unfolding place shareList shareEntry share
-  share-entry = listed-at 12_288 0 place (shareEntry u l) within ∙ ap₂ (λ a m. divideUp (a * 10_000) m) use-here limit-here
+  share-entry = listed-at useEntries 0 place (shareEntry u l) within ∙ ap₂ (λ a m. divideUp (a * 10_000) m) use-here limit-here
 
-  pub down-share-entry : getD (downShareList u l) (16 * entry i j + (r - 1)) 0 ≡ downShare (tables z b u l) i j r
+  pub down-share-entry : getD (downShareList u l) (useEntry i j r) 0 ≡ downShare (tables z b u l) i j r
   unfolding place downShareList downShareEntry downShare
-  down-share-entry = listed-at 12_288 0 place (downShareEntry u l) within ∙ ap₂ (λ a m. a * 10_000 / m) use-here limit-here
+  down-share-entry = listed-at useEntries 0 place (downShareEntry u l) within ∙ ap₂ (λ a m. a * 10_000 / m) use-here limit-here
 
 -- ---- of a candidate
 
@@ -67,10 +66,6 @@ divide-small a (suc b) h =
     omega arith
 
 module _ (t : Table) (fit : FitAlone t) (i j r : ℕ) (li : 1 ≤ i) (hi : i ≤ t .segments) (lj : 1 ≤ j) (hj : j ≤ t .strategies) (lr : 1 ≤ r) (hr : r ≤ t .resources) (worth : 1 ≤ t .benefit i j) where
-  pub share-le : share t i j r ≤ 10_000
-  unfolding share
-  share-le = divide-up-small (t .usage i j r) (t .limit r) (fit .fits i j r li hi lj hj lr hr worth)
-
   pub down-share-le : downShare t i j r ≤ 10_000
   unfolding downShare
   down-share-le = divide-small (t .usage i j r) (t .limit r) (fit .fits i j r li hi lj hj lr hr worth)
@@ -79,24 +74,24 @@ module _ (t : Table) (fit : FitAlone t) (i j r : ℕ) (li : 1 ≤ i) (hi : i ≤
 
 pub filled : (d : District) → Ranges d → Filled d (sizeOf d) (benefitList d) (usageList d) (limitList d) (shareList (usageList d) (limitList d)) (downShareList (usageList d) (limitList d))
 filled d ok =
-    let s = sound d ok in
+    let held = tabled d ok in
     record {
       table = table-is d ok;
-      sound = s;
+      tabled = held;
       fit = fit-alone d ok;
       shares-length = shares-length (usageList d) (limitList d);
-      shares = λ i j r. share-entry (sizeOf d) (benefitList d) (usageList d) (limitList d) s i j r;
+      shares = λ i j r. share-entry (sizeOf d) (benefitList d) (usageList d) (limitList d) (held .uses) i j r;
       downs-length = down-shares-length (usageList d) (limitList d);
-      downs = λ i j r. down-share-entry (sizeOf d) (benefitList d) (usageList d) (limitList d) s i j r;
+      downs = λ i j r. down-share-entry (sizeOf d) (benefitList d) (usageList d) (limitList d) (held .uses) i j r;
     }
 
 -- the same of arrays that equal them, with what the shares need of uses and limits
 module _ (d : District) (ok : Ranges d) {u l : List ℕ} (hu : u ≡ usageList d) (hl : l ≡ limitList d) where
-  pub sized : (length u ≡ 12_288) × (length l ≡ 16)
-  sized = rw (hu, hl) (sound d ok .uses .places, sound d ok .limits .places)
+  pub sized : (length u ≡ useEntries) × (length l ≡ mostResources)
+  sized = rw (hu, hl) (tabled d ok .uses .places, tabled d ok .limits .places)
 
   pub bounded : ((k : ℕ) → getD u k 0 < 2 ^ 41) × ((k : ℕ) → getD l k 0 < 2 ^ 47)
-  bounded = rw (hu, hl) (sound d ok .uses .small, sound d ok .limits .small)
+  bounded = rw (hu, hl) (tabled d ok .uses .small, tabled d ok .limits .small)
 
   pub filled-by : {b s e : List ℕ} → b ≡ benefitList d → s ≡ shareList u l → e ≡ downShareList u l → Filled d (sizeOf d) b u l s e
   filled-by hb hs he = rw (hb, hs, he, hu, hl) (filled d ok)

@@ -1,4 +1,4 @@
--- The arrays filled from a district are its table, and are sound. Assumes nothing.
+-- The arrays filled from a district hold its table. Assumes nothing.
 use Prim.Native.Nat.{ℕ, _+_, _-_, _*_, _/_, _%_, _^_, _≤_, _<_}
 use mathlib.Core.Path.{_≡_, refl, ap, ap₂, sym, fun-ext, _∙_}
 use mathlib.Core.Bool.{Bool, true, false, _&&_, and-false, true≢false}
@@ -10,12 +10,12 @@ use Rattle.base.specs.Over.{between}
 use Rattle.base.proofs.Choice.{and-both, between-yes}
 use Rattle.base.proofs.Listed.{listed-at, listed-length, listed-each}
 use Rattle.grammar.specs.Ranges.{Ranges}
-use Rattle.rules.specs.District.{District, resourcesOf}
+use Rattle.rules.specs.District.{District, resourcesOf, mostSegments, mostStrategies, mostResources}
 use Rattle.rules.specs.Rating.{candidate}
 use Rattle.rules.specs.Table.{has, candidateBenefit, usageIn, limitIn, tableOf}
 use Rattle.laws.specs.Tables.{FitAlone}
 use Rattle.theorems.proofs.Entries.{table-fit}
-use Rattle.tables.specs.Arrays.{entry, benefitAt, usageAt, limitAt, tables, Sound}
+use Rattle.tables.specs.Arrays.{entry, useEntry, benefitAt, usageAt, limitAt, tables, Tabled, columns, entries, useEntries}
 use Rattle.rating.specs.Numbers.{Segment, Resource}
 use Rattle.rating.proofs.Entries.{between-in, has-within, resource-within, candidate-benefit-le, usage-in-le, limit-in-le}
 use Rattle.fill.specs.Lists.{sizeOf, benefitEntry, benefitList, usageEntry, usageList, limitList}
@@ -23,25 +23,25 @@ use Rattle.fill.specs.Lists.{sizeOf, benefitEntry, benefitList, usageEnt
 -- ---- each entry, at its place
 
 module _ (d : District) where
-  pub benefit-entry : (i j : ℕ) → Segment i → j ≤ 11 → getD (benefitList d) (entry i j) 0 ≡ candidateBenefit d i j
+  pub benefit-entry : (i j : ℕ) → Segment i → j ≤ mostStrategies → getD (benefitList d) (entry i j) 0 ≡ candidateBenefit d i j
   unfolding benefitList benefitEntry
   benefit-entry i j p q =
-      let a : (0 + entry i j) / 12 + 1 ≡ i = omega arith in
-      let b : (0 + entry i j) % 12 ≡ j = omega arith in
-      listed-at 768 0 (entry i j) (benefitEntry d) (omega arith) ∙ ap₂ (candidateBenefit d) a b
+      let a : (0 + entry i j) / columns + 1 ≡ i = omega arith in
+      let b : (0 + entry i j) % columns ≡ j = omega arith in
+      listed-at entries 0 (entry i j) (benefitEntry d) (omega arith) ∙ ap₂ (candidateBenefit d) a b
 
-  pub usage-entry : (i j r : ℕ) → Segment i → j ≤ 11 → Resource r → getD (usageList d) (16 * entry i j + (r - 1)) 0 ≡ usageIn d i j r
+  pub usage-entry : (i j r : ℕ) → Segment i → j ≤ mostStrategies → Resource r → getD (usageList d) (useEntry i j r) 0 ≡ usageIn d i j r
   unfolding usageList usageEntry
   usage-entry i j r p q s =
-      let n = 0 + (16 * entry i j + (r - 1)) in
-      let a : n / 192 + 1 ≡ i = omega arith in
-      let b : n / 16 % 12 ≡ j = omega arith in
-      let c : n % 16 + 1 ≡ r = omega arith in
-      listed-at 12_288 0 (16 * entry i j + (r - 1)) (usageEntry d) (omega arith) ∙ cc
+      let n = 0 + useEntry i j r in
+      let a : n / (mostResources * columns) + 1 ≡ i = omega arith in
+      let b : n / mostResources % columns ≡ j = omega arith in
+      let c : n % mostResources + 1 ≡ r = omega arith in
+      listed-at useEntries 0 (useEntry i j r) (usageEntry d) (omega arith) ∙ cc
 
   pub limit-entry : (r : ℕ) → Resource r → getD (limitList d) (r - 1) 0 ≡ limitIn d r
   unfolding limitList
-  limit-entry r p = let a : 1 + (r - 1) ≡ r = omega arith in listed-at 16 1 (r - 1) (limitIn d) (omega arith) ∙ ap (limitIn d) a
+  limit-entry r p = let a : 1 + (r - 1) ≡ r = omega arith in listed-at mostResources 1 (r - 1) (limitIn d) (omega arith) ∙ ap (limitIn d) a
 
 -- ---- they are the table
 
@@ -53,42 +53,42 @@ outside s false x e f = refl
 module _ (d : District) (ok : Ranges d) where
   benefit-is : (i j : ℕ) → benefitAt (benefitList d) i j ≡ candidateBenefit d i j
   unfolding benefitAt candidateBenefit
-  benefit-is i j = go (between 1 64 i && between 1 11 j) refl
+  benefit-is i j = go (between 1 mostSegments i && between 1 mostStrategies j) refl
     where
-      go : (t : Bool) → (between 1 64 i && between 1 11 j) ≡ t → pick t (getD (benefitList d) (entry i j) 0) 0 ≡ candidateBenefit d i j
+      go : (t : Bool) → (between 1 mostSegments i && between 1 mostStrategies j) ≡ t → pick t (getD (benefitList d) (entry i j) 0) 0 ≡ candidateBenefit d i j
       go true e =
-          let w = and-both (between 1 64 i) (between 1 11 j) e in
-          benefit-entry d i j (between-in 1 64 i (w .0)) (between-in 1 11 j (w .1) .1)
+          let w = and-both (between 1 mostSegments i) (between 1 mostStrategies j) e in
+          benefit-entry d i j (between-in 1 mostSegments i (w .0)) (between-in 1 mostStrategies j (w .1) .1)
       go false e =
-          outside (between 1 64 i && between 1 11 j) (has d i j && candidate d i j) _ e
-          (λ h. let w = has-within d ok i j (and-both (has d i j) (candidate d i j) h .0) in rw (between-yes 1 64 i (w .0 .0) (w .0 .1)) (between-yes 1 11 j (w .1 .0) (w .1 .1)))
+          outside (between 1 mostSegments i && between 1 mostStrategies j) (has d i j && candidate d i j) _ e
+          (λ h. let w = has-within d ok i j (and-both (has d i j) (candidate d i j) h .0) in rw (between-yes 1 mostSegments i (w .0 .0) (w .0 .1)) (between-yes 1 mostStrategies j (w .1 .0) (w .1 .1)))
 
   usage-is : (i j r : ℕ) → usageAt (usageList d) i j r ≡ usageIn d i j r
   unfolding usageAt usageIn
-  usage-is i j r = go (between 1 64 i && (between 1 11 j && between 1 16 r)) refl
+  usage-is i j r = go (between 1 mostSegments i && (between 1 mostStrategies j && between 1 mostResources r)) refl
     where
-      go : (t : Bool) → (between 1 64 i && (between 1 11 j && between 1 16 r)) ≡ t → pick t (getD (usageList d) (16 * entry i j + (r - 1)) 0) 0 ≡ usageIn d i j r
+      go : (t : Bool) → (between 1 mostSegments i && (between 1 mostStrategies j && between 1 mostResources r)) ≡ t → pick t (getD (usageList d) (useEntry i j r) 0) 0 ≡ usageIn d i j r
       go true e =
-          let v = and-both (between 1 64 i) (between 1 11 j && between 1 16 r) e in
-          let w = and-both (between 1 11 j) (between 1 16 r) (v .1) in
-          usage-entry d i j r (between-in 1 64 i (v .0)) (between-in 1 11 j (w .0) .1) (between-in 1 16 r (w .1))
+          let v = and-both (between 1 mostSegments i) (between 1 mostStrategies j && between 1 mostResources r) e in
+          let w = and-both (between 1 mostStrategies j) (between 1 mostResources r) (v .1) in
+          usage-entry d i j r (between-in 1 mostSegments i (v .0)) (between-in 1 mostStrategies j (w .0) .1) (between-in 1 mostResources r (w .1))
       go false e =
-          outside (between 1 64 i && (between 1 11 j && between 1 16 r)) (has d i j && between 1 (resourcesOf d) r) _ e there
+          outside (between 1 mostSegments i && (between 1 mostStrategies j && between 1 mostResources r)) (has d i j && between 1 (resourcesOf d) r) _ e there
         where
-          there : (has d i j && between 1 (resourcesOf d) r) ≡ true → (between 1 64 i && (between 1 11 j && between 1 16 r)) ≡ true
+          there : (has d i j && between 1 (resourcesOf d) r) ≡ true → (between 1 mostSegments i && (between 1 mostStrategies j && between 1 mostResources r)) ≡ true
           there h =
               let v = and-both (has d i j) (between 1 (resourcesOf d) r) h in
               let w = has-within d ok i j (v .0) in
               let x = resource-within d ok r (v .1) in
-              rw (between-yes 1 64 i (w .0 .0) (w .0 .1), between-yes 1 11 j (w .1 .0) (w .1 .1)) (between-yes 1 16 r (x .0) (x .1))
+              rw (between-yes 1 mostSegments i (w .0 .0) (w .0 .1), between-yes 1 mostStrategies j (w .1 .0) (w .1 .1)) (between-yes 1 mostResources r (x .0) (x .1))
 
   limit-is : (r : ℕ) → limitAt (limitList d) r ≡ limitIn d r
   unfolding limitAt limitIn
-  limit-is r = go (between 1 16 r) refl
+  limit-is r = go (between 1 mostResources r) refl
     where
-      go : (t : Bool) → between 1 16 r ≡ t → pick t (getD (limitList d) (r - 1) 0) 0 ≡ limitIn d r
-      go true e = limit-entry d r (between-in 1 16 r e)
-      go false e = outside (between 1 16 r) (between 1 (resourcesOf d) r) _ e (λ h. let x = resource-within d ok r h in between-yes 1 16 r (x .0) (x .1))
+      go : (t : Bool) → between 1 mostResources r ≡ t → pick t (getD (limitList d) (r - 1) 0) 0 ≡ limitIn d r
+      go true e = limit-entry d r (between-in 1 mostResources r e)
+      go false e = outside (between 1 mostResources r) (between 1 (resourcesOf d) r) _ e (λ h. let x = resource-within d ok r h in between-yes 1 mostResources r (x .0) (x .1))
 
   -- so what is proved of code over arrays is what the rules say of the district
   pub table-is : tables (sizeOf d) (benefitList d) (usageList d) (limitList d) ≡ tableOf d
@@ -99,26 +99,24 @@ module _ (d : District) (ok : Ranges d) where
       let s : limitAt (limitList d) ≡ limitIn d = fun-ext limit-is in
       cc
 
-  pub sound : Sound (sizeOf d) (benefitList d) (usageList d) (limitList d)
+  pub tabled : Tabled (sizeOf d) (benefitList d) (usageList d) (limitList d)
   unfolding benefitList usageList limitList benefitEntry usageEntry candidateBenefit usageIn
-  sound =
+  tabled =
       record {
-        segments = ok .segments;
-        strategies = ok .strategies;
-        resources = ok .resources;
-        gains = record {
-          places = listed-length (benefitEntry d) 768 0;
-          small = listed-each (λ v. v < 2 ^ 40) 768 0 (benefitEntry d) (lit< tt) (λ n. omega (arith, candidate-benefit-le d ok (n / 12 + 1) (n % 12)));
+        bounded = record { segments = ok .segments; strategies = ok .strategies; resources = ok .resources };
+        benefits = record {
+          places = listed-length (benefitEntry d) entries 0;
+          small = listed-each (λ v. v < 2 ^ 40) entries 0 (benefitEntry d) (lit< tt) (λ n. omega (arith, candidate-benefit-le d ok (n / columns + 1) (n % columns)));
           nothing = λ i l h. benefit-entry d i 0 (l, h) (omega arith) ∙ simp and-false;
         };
         uses = record {
-          places = listed-length (usageEntry d) 12_288 0;
-          small = listed-each (λ v. v < 2 ^ 41) 12_288 0 (usageEntry d) (lit< tt) (λ n. omega (arith, usage-in-le d ok (n / 192 + 1) (n / 16 % 12) (n % 16 + 1)));
+          places = listed-length (usageEntry d) useEntries 0;
+          small = listed-each (λ v. v < 2 ^ 41) useEntries 0 (usageEntry d) (lit< tt) (λ n. omega (arith, usage-in-le d ok (n / (mostResources * columns) + 1) (n / mostResources % columns) (n % mostResources + 1)));
           nothing = λ i r l h m u. usage-entry d i 0 r (l, h) (omega arith) (m, u) ∙ simp and-false;
         };
         limits = record {
-          places = listed-length (limitIn d) 16 1;
-          small = listed-each (λ v. v < 2 ^ 47) 16 1 (limitIn d) (lit< tt) (λ r. omega (arith, limit-in-le d ok r));
+          places = listed-length (limitIn d) mostResources 1;
+          small = listed-each (λ v. v < 2 ^ 47) mostResources 1 (limitIn d) (lit< tt) (λ r. omega (arith, limit-in-le d ok r));
         };
       }
 

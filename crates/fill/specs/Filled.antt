@@ -1,21 +1,21 @@
--- What filled arrays hold: the district's table, sound, and its shares at the places of the uses.
-use Prim.Native.Nat.{ℕ, _+_, _-_, _*_, _≤_}
+-- What filled arrays hold: the district's table, and its shares at the places of the uses.
+use Prim.Native.Nat.{ℕ, _≤_}
 use mathlib.Core.Path.{_≡_}
 use mathlib.Core.List.{List}
 use lib.ListN.{getD, length}
-use Rattle.rules.specs.District.{District}
+use Rattle.rules.specs.District.{District, mostResources}
 use Rattle.rules.specs.Table.{tableOf}
 use Rattle.rules.specs.Phases.{share}
 use Rattle.rules.specs.Ceiling.{downShare}
 use Rattle.laws.specs.Tables.{FitAlone}
 use Rattle.tables.specs.declared.Size.{Size}
-use Rattle.tables.specs.Arrays.{entry, tables, Sound, Cell}
+use Rattle.tables.specs.Arrays.{useEntry, tables, Tabled, Cell, useEntries}
 
 pub record Filled (d : District) (z : Size) (b u l s e : List ℕ) : Type 0 where
   pub table : tables z b u l ≡ tableOf d
-  pub sound : Sound z b u l
+  pub tabled : Tabled z b u l
   pub fit : FitAlone (tables z b u l)
-  pub shares-length : length s ≡ 12_288
-  pub shares : (i j r : ℕ) → Cell i j → 1 ≤ r → r ≤ 16 → getD s (16 * entry i j + (r - 1)) 0 ≡ share (tables z b u l) i j r
-  pub downs-length : length e ≡ 12_288
-  pub downs : (i j r : ℕ) → Cell i j → 1 ≤ r → r ≤ 16 → getD e (16 * entry i j + (r - 1)) 0 ≡ downShare (tables z b u l) i j r
+  pub shares-length : length s ≡ useEntries
+  pub shares : (i j r : ℕ) → Cell i j → 1 ≤ r → r ≤ mostResources → getD s (useEntry i j r) 0 ≡ share (tables z b u l) i j r
+  pub downs-length : length e ≡ useEntries
+  pub downs : (i j r : ℕ) → Cell i j → 1 ≤ r → r ≤ mostResources → getD e (useEntry i j r) 0 ≡ downShare (tables z b u l) i j r

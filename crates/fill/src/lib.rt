@@ -1,9 +1,15 @@
 // The arrays that the phases and the ceiling read, filled once for a plan from a district.
+use rules::places::MOST_RESOURCES;
+use tables::COLUMNS;
+use tables::ENTRIES;
 use tables::Size;
+use tables::USE_ENTRIES;
 ghost use mathlib.Core.Path.{_≡_};
 ghost use Prim.Native.Nat.{ℕ, _+_, _-_, _*_, _/_, _^_, _<_};
 ghost use lib.ListN.{length, getD};
 ghost use Rattle.base.specs.Over.{listed, divideUp};
+ghost use Rattle.tables.specs.Arrays.{entries, useEntries};
+ghost use Rattle.rules.specs.District.{mostResources};
 ghost use Rattle.grammar.specs.Ranges.{Ranges};
 ghost use Rattle.rules.specs.Table.{usageIn};
 ghost use Rattle.rating.specs.Numbers.{Segment};
@@ -14,12 +20,12 @@ use rules::places;
 
 // The benefits of all segments and strategies.
 fn fill_benefits(d: &District, table: &mut [u64])
-    requires { ⌜ Ranges (now d) × (length (now table) ≡ 768) ⌝ }
+    requires { ⌜ Ranges (now d) × (length (now table) ≡ entries) ⌝ }
     ensures { λ _. ⌜ now (table .exit) ≡ benefitList (now (d .entry)) ⌝ }
 {
     let mut n = 0;
-    while n < 768 {
-        let b = rating::candidate_benefit(d, n / 12 + 1, n % 12);
+    while n < ENTRIES {
+        let b = rating::candidate_benefit(d, n / COLUMNS + 1, n % COLUMNS);
         table[n] = b;
         n += 1;
     }
@@ -27,12 +33,12 @@ fn fill_benefits(d: &District, table: &mut [u64])
 
 // The uses that strategy j on segment i makes of each resource.
 fn fill_row(d: &District, i: usize, j: usize, row: &mut [u64])
-    requires { ⌜ Ranges (now d) × Segment i × (length (now row) ≡ 16) ⌝ }
-    ensures { λ _. ⌜ now (row .exit) ≡ listed 16 (usageIn (now (d .entry)) i j) ⌝ }
+    requires { ⌜ Ranges (now d) × Segment i × (length (now row) ≡ mostResources) ⌝ }
+    ensures { λ _. ⌜ now (row .exit) ≡ listed mostResources (usageIn (now (d .entry)) i j) ⌝ }
 {
     let a = rating::area_in(d, i, j);
     let mut r = 0;
-    while r < 16 {
+    while r < MOST_RESOURCES {
         let u = rating::usage_in(d, i, j, r + 1, a);
         row[r] = u;
         r += 1;
@@ -41,22 +47,27 @@ fn fill_row(d: &District, i: usize, j: usize, row: &mut [u64])
 
 // The uses of all segments and strategies, a row for each pair.
 fn fill_uses(d: &District, table: &mut [u64])
-    requires { ⌜ Ranges (now d) × (length (now table) ≡ 12288) ⌝ }
+    requires { ⌜ Ranges (now d) × (length (now table) ≡ useEntries) ⌝ }
     ensures { λ _. ⌜ now (table .exit) ≡ usageList (now (d .entry)) ⌝ }
 {
     let mut n = 0;
-    while n < 768 {
-        fill_row(d, n / 12 + 1, n % 12, &mut table[16 * n..16 * n + 16]);
+    while n < ENTRIES {
+        fill_row(
+            d,
+            n / COLUMNS + 1,
+            n % COLUMNS,
+            &mut table[MOST_RESOURCES * n..MOST_RESOURCES * n + MOST_RESOURCES],
+        );
         n += 1;
     }
 }
 
 fn fill_limits(d: &District, table: &mut [u64])
-    requires { ⌜ Ranges (now d) × (length (now table) ≡ 16) ⌝ }
+    requires { ⌜ Ranges (now d) × (length (now table) ≡ mostResources) ⌝ }
     ensures { λ _. ⌜ now (table .exit) ≡ limitList (now (d .entry)) ⌝ }
 {
     let mut r = 0;
-    while r < 16 {
+    while r < MOST_RESOURCES {
         let l = rating::limit_in(d, r + 1);
         table[r] = l;
         r += 1;
@@ -81,15 +92,15 @@ fn down_share(u: u64, l: u64) -> u64
 
 // Both shares of all uses.
 fn fill_shares(uses: &[u64], limits: &[u64], shares: &mut [u64], downs: &mut [u64])
-    requires { ⌜ (length (now uses) ≡ 12288) × (length (now limits) ≡ 16) × (length (now shares) ≡ 12288) × (length (now downs) ≡ 12288) ⌝ }
+    requires { ⌜ (length (now uses) ≡ useEntries) × (length (now limits) ≡ mostResources) × (length (now shares) ≡ useEntries) × (length (now downs) ≡ useEntries) ⌝ }
     requires { ⌜ ((k : ℕ) → getD (now uses) k 0 < 2 ^ 41) × ((k : ℕ) → getD (now limits) k 0 < 2 ^ 47) ⌝ }
     ensures up { λ _. ⌜ now (shares .exit) ≡ shareList (now (uses .entry)) (now (limits .entry)) ⌝ }
     ensures down { λ _. ⌜ now (downs .exit) ≡ downShareList (now (uses .entry)) (now (limits .entry)) ⌝ }
 {
     let mut n = 0;
-    while n < 12288 {
+    while n < USE_ENTRIES {
         let u = uses[n];
-        let l = limits[n % 16];
+        let l = limits[n % MOST_RESOURCES];
         shares[n] = share(u, l);
         downs[n] = down_share(u, l);
         n += 1;
@@ -105,7 +116,7 @@ pub fn fill_all(
     shares: &mut [u64],
     downs: &mut [u64],
 ) -> Size
-    requires { ⌜ Ranges (now d) × (length (now benefits) ≡ 768) × (length (now uses) ≡ 12288) × (length (now limits) ≡ 16) × (length (now shares) ≡ 12288) × (length (now downs) ≡ 12288) ⌝ }
+    requires { ⌜ Ranges (now d) × (length (now benefits) ≡ entries) × (length (now uses) ≡ useEntries) × (length (now limits) ≡ mostResources) × (length (now shares) ≡ useEntries) × (length (now downs) ≡ useEntries) ⌝ }
     ensures { λ z. ⌜ Filled (now (d .entry)) z (now (benefits .exit)) (now (uses .exit)) (now (limits .exit)) (now (shares .exit)) (now (downs .exit)) ⌝ }
 {
     fill_benefits(d, benefits);

@@ -1,5 +1,5 @@
 -- What a change of phase 3 is: one segment or two that change, a rise of the total, and limits that hold. Assumes nothing.
-use Prim.Native.Nat.{ℕ, zero, suc, _-_, _≤_, _<_}
+use Prim.Native.Nat.{ℕ, zero, suc, _≤_, _<_}
 use mathlib.Core.Path.{_≡_, refl, ap, subst}
 use mathlib.Core.Bool.{Bool, true, false, not, _&&_, _||_}
 use mathlib.Core.List.{List}
@@ -20,7 +20,7 @@ use Rattle.rules.specs.Phases.{strategyAt, give, isCandidate, greater, chosenBe
 use Rattle.laws.specs.Tables.{Allowed}
 use Rattle.laws.proofs.Give.{give-numbers}
 use Rattle.laws.proofs.Gives.{Gives, give-gives, gives-then, Numbers}
-use Rattle.laws.proofs.Steps.{candidate-gains, start-at}
+use Rattle.laws.proofs.Steps.{candidate-worth, start-at}
 
 module _ (t : Table) (c : List ℕ) where
   -- one segment or two segments changed, to strategies that the table has
@@ -41,7 +41,7 @@ module _ (t : Table) (c : List ℕ) where
     where
       go : (x : Bool) → eqb j 0 ≡ x → (x || isCandidate t i j) ≡ true → Allowed t i j
       go true e ok = inl (eqb-true j 0 e)
-      go false e ok = inr (let z = eqb-false j 0 e in omega arith, s, candidate-gains t i j ok)
+      go false e ok = inr (let z = eqb-false j 0 e in omega arith, s, candidate-worth t i j ok)
 
   strategy-some : (f : ℕ → Option (List ℕ)) → ((a : ℕ) → a ≤ t .strategies → (e : List ℕ) → f a ≡ some e → Counted e) → (e : List ℕ) → firstStrategy t f ≡ some e → Counted e
   unfolding firstStrategy

@@ -1,16 +1,13 @@
--- Shares, surpluses and pulls of a programme of candidates, in a table whose candidates fit alone: bounds. Assumes nothing.
+-- Shares of a programme of candidates, in a table whose candidates fit alone: bounds. Assumes nothing.
 use Prim.Native.Nat.{ℕ, zero, suc, _+_, _-_, _*_, _≤_}
 use mathlib.Core.Path.{_≡_}
-use mathlib.Core.Bool.{Bool, true, false}
 use mathlib.Core.List.{List}
 use mathlib.Core.Logic.{inl, inr}
-use native.Mathlib.Nat.{div-zero, div-add-mod', div-eq-of-lt, div-lt-iff-lt-mul, mod-lt, mul-le-mul}
+use native.Mathlib.Nat.{div-zero, div-add-mod', div-eq-of-lt, div-lt-iff-lt-mul, mod-lt}
 use native.Mathlib.Omega.{arith}
-use Rattle.base.specs.Choice.{pick}
-use Rattle.base.specs.Over.{sum, divideUp}
-use Rattle.base.proofs.Sums.{sum-bound}
+use Rattle.base.specs.Over.{divideUp}
 use Rattle.rules.specs.Table.{Table}
-use Rattle.rules.specs.Phases.{strategyAt, chosenUsage, holds, share, chosenShare, surplus, pullBy}
+use Rattle.rules.specs.Phases.{strategyAt, chosenUsage, share, chosenShare}
 use Rattle.laws.specs.Tables.{FitAlone, Allowed, OfCandidates}
 
 -- a part of 0 is 0
@@ -38,15 +35,6 @@ module _ (t : Table) where
   unfolding share
   share-none i j r e = rw e (divide-up-none (t .limit r))
 
-  -- surplus without its case distinction
-  pub surplus-le-sum : (c : List ℕ) (r : ℕ) → surplus t c r ≤ sum (t .segments) (chosenShare t c r)
-  unfolding surplus
-  surplus-le-sum c r = known (holds t c r)
-    where
-      known : (v : Bool) → pick v 0 (sum (t .segments) (chosenShare t c r) - 10_000) ≤ sum (t .segments) (chosenShare t c r)
-      known true = omega arith
-      known false = omega arith
-
   module _ (fit : FitAlone t) (c : List ℕ) (o : OfCandidates t c) where
     pub chosen-fits : (i r : ℕ) → 1 ≤ i → i ≤ t .segments → 1 ≤ r → r ≤ t .resources → chosenUsage t c r i ≤ t .limit r
     unfolding chosenUsage
@@ -59,13 +47,3 @@ module _ (t : Table) where
     pub chosen-share-le : (i r : ℕ) → 1 ≤ i → i ≤ t .segments → 1 ≤ r → r ≤ t .resources → chosenShare t c r i ≤ 10_000
     unfolding chosenShare share chosenUsage
     chosen-share-le i r li hi lr hr = divide-up-small (chosenUsage t c r i) (t .limit r) (chosen-fits i r li hi lr hr)
-
-    pub shares-le : (n r : ℕ) → n ≤ t .segments → 1 ≤ r → r ≤ t .resources → sum n (chosenShare t c r) ≤ n * 10_000
-    shares-le n r hn lr hr = sum-bound n 10_000 (chosenShare t c r) (λ i l h. chosen-share-le i r l (omega arith) lr hr)
-
-    pub surplus-le : (r : ℕ) → 1 ≤ r → r ≤ t .resources → surplus t c r ≤ 640_000
-    surplus-le r lr hr = omega (arith, surplus-le-sum c r, shares-le (t .segments) r (omega arith) lr hr, fit .segments)
-
-    pub pull-by-le : (i r : ℕ) → 1 ≤ i → i ≤ t .segments → 1 ≤ r → r ≤ t .resources → pullBy t c i r ≤ 6_400_000_000
-    unfolding pullBy
-    pull-by-le i r li hi lr hr = mul-le-mul {n₁ = chosenShare t c r i} {m₁ = surplus t c r} {n₂ = 10_000} {m₂ = 640_000} (chosen-share-le i r li hi lr hr) (surplus-le r lr hr)

@@ -21,13 +21,13 @@ pub no-step : {d : List ℕ} → none ≡ some d → ⊥
 no-step e = let z : _≡_ {A = ℕ} 0 1 = cc in omega arith
 
 module _ (t : Table) where
-  pub candidate-gains : (i j : ℕ) → isCandidate t i j ≡ true → 1 ≤ t .benefit i j
+  pub candidate-worth : (i j : ℕ) → isCandidate t i j ≡ true → 1 ≤ t .benefit i j
   unfolding isCandidate
-  candidate-gains i j e = ltb-true 0 (t .benefit i j) e
+  candidate-worth i j e = ltb-true 0 (t .benefit i j) e
 
   -- the best of those that are candidates, or nothing
   allowed-best : (i : ℕ) (p : ℕ → Bool) (better : ℕ → ℕ → Bool) → ((k : ℕ) → p k ≡ true → isCandidate t i k ≡ true) → Allowed t i (best (t .strategies) p better)
-  allowed-best i p better cand = best-ind p better (Allowed t i) (t .strategies) (inl refl) (λ k l h e. inr (l, h, candidate-gains i k (cand k e)))
+  allowed-best i p better cand = best-ind p better (Allowed t i) (t .strategies) (inl refl) (λ k l h e. inr (l, h, candidate-worth i k (cand k e)))
 
   pub top-allowed : (i : ℕ) → Allowed t i (topCandidate t i)
   unfolding topCandidate

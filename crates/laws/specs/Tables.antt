@@ -11,7 +11,7 @@ use Rattle.rules.specs.Phases.{strategyAt}
 -- at most 64 segments; nothing has no benefit and no uses; each candidate fits each limit alone
 pub record FitAlone (t : Table) : Type 0 where
   pub segments : t .segments ≤ mostSegments
-  pub nothing-gains : (i : ℕ) → 1 ≤ i → i ≤ t .segments → t .benefit i 0 ≡ 0
+  pub nothing-worth : (i : ℕ) → 1 ≤ i → i ≤ t .segments → t .benefit i 0 ≡ 0
   pub nothing-uses : (i r : ℕ) → 1 ≤ i → i ≤ t .segments → 1 ≤ r → r ≤ t .resources → t .usage i 0 r ≡ 0
   pub fits :
       (i j r : ℕ) → 1 ≤ i → i ≤ t .segments → 1 ≤ j → j ≤ t .strategies → 1 ≤ r → r ≤ t .resources

@@ -1,5 +1,5 @@
 -- What the steps of phase 1 read and keep: shares at the places of uses, surpluses, and the weakest segment so far.
-use Prim.Native.Nat.{ℕ, _+_, _-_, _*_, _≤_}
+use Prim.Native.Nat.{ℕ, _-_, _*_, _≤_}
 use mathlib.Core.Path.{_≡_}
 use mathlib.Core.List.{List}
 use mathlib.Core.Bool.{Bool, _&&_, _||_}
@@ -7,29 +7,50 @@ use lib.Dec.{eqb, ltb}
 use lib.ListN.{getD, length}
 use Rattle.base.specs.Over.{betterOf}
 use Rattle.rules.specs.Table.{Table}
-use Rattle.rules.specs.Phases.{share, surplus, pulls, ratio, lesserRatio}
+use Rattle.rules.specs.Phases.{strategyAt, share, surplus, pulls, ratio, lesserRatio}
 use Rattle.laws.specs.Tables.{FitAlone, OfCandidates}
 use Rattle.tables.specs.declared.Size.{Size}
-use Rattle.tables.specs.Arrays.{entry, tables, Ready}
+use Rattle.tables.specs.Arrays.{useEntry, tables, Benefits, Limits, Bounded, Chosen, Running, useEntries}
 use Rattle.phase1.specs.declared.Weak.{Weak}
 
 -- what an array at the places of uses holds for resource r of strategy j on segment i
 abbrev pub shareAt : List ℕ → ℕ → ℕ → ℕ → ℕ
-shareAt s i j r = getD s (16 * entry i j + (r - 1)) 0
+shareAt s i j r = getD s (useEntry i j r) 0
+
+-- by such an array, the share of segment i's strategy in resource r, and by an array of surpluses what it adds to the pull
+abbrev pub heldShare : List ℕ → List ℕ → ℕ → ℕ → ℕ
+heldShare s c r i = shareAt s i (strategyAt c i) r
+
+abbrev pub heldPull : List ℕ → List ℕ → List ℕ → ℕ → ℕ → ℕ
+heldPull s c over i r = heldShare s c r i * getD over (r - 1) 0
 
 -- an array of the table's shares
 pub record Shares (z : Size) (b u l s : List ℕ) : Type 0 where
-  pub places : length s ≡ 12_288
+  pub places : length s ≡ useEntries
   pub shares-are :
       (i j r : ℕ) → 1 ≤ i → i ≤ z .segments → j ≤ z .strategies → 1 ≤ r → r ≤ z .resources
       → shareAt s i j r ≡ share (tables z b u l) i j r
 
+-- a programme with its shares, none above the whole limit, so that no sum of them wraps
+pub record Measured (z : Size) (s c : List ℕ) : Type 0 where
+  pub bounded : Bounded z
+  pub chosen : Chosen z c
+  pub places : length s ≡ useEntries
+  pub small : (i r : ℕ) → 1 ≤ i → i ≤ z .segments → 1 ≤ r → r ≤ z .resources → heldShare s c r i ≤ 10_000
+
 -- what reduce takes, and keeps from step to step: a programme of candidates with its running sums
 pub record Held (z : Size) (b u l s c sums : List ℕ) : Type 0 where
-  pub ready : Ready z b u l c sums
+  pub benefits : Benefits b
+  pub limits : Limits l
+  pub running : Running z u c sums
   pub fit : FitAlone (tables z b u l)
   pub shares : Shares z b u l s
   pub candidates : OfCandidates (tables z b u l) c
+
+-- v is the surplus of resource r in every table with these limits, shares and running sums
+pub record Surplus (z : Size) (l s c sums : List ℕ) (r v : ℕ) : Type 0 where
+  pub small : v ≤ 640_000
+  pub is : (b u : List ℕ) → Shares z b u l s → Running z u c sums → v ≡ surplus (tables z b u l) c r
 
 -- an array of the surpluses, resource by resource
 pub record Surpluses (z : Size) (b u l c over : List ℕ) : Type 0 where
@@ -42,6 +63,10 @@ weakAt t c i = record { segment = i; ratio = ratio t c i }
 -- of segments k and i the one to step: i where it pulls and has the lesser ratio, or there is no k
 abbrev pub weakerOf : Table → List ℕ → ℕ → ℕ → ℕ
 weakerOf t c k i = betterOf (pulls t c) (lesserRatio t c) k i
+
+-- whatever segment w stands for, v stands for the weaker of it and segment i
+abbrev pub IsWeaker : Table → List ℕ → ℕ → Weak → Weak → Type 0
+IsWeaker t c i w v = (k : ℕ) → w ≡ weakAt t c k → v ≡ weakAt t c (weakerOf t c k i)
 
 -- by falling benefit, of value and old, and among equals by number, j comes after a
 unfoldable pub follows : ℕ → ℕ → ℕ → ℕ → Bool

@@ -1,24 +1,26 @@
 // Phase 1: each segment takes its top candidate; while some limit does not hold, the weakest segment steps down.
 ghost use mathlib.Core.Path.{_≡_};
 ghost use mathlib.Core.List.{List};
-ghost use Prim.Native.Nat.{ℕ, _*_, _/_, _^_, _<_, _≤_};
-ghost use lib.ListN.{length};
+ghost use Prim.Native.Nat.{ℕ, _-_, _*_, _/_, _^_, _<_, _≤_};
+ghost use lib.ListN.{getD, length};
 ghost use Rattle.base.specs.Over.{sum};
+ghost use Rattle.rules.specs.District.{mostSegments, mostStrategies, mostResources};
+ghost use Rattle.rules.specs.Table.{Table};
 ghost use Rattle.rules.specs.Phases.{
   strategyAt,
   used,
   within,
   topCandidate,
   start,
-  chosenShare,
-  surplus,
-  pull,
   weakest,
   nextCandidate,
   phase1,
 };
-ghost use Rattle.tables.specs.Arrays.{usageAt, tables, Gains, Uses, Cell, Chosen, Sound, Ready};
-ghost use Rattle.phase1.specs.Reduce.{shareAt, Held, Surpluses, weakAt, weakerOf, follows};
+ghost use Rattle.tables.specs.Arrays.{usageAt, tables, Benefits, Uses, Limits, Bounded, Cell, Chosen, Running, useEntries};
+ghost use Rattle.phase1.specs.Reduce.{shareAt, heldShare, heldPull, Shares, Measured, Held, Surplus, Surpluses, IsWeaker, follows};
+use rules::places::MOST_RESOURCES;
+use rules::places::MOST_SEGMENTS;
+use tables::COLUMNS;
 use tables::Size;
 
 // A segment with its ratio; segment 0 is none.
@@ -29,7 +31,7 @@ pub struct Weak {
 
 // The candidate of segment i with the greatest benefit, of equals the lowest; 0 where there is none.
 fn top_candidate(z: Size, benefits: &[u64], i: usize) -> usize
-    requires { ⌜ Gains (now benefits) ⌝ }
+    requires { ⌜ Benefits (now benefits) ⌝ }
     requires { ⌜ Cell i (z .strategies) ⌝ }
     ensures { λ j. ⌜ ((u l : List ℕ) → j ≡ topCandidate (tables z (now (benefits .entry)) u l) i) ⌝ }
 {
@@ -58,20 +60,20 @@ fn comes_after(value: u64, old: u64, a: usize, j: usize) -> bool
 
 // The candidate of segment i that comes next after a, or nothing after the last.
 fn next_candidate(z: Size, benefits: &[u64], i: usize, a: usize) -> usize
-    requires { ⌜ Gains (now benefits) ⌝ }
+    requires { ⌜ Benefits (now benefits) ⌝ }
     requires { ⌜ Cell i (z .strategies) × (a ≤ z .strategies) ⌝ }
     ensures { λ j. ⌜ ((u l : List ℕ) → j ≡ nextCandidate (tables z (now (benefits .entry)) u l) i a) ⌝ }
 {
     let mut next: usize = 0;
-    let mut gain: u64 = 0;
+    let mut greatest: u64 = 0;
     let strategies = z.strategies;
     let old = tables::benefit(benefits, i, a);
     for k in 0..strategies {
         let value = tables::benefit(benefits, i, k + 1);
-        if gain < value {
+        if greatest < value {
             if comes_after(value, old, a, k + 1) {
                 next = k + 1;
-                gain = value;
+                greatest = value;
             }
         }
     }
@@ -80,27 +82,18 @@ fn next_candidate(z: Size, benefits: &[u64], i: usize, a: usize) -> usize
 
 // The share of segment i's strategy in resource r.
 fn chosen_share(shares: &[u64], choice: &[usize], i: usize, r: usize) -> u64
-    requires { ⌜ (length (now shares) ≡ 12_288) × (length (now choice) ≡ 64) ⌝ }
-    requires { ⌜ Cell i (strategyAt (now choice) i) × (1 ≤ r) × (r ≤ 16) ⌝ }
+    requires { ⌜ (length (now shares) ≡ useEntries) × (length (now choice) ≡ mostSegments) ⌝ }
+    requires { ⌜ Cell i (strategyAt (now choice) i) × (1 ≤ r) × (r ≤ mostResources) ⌝ }
     ensures { λ v. ⌜ v ≡ shareAt (now (shares .entry)) i (strategyAt (now (choice .entry)) i) r ⌝ }
 {
-    shares[16 * (12 * (i - 1) + choice[i - 1]) + (r - 1)]
+    shares[MOST_RESOURCES * (COLUMNS * (i - 1) + choice[i - 1]) + (r - 1)]
 }
 
 // The shares of a programme in resource r, together.
-fn shares_in(
-    z: Size,
-    benefits: &[u64],
-    uses: &[u64],
-    limits: &[u64],
-    shares: &[u64],
-    choice: &[usize],
-    sums: &[u64],
-    r: usize,
-) -> u64
-    requires { ⌜ Held z (now benefits) (now uses) (now limits) (now shares) (now choice) (now sums) ⌝ }
+fn shares_in(z: Size, shares: &[u64], choice: &[usize], r: usize) -> u64
+    requires { ⌜ Measured z (now shares) (now choice) ⌝ }
     requires { ⌜ (1 ≤ r) × (r ≤ z .resources) ⌝ }
-    ensures { λ v. ⌜ v ≡ sum (z .segments) (chosenShare (tables z (now (benefits .entry)) (now (uses .entry)) (now (limits .entry))) (now (choice .entry)) r) ⌝ }
+    ensures { λ v. ⌜ v ≡ sum (z .segments) (heldShare (now (shares .entry)) (now (choice .entry)) r) ⌝ }
 {
     let mut all: u64 = 0;
     let segments = z.segments;
@@ -113,22 +106,20 @@ fn shares_in(
 // The surplus of resource r: what its shares are beyond 10,000, where its limit does not hold.
 fn surplus_of(
     z: Size,
-    benefits: &[u64],
-    uses: &[u64],
     limits: &[u64],
     shares: &[u64],
     choice: &[usize],
     sums: &[u64],
     r: usize,
 ) -> u64
-    requires { ⌜ Held z (now benefits) (now uses) (now limits) (now shares) (now choice) (now sums) ⌝ }
+    requires { ⌜ Limits (now limits) × Measured z (now shares) (now choice) × (length (now sums) ≡ mostResources) ⌝ }
     requires { ⌜ (1 ≤ r) × (r ≤ z .resources) ⌝ }
-    ensures { λ v. ⌜ v ≡ surplus (tables z (now (benefits .entry)) (now (uses .entry)) (now (limits .entry))) (now (choice .entry)) r ⌝ }
+    ensures { λ v. ⌜ Surplus z (now (limits .entry)) (now (shares .entry)) (now (choice .entry)) (now (sums .entry)) r v ⌝ }
 {
     if sums[r - 1] <= limits[r - 1] {
         return 0;
     }
-    let all = shares_in(z, benefits, uses, limits, shares, choice, sums, r);
+    let all = shares_in(z, shares, choice, r);
     if all <= 10000 {
         return 0;
     }
@@ -138,40 +129,28 @@ fn surplus_of(
 // The surplus of each resource.
 fn surpluses(
     z: Size,
-    benefits: &[u64],
-    uses: &[u64],
     limits: &[u64],
     shares: &[u64],
     choice: &[usize],
     sums: &[u64],
-) -> [u64; 16]
-    requires { ⌜ Held z (now benefits) (now uses) (now limits) (now shares) (now choice) (now sums) ⌝ }
-    ensures { λ v. ⌜ Surpluses z (now (benefits .entry)) (now (uses .entry)) (now (limits .entry)) (now (choice .entry)) v ⌝ }
+) -> [u64; MOST_RESOURCES]
+    requires { ⌜ Limits (now limits) × Measured z (now shares) (now choice) × (length (now sums) ≡ mostResources) ⌝ }
+    ensures { λ v. ⌜ ((r : ℕ) → 1 ≤ r → r ≤ z .resources → Surplus z (now (limits .entry)) (now (shares .entry)) (now (choice .entry)) (now (sums .entry)) r (getD v (r - 1) 0)) ⌝ }
 {
-    let mut over = [0u64; 16];
+    let mut over = [0u64; MOST_RESOURCES];
     let resources = z.resources;
     for r in 0..resources {
-        over[r] = surplus_of(z, benefits, uses, limits, shares, choice, sums, r + 1);
+        over[r] = surplus_of(z, limits, shares, choice, sums, r + 1);
     }
     over
 }
 
 // The pull of segment i: its shares times the surpluses. A resource without surplus adds nothing.
-fn pull_of(
-    z: Size,
-    benefits: &[u64],
-    uses: &[u64],
-    limits: &[u64],
-    shares: &[u64],
-    choice: &[usize],
-    sums: &[u64],
-    over: &[u64; 16],
-    i: usize,
-) -> u64
-    requires { ⌜ Held z (now benefits) (now uses) (now limits) (now shares) (now choice) (now sums) ⌝ }
-    requires { ⌜ Surpluses z (now benefits) (now uses) (now limits) (now choice) (now over) ⌝ }
+fn pull_of(z: Size, shares: &[u64], choice: &[usize], over: &[u64; MOST_RESOURCES], i: usize) -> u64
+    requires { ⌜ Measured z (now shares) (now choice) ⌝ }
+    requires { ⌜ ((r : ℕ) → 1 ≤ r → r ≤ z .resources → getD (now over) (r - 1) 0 ≤ 640_000) ⌝ }
     requires { ⌜ (1 ≤ i) × (i ≤ z .segments) ⌝ }
-    ensures { λ v. ⌜ v ≡ pull (tables z (now (benefits .entry)) (now (uses .entry)) (now (limits .entry))) (now (choice .entry)) i ⌝ }
+    ensures { λ v. ⌜ v ≡ sum (z .resources) (heldPull (now (shares .entry)) (now (choice .entry)) (now (over .entry)) i) ⌝ }
 {
     let mut all: u64 = 0;
     let resources = z.resources;
@@ -196,21 +175,18 @@ fn ratio_of(benefit: u64, pulled: u64) -> u64
 fn weaker(
     z: Size,
     benefits: &[u64],
-    uses: &[u64],
-    limits: &[u64],
     shares: &[u64],
     choice: &[usize],
-    sums: &[u64],
-    over: &[u64; 16],
+    over: &[u64; MOST_RESOURCES],
     w: Weak,
     i: usize,
 ) -> Weak
-    requires { ⌜ Held z (now benefits) (now uses) (now limits) (now shares) (now choice) (now sums) ⌝ }
-    requires { ⌜ Surpluses z (now benefits) (now uses) (now limits) (now choice) (now over) ⌝ }
+    requires { ⌜ Benefits (now benefits) × Measured z (now shares) (now choice) ⌝ }
+    requires { ⌜ ((r : ℕ) → 1 ≤ r → r ≤ z .resources → getD (now over) (r - 1) 0 ≤ 640_000) ⌝ }
     requires { ⌜ (1 ≤ i) × (i ≤ z .segments) ⌝ }
-    ensures { λ v. ⌜ ((k : ℕ) → w ≡ weakAt (tables z (now (benefits .entry)) (now (uses .entry)) (now (limits .entry))) (now (choice .entry)) k → v ≡ weakAt (tables z (now (benefits .entry)) (now (uses .entry)) (now (limits .entry))) (now (choice .entry)) (weakerOf (tables z (now (benefits .entry)) (now (uses .entry)) (now (limits .entry))) (now (choice .entry)) k i)) ⌝ }
+    ensures { λ v. ⌜ ((u l : List ℕ) → Shares z (now (benefits .entry)) u l (now (shares .entry)) → Surpluses z (now (benefits .entry)) u l (now (choice .entry)) (now (over .entry)) → IsWeaker (tables z (now (benefits .entry)) u l) (now (choice .entry)) i w v) ⌝ }
 {
-    let pulled = pull_of(z, benefits, uses, limits, shares, choice, sums, over, i);
+    let pulled = pull_of(z, shares, choice, over, i);
     if pulled == 0 {
         return w;
     }
@@ -234,50 +210,30 @@ fn weaker(
 fn weakest_of(
     z: Size,
     benefits: &[u64],
-    uses: &[u64],
     limits: &[u64],
     shares: &[u64],
     choice: &[usize],
     sums: &[u64],
 ) -> usize
-    requires { ⌜ Held z (now benefits) (now uses) (now limits) (now shares) (now choice) (now sums) ⌝ }
-    ensures { λ i. ⌜ i ≡ weakest (tables z (now (benefits .entry)) (now (uses .entry)) (now (limits .entry))) (now (choice .entry)) ⌝ }
+    requires { ⌜ Benefits (now benefits) × Limits (now limits) × Measured z (now shares) (now choice) × (length (now sums) ≡ mostResources) ⌝ }
+    ensures { λ i. ⌜ ((u : List ℕ) → Shares z (now (benefits .entry)) u (now (limits .entry)) (now (shares .entry)) → Running z u (now (choice .entry)) (now (sums .entry)) → i ≡ weakest (tables z (now (benefits .entry)) u (now (limits .entry))) (now (choice .entry))) ⌝ }
 {
-    let over = surpluses(z, benefits, uses, limits, shares, choice, sums);
+    let over = surpluses(z, limits, shares, choice, sums);
     let mut least = Weak {
         segment: 0,
         ratio: 0,
     };
     let segments = z.segments;
     for k in 0..segments {
-        least = weaker(
-            z,
-            benefits,
-            uses,
-            limits,
-            shares,
-            choice,
-            sums,
-            &over,
-            least,
-            k + 1,
-        );
+        least = weaker(z, benefits, shares, choice, &over, least, k + 1);
     }
     least.segment
 }
 
 // Every limit holds.
-fn limits_hold(
-    z: Size,
-    benefits: &[u64],
-    uses: &[u64],
-    limits: &[u64],
-    shares: &[u64],
-    choice: &[usize],
-    sums: &[u64],
-) -> bool
-    requires { ⌜ Held z (now benefits) (now uses) (now limits) (now shares) (now choice) (now sums) ⌝ }
-    ensures { λ ok. ⌜ ok ≡ within (tables z (now (benefits .entry)) (now (uses .entry)) (now (limits .entry))) (now (choice .entry)) ⌝ }
+fn limits_hold(z: Size, limits: &[u64], sums: &[u64]) -> bool
+    requires { ⌜ (z .resources ≤ mostResources) × Limits (now limits) × (length (now sums) ≡ mostResources) ⌝ }
+    ensures { λ ok. ⌜ ((b u c : List ℕ) → Running z u c (now (sums .entry)) → ok ≡ within (tables z b u (now (limits .entry))) c) ⌝ }
 {
     let resources = z.resources;
     for r in 0..resources {
@@ -298,23 +254,25 @@ pub fn reduce(
     choice: &mut [usize],
     sums: &mut [u64],
 ) -> u64
-    requires { ⌜ Held z (now benefits) (now uses) (now limits) (now shares) (now choice) (now sums) ⌝ }
-    ensures { λ m. ⌜ Ready z (now (benefits .entry)) (now (uses .entry)) (now (limits .entry)) (now (choice .exit)) (now (sums .exit)) ⌝ }
-    ensures { λ m. ⌜ now (choice .exit) ≡ phase1 (tables z (now (benefits .entry)) (now (uses .entry)) (now (limits .entry))) (now (choice .entry)) .last ⌝ }
-    ensures { λ m. ⌜ m ≡ phase1 (tables z (now (benefits .entry)) (now (uses .entry)) (now (limits .entry))) (now (choice .entry)) .count ⌝ }
+    ghost { Table }
+    requires { λ t. ⌜ tables z (now benefits) (now uses) (now limits) ≡ t ⌝ }
+    requires { λ _. ⌜ Held z (now benefits) (now uses) (now limits) (now shares) (now choice) (now sums) ⌝ }
+    ensures { λ _ m. ⌜ Running z (now (uses .entry)) (now (choice .exit)) (now (sums .exit)) ⌝ }
+    ensures { λ t m. ⌜ now (choice .exit) ≡ phase1 t (now (choice .entry)) .last ⌝ }
+    ensures { λ t m. ⌜ m ≡ phase1 t (now (choice .entry)) .count ⌝ }
 {
     let mut steps: u64 = 0;
     let bound = (z.segments * z.strategies) as u64;
     while steps < bound {
-        if limits_hold(z, benefits, uses, limits, shares, choice, sums) {
+        if limits_hold(z, limits, sums) {
             return steps;
         }
-        let i = weakest_of(z, benefits, uses, limits, shares, choice, sums);
+        let i = weakest_of(z, benefits, limits, shares, choice, sums);
         if i == 0 {
             return steps;
         }
         let j = next_candidate(z, benefits, i, choice[i - 1]);
-        tables::make_one(z, benefits, uses, limits, choice, sums, i, j);
+        tables::make_one(z, uses, choice, sums, i, j);
         steps += 1;
     }
     steps
@@ -322,18 +280,18 @@ pub fn reduce(
 
 // Each segment takes its top candidate.
 fn choose_tops(z: Size, benefits: &[u64], choice: &mut [usize])
-    requires { ⌜ Gains (now benefits) × (z .strategies ≤ 11) × (length (now choice) ≡ 64) ⌝ }
+    requires { ⌜ Benefits (now benefits) × (z .strategies ≤ mostStrategies) × (length (now choice) ≡ mostSegments) ⌝ }
     ensures { λ _. ⌜ ((u l : List ℕ) → now (choice .exit) ≡ start (tables z (now (benefits .entry)) u l)) ⌝ }
 {
-    for i in 0..64 {
+    for i in 0..MOST_SEGMENTS {
         choice[i] = top_candidate(z, benefits, i + 1);
     }
 }
 
 // What segment i's strategy uses of resource r.
 fn chosen_usage(uses: &[u64], choice: &[usize], i: usize, r: usize) -> u64
-    requires { ⌜ Uses (now uses) × (length (now choice) ≡ 64) ⌝ }
-    requires { ⌜ Cell i (strategyAt (now choice) i) × (1 ≤ r) × (r ≤ 16) ⌝ }
+    requires { ⌜ Uses (now uses) × (length (now choice) ≡ mostSegments) ⌝ }
+    requires { ⌜ Cell i (strategyAt (now choice) i) × (1 ≤ r) × (r ≤ mostResources) ⌝ }
     ensures { λ v. ⌜ v ≡ usageAt (now (uses .entry)) i (strategyAt (now (choice .entry)) i) r ⌝ }
 {
     tables::usage(uses, i, choice[i - 1], r)
@@ -341,8 +299,8 @@ fn chosen_usage(uses: &[u64], choice: &[usize], i: usize, r: usize) -> u64
 
 // What a programme uses of resource r.
 fn used_of(z: Size, uses: &[u64], choice: &[usize], r: usize) -> u64
-    requires { ⌜ (z .segments ≤ 64) × (z .strategies ≤ 11) × Uses (now uses) × Chosen z (now choice) ⌝ }
-    requires { ⌜ (1 ≤ r) × (r ≤ 16) ⌝ }
+    requires { ⌜ Bounded z × Uses (now uses) × Chosen z (now choice) ⌝ }
+    requires { ⌜ (1 ≤ r) × (r ≤ mostResources) ⌝ }
     ensures { λ v. ⌜ ((b l : List ℕ) → v ≡ used (tables z b (now (uses .entry)) l) (now (choice .entry)) r) ⌝ }
 {
     let mut so_far: u64 = 0;
@@ -354,18 +312,11 @@ fn used_of(z: Size, uses: &[u64], choice: &[usize], r: usize) -> u64
 }
 
 // Phase 1, the start: each segment takes its top candidate, and the sums are made.
-pub fn start(
-    z: Size,
-    benefits: &[u64],
-    uses: &[u64],
-    limits: &[u64],
-    choice: &mut [usize],
-    sums: &mut [u64],
-)
-    requires { ⌜ Sound z (now benefits) (now uses) (now limits) ⌝ }
-    requires { ⌜ (length (now choice) ≡ 64) × (length (now sums) ≡ 16) ⌝ }
-    ensures { λ _. ⌜ Ready z (now (benefits .entry)) (now (uses .entry)) (now (limits .entry)) (now (choice .exit)) (now (sums .exit)) ⌝ }
-    ensures { λ _. ⌜ now (choice .exit) ≡ start (tables z (now (benefits .entry)) (now (uses .entry)) (now (limits .entry))) ⌝ }
+pub fn start(z: Size, benefits: &[u64], uses: &[u64], choice: &mut [usize], sums: &mut [u64])
+    requires { ⌜ Bounded z × Benefits (now benefits) × Uses (now uses) ⌝ }
+    requires { ⌜ (length (now choice) ≡ mostSegments) × (length (now sums) ≡ mostResources) ⌝ }
+    ensures { λ _. ⌜ Running z (now (uses .entry)) (now (choice .exit)) (now (sums .exit)) ⌝ }
+    ensures { λ _. ⌜ ((l : List ℕ) → now (choice .exit) ≡ start (tables z (now (benefits .entry)) (now (uses .entry)) l)) ⌝ }
 {
     choose_tops(z, benefits, choice);
     let resources = z.resources;

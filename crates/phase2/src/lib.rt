@@ -2,8 +2,9 @@
 use tables::Size;
 ghost use mathlib.Core.Path.{_≡_};
 ghost use Prim.Native.Nat.{_≤_};
+ghost use Rattle.rules.specs.Table.{Table};
 ghost use Rattle.rules.specs.Phases.{offer, bestOffer, phase2};
-ghost use Rattle.tables.specs.Arrays.{tables, Ready};
+ghost use Rattle.tables.specs.Arrays.{tables, Benefits, Limits, Running};
 
 // The best that segment i could take, or 0.
 fn offer_of(
@@ -15,18 +16,21 @@ fn offer_of(
     sums: &[u64],
     i: usize,
 ) -> usize
-    requires { ⌜ (Ready z (now benefits) (now uses) (now limits) (now choice) (now sums)) × (1 ≤ i) × (i ≤ z .segments) ⌝ }
-    ensures { λ j. ⌜ j ≡ offer (tables z (now (benefits .entry)) (now (uses .entry)) (now (limits .entry))) (now (choice .entry)) i ⌝ }
+    ghost { Table }
+    requires { λ t. ⌜ tables z (now benefits) (now uses) (now limits) ≡ t ⌝ }
+    requires { λ _. ⌜ Benefits (now benefits) × Limits (now limits) × Running z (now uses) (now choice) (now sums) ⌝ }
+    requires { λ _. ⌜ (1 ≤ i) × (i ≤ z .segments) ⌝ }
+    ensures { λ t j. ⌜ j ≡ offer t (now (choice .entry)) i ⌝ }
 {
     let mut top: usize = 0;
-    let mut gain: u64 = 0;
+    let mut most: u64 = 0;
     let mut j: usize = 0;
     while j < z.strategies {
         let value = tables::benefit(benefits, i, j + 1);
-        if gain < value {
-            if tables::fits_one(z, benefits, uses, limits, choice, sums, i, j + 1) {
+        if most < value {
+            if tables::fits_one(z, uses, limits, choice, sums, i, j + 1) {
                 top = j + 1;
-                gain = value;
+                most = value;
             }
         }
         j += 1;
@@ -43,19 +47,21 @@ fn best_offer(
     choice: &[usize],
     sums: &[u64],
 ) -> usize
-    requires { ⌜ Ready z (now benefits) (now uses) (now limits) (now choice) (now sums) ⌝ }
-    ensures { λ i. ⌜ i ≡ bestOffer (tables z (now (benefits .entry)) (now (uses .entry)) (now (limits .entry))) (now (choice .entry)) ⌝ }
+    ghost { Table }
+    requires { λ t. ⌜ tables z (now benefits) (now uses) (now limits) ≡ t ⌝ }
+    requires { λ _. ⌜ Benefits (now benefits) × Limits (now limits) × Running z (now uses) (now choice) (now sums) ⌝ }
+    ensures { λ t i. ⌜ i ≡ bestOffer t (now (choice .entry)) ⌝ }
 {
     let mut top: usize = 0;
-    let mut gain: u64 = 0;
+    let mut most: u64 = 0;
     let mut i: usize = 0;
     while i < z.segments {
         if choice[i] == 0 {
             let j = offer_of(z, benefits, uses, limits, choice, sums, i + 1);
             let offered = tables::benefit(benefits, i + 1, j);
-            if gain < offered {
+            if most < offered {
                 top = i + 1;
-                gain = offered;
+                most = offered;
             }
         }
         i += 1;
@@ -72,10 +78,12 @@ pub fn pick_up(
     choice: &mut [usize],
     sums: &mut [u64],
 ) -> u64
-    requires { ⌜ Ready z (now benefits) (now uses) (now limits) (now choice) (now sums) ⌝ }
-    ensures { λ m. ⌜ Ready z (now (benefits .entry)) (now (uses .entry)) (now (limits .entry)) (now (choice .exit)) (now (sums .exit)) ⌝ }
-    ensures { λ m. ⌜ now (choice .exit) ≡ phase2 (tables z (now (benefits .entry)) (now (uses .entry)) (now (limits .entry))) (now (choice .entry)) .last ⌝ }
-    ensures { λ m. ⌜ m ≡ phase2 (tables z (now (benefits .entry)) (now (uses .entry)) (now (limits .entry))) (now (choice .entry)) .count ⌝ }
+    ghost { Table }
+    requires { λ t. ⌜ tables z (now benefits) (now uses) (now limits) ≡ t ⌝ }
+    requires { λ _. ⌜ Benefits (now benefits) × Limits (now limits) × Running z (now uses) (now choice) (now sums) ⌝ }
+    ensures { λ _ m. ⌜ Running z (now (uses .entry)) (now (choice .exit)) (now (sums .exit)) ⌝ }
+    ensures { λ t m. ⌜ now (choice .exit) ≡ phase2 t (now (choice .entry)) .last ⌝ }
+    ensures { λ t m. ⌜ m ≡ phase2 t (now (choice .entry)) .count ⌝ }
 {
     let mut picks: u64 = 0;
     loop {
@@ -84,7 +92,7 @@ pub fn pick_up(
             return picks;
         }
         let j = offer_of(z, benefits, uses, limits, choice, sums, i);
-        tables::make_one(z, benefits, uses, limits, choice, sums, i, j);
+        tables::make_one(z, uses, choice, sums, i, j);
         picks += 1;
     }
 }

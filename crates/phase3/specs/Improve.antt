@@ -7,10 +7,11 @@ use mathlib.Core.Option.{Option, none, some}
 use lib.Dec.{ltb}
 use lib.ListN.{getD, length}
 use Rattle.base.specs.Over.{most}
+use Rattle.rules.specs.District.{mostSegments}
 use Rattle.rules.specs.Table.{Table}
 use Rattle.rules.specs.Phases.{strategyAt, give, within, another, counts}
 use Rattle.tables.specs.declared.Size.{Size}
-use Rattle.tables.specs.Arrays.{benefitAt, Gains, Chosen}
+use Rattle.tables.specs.Arrays.{benefitAt, Benefits, Cell}
 use Rattle.phase3.specs.declared.Change.{Change}
 use Rattle.phase3.specs.declared.Change.the-variants.{Nothing, One, Two}
 
@@ -54,17 +55,17 @@ abbrev pub top : Table → ℕ → ℕ
 top t i = most (t .strategies) (t .benefit i)
 
 pub record Tops (z : Size) (b tops : List ℕ) : Type 0 where
-  pub places : length tops ≡ 64
+  pub places : length tops ≡ mostSegments
   pub each : (i : ℕ) → 1 ≤ i → i ≤ z .segments → getD tops (i - 1) 0 ≡ most (z .strategies) (benefitAt b i)
 
--- what a comparison of benefits reads: the benefits, and a programme
-pub record Compared (z : Size) (b c : List ℕ) : Type 0 where
-  pub segments : z .segments ≤ 64
-  pub strategies : z .strategies ≤ 11
-  pub gains : Gains b
-  pub chosen : Chosen z c
+-- what a comparison of segments i and k reads: the benefits, and a programme
+pub record Compared (b c : List ℕ) (i k : ℕ) : Type 0 where
+  pub benefits : Benefits b
+  pub places : length c ≡ mostSegments
+  pub first : Cell i (strategyAt c i)
+  pub second : Cell k (strategyAt c k)
 
--- what segments i and k gain now
+-- the present benefit of segments i and k
 abbrev pub present : Table → List ℕ → ℕ → ℕ → ℕ
 present t c i k = t .benefit i (strategyAt c i) + t .benefit k (strategyAt c k)
 

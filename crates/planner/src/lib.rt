@@ -7,11 +7,15 @@ ghost use Rattle.laws.specs.Tables.{FitAlone};
 ghost use Rattle.rules.specs.Ceiling.{ceiling};
 ghost use Rattle.rules.specs.File.{inRange};
 ghost use Rattle.rules.specs.Plan.{programmeOf, noProgramme, planOf};
-ghost use Rattle.rules.specs.Table.{tableOf};
-ghost use Rattle.tables.specs.Arrays.{tables, Sound};
+ghost use Rattle.rules.specs.Table.{Table, tableOf};
+ghost use Rattle.tables.specs.Arrays.{tables, Tabled};
 use rules::District;
 use rules::Programme;
+use rules::places::MOST_RESOURCES;
+use rules::places::MOST_SEGMENTS;
+use tables::ENTRIES;
 use tables::Size;
+use tables::USE_ENTRIES;
 
 // The three phases over arrays that hold a table, with the table's ceiling beside them.
 fn phases(
@@ -22,13 +26,15 @@ fn phases(
     shares: &[u64],
     bound: u64,
 ) -> Programme
-    requires { ⌜ Sound z (now benefits) (now uses) (now limits) × FitAlone (tables z (now benefits) (now uses) (now limits)) × Shares z (now benefits) (now uses) (now limits) (now shares) ⌝ }
-    requires { ⌜ bound ≡ ceiling (tables z (now benefits) (now uses) (now limits)) ⌝ }
-    ensures { λ r. ⌜ r ≡ programmeOf (tables z (now (benefits .entry)) (now (uses .entry)) (now (limits .entry))) ⌝ }
+    ghost { Table }
+    requires { λ t. ⌜ tables z (now benefits) (now uses) (now limits) ≡ t ⌝ }
+    requires { λ t. ⌜ Tabled z (now benefits) (now uses) (now limits) × FitAlone t × Shares z (now benefits) (now uses) (now limits) (now shares) ⌝ }
+    requires { λ t. ⌜ bound ≡ ceiling t ⌝ }
+    ensures { λ t r. ⌜ r ≡ programmeOf t ⌝ }
 {
-    let mut choice = [0usize; 64];
-    let mut sums = [0u64; 16];
-    phase1::start(z, benefits, uses, limits, &mut choice, &mut sums);
+    let mut choice = [0usize; MOST_SEGMENTS];
+    let mut sums = [0u64; MOST_RESOURCES];
+    phase1::start(z, benefits, uses, &mut choice, &mut sums);
     let steps = phase1::reduce(z, benefits, uses, limits, shares, &mut choice, &mut sums);
     let pickups = phase2::pick_up(z, benefits, uses, limits, &mut choice, &mut sums);
     let after_pickups = tables::total_of(z, benefits, &choice);
@@ -50,11 +56,11 @@ fn programme_of(d: &District) -> Programme
     requires { ⌜ inRange (now d) ≡ true ⌝ }
     ensures { λ r. ⌜ r ≡ programmeOf (tableOf (now (d .entry))) ⌝ }
 {
-    let mut benefits = [0u64; 768];
-    let mut uses = [0u64; 12288];
-    let mut limits = [0u64; 16];
-    let mut shares = [0u64; 12288];
-    let mut downs = [0u64; 12288];
+    let mut benefits = [0u64; ENTRIES];
+    let mut uses = [0u64; USE_ENTRIES];
+    let mut limits = [0u64; MOST_RESOURCES];
+    let mut shares = [0u64; USE_ENTRIES];
+    let mut downs = [0u64; USE_ENTRIES];
     let z = fill::fill_all(
         d,
         &mut benefits,
@@ -72,7 +78,7 @@ fn no_programme() -> Programme
     ensures { λ r. ⌜ r ≡ noProgramme ⌝ }
 {
     Programme {
-        strategies: [0usize; 64],
+        strategies: [0usize; MOST_SEGMENTS],
         total: 0,
         after_pickups: 0,
         ceiling: 0,

@@ -3,10 +3,22 @@ ghost use mathlib.Core.Path.{_≡_};
 ghost use Prim.Native.Nat.{ℕ, _<_, _≤_};
 ghost use mathlib.Core.List.{List};
 ghost use Rattle.base.specs.Over.{all};
+ghost use Rattle.rules.specs.District.{mostSegments, mostResources};
 ghost use lib.ListN.{length};
 ghost use Rattle.rules.specs.Phases.{strategyAt, give, total, within};
-ghost use Rattle.tables.specs.Arrays.{benefitAt, usageAt, tables, Gains, Uses, Limits, Cell, Chosen, Ready};
-ghost use Rattle.tables.specs.Moves.{Budgets, Room, roomFor, Movable, moved};
+ghost use Rattle.tables.specs.Arrays.{benefitAt, usageAt, tables, Benefits, Uses, Limits, Bounded, Cell, Chosen, Running};
+ghost use Rattle.tables.specs.Moves.{Budgets, Testable, roomFor, Movable, moved};
+use rules::places::MOST_RESOURCES;
+use rules::places::MOST_SEGMENTS;
+use rules::places::MOST_STRATEGIES;
+
+// The entries of a segment, one for nothing and one for each strategy; those of all segments; and a use of each
+// resource for each.
+pub const COLUMNS: usize = MOST_STRATEGIES + 1;
+
+pub const ENTRIES: usize = MOST_SEGMENTS * COLUMNS;
+
+pub const USE_ENTRIES: usize = MOST_RESOURCES * ENTRIES;
 
 // How many segments, strategies and resources there are.
 pub struct Size {
@@ -17,16 +29,16 @@ pub struct Size {
 
 // The benefit of strategy j on segment i; 0 for nothing.
 pub fn benefit(benefits: &[u64], i: usize, j: usize) -> u64
-    requires { ⌜ Gains (now benefits) ⌝ }
+    requires { ⌜ Benefits (now benefits) ⌝ }
     requires { ⌜ Cell i j ⌝ }
     ensures { λ v. ⌜ v ≡ benefitAt (now (benefits .entry)) i j ⌝ }
 {
-    benefits[12 * (i - 1) + j]
+    benefits[COLUMNS * (i - 1) + j]
 }
 
 // The benefit of the strategy that segment i has.
 pub fn chosen_benefit(benefits: &[u64], choice: &[usize], i: usize) -> u64
-    requires { ⌜ Gains (now benefits) × (length (now choice) ≡ 64) ⌝ }
+    requires { ⌜ Benefits (now benefits) × (length (now choice) ≡ mostSegments) ⌝ }
     requires { ⌜ Cell i (strategyAt (now choice) i) ⌝ }
     ensures { λ v. ⌜ v ≡ benefitAt (now (benefits .entry)) i (strategyAt (now (choice .entry)) i) ⌝ }
 {
@@ -36,10 +48,10 @@ pub fn chosen_benefit(benefits: &[u64], choice: &[usize], i: usize) -> u64
 // What strategy j on segment i uses of resource r; 0 for nothing.
 pub fn usage(uses: &[u64], i: usize, j: usize, r: usize) -> u64
     requires { ⌜ Uses (now uses) ⌝ }
-    requires { ⌜ Cell i j × (1 ≤ r) × (r ≤ 16) ⌝ }
+    requires { ⌜ Cell i j × (1 ≤ r) × (r ≤ mostResources) ⌝ }
     ensures { λ v. ⌜ v ≡ usageAt (now (uses .entry)) i j r ⌝ }
 {
-    uses[16 * (12 * (i - 1) + j) + (r - 1)]
+    uses[MOST_RESOURCES * (COLUMNS * (i - 1) + j) + (r - 1)]
 }
 
 // Resource r suffices where segment i gets strategy a and segment k strategy b.
@@ -53,7 +65,7 @@ fn room_in(
     b: usize,
     r: usize,
 ) -> bool
-    requires { ⌜ Room r (now uses) (now sums) (now budgets) ⌝ }
+    requires { ⌜ Testable r (now uses) (now sums) (now budgets) ⌝ }
     requires { ⌜ Cell i a × Cell k b × (1 ≤ r) ⌝ }
     ensures { λ ok. ⌜ ok ≡ roomFor (now (uses .entry)) (now (sums .entry)) (now (budgets .entry)) i a k b r ⌝ }
 {
@@ -62,7 +74,7 @@ fn room_in(
 }
 
 // Every resource suffices where segment i gets strategy a and segment k strategy b.
-fn room(
+pub fn room(
     resources: usize,
     uses: &[u64],
     sums: &[u64],
@@ -72,7 +84,7 @@ fn room(
     k: usize,
     b: usize,
 ) -> bool
-    requires { ⌜ Room resources (now uses) (now sums) (now budgets) ⌝ }
+    requires { ⌜ Testable resources (now uses) (now sums) (now budgets) ⌝ }
     requires { ⌜ Cell i a × Cell k b ⌝ }
     ensures { λ ok. ⌜ ok ≡ all resources (roomFor (now (uses .entry)) (now (sums .entry)) (now (budgets .entry)) i a k b) ⌝ }
 {
@@ -93,12 +105,12 @@ pub fn budgets(
     x: usize,
     k: usize,
     y: usize,
-) -> [u64; 16]
-    requires { ⌜ (resources ≤ 16) × Uses (now uses) × Limits (now limits) ⌝ }
+) -> [u64; MOST_RESOURCES]
+    requires { ⌜ (resources ≤ mostResources) × Uses (now uses) × Limits (now limits) ⌝ }
     requires { ⌜ Cell i x × Cell k y ⌝ }
     ensures { λ v. ⌜ Budgets resources (now (uses .entry)) (now (limits .entry)) i x k y v ⌝ }
 {
-    let mut each = [0u64; 16];
+    let mut each = [0u64; MOST_RESOURCES];
     for r in 0..resources {
         each[r] = limits[r] + (usage(uses, i, x, r + 1) + usage(uses, k, y, r + 1));
     }
@@ -108,7 +120,6 @@ pub fn budgets(
 // The limits hold where segment i gets strategy a.
 pub fn fits_one(
     z: Size,
-    benefits: &[u64],
     uses: &[u64],
     limits: &[u64],
     choice: &[usize],
@@ -116,33 +127,12 @@ pub fn fits_one(
     i: usize,
     a: usize,
 ) -> bool
-    requires { ⌜ Ready z (now benefits) (now uses) (now limits) (now choice) (now sums) ⌝ }
+    requires { ⌜ Limits (now limits) × Running z (now uses) (now choice) (now sums) ⌝ }
     requires { ⌜ (1 ≤ i) × (i ≤ z .segments) × (a ≤ z .strategies) ⌝ }
-    ensures { λ ok. ⌜ ok ≡ within (tables z (now (benefits .entry)) (now (uses .entry)) (now (limits .entry))) (give (now (choice .entry)) i a) ⌝ }
+    ensures { λ ok. ⌜ ((b : List ℕ) → ok ≡ within (tables z b (now (uses .entry)) (now (limits .entry))) (give (now (choice .entry)) i a)) ⌝ }
 {
     let given = budgets(z.resources, uses, limits, i, choice[i - 1], i, 0);
     room(z.resources, uses, sums, &given, i, a, i, 0)
-}
-
-// The limits hold where segment i gets strategy a and a higher segment k strategy b, their budgets being given.
-pub fn fits_two(
-    z: Size,
-    benefits: &[u64],
-    uses: &[u64],
-    limits: &[u64],
-    choice: &[usize],
-    sums: &[u64],
-    given: &[u64],
-    i: usize,
-    k: usize,
-    a: usize,
-    b: usize,
-) -> bool
-    requires { ⌜ Ready z (now benefits) (now uses) (now limits) (now choice) (now sums) ⌝ }
-    requires { ⌜ (1 ≤ i) × (i < k) × (k ≤ z .segments) × (a ≤ z .strategies) × (b ≤ z .strategies) × Budgets (z .resources) (now uses) (now limits) i (strategyAt (now choice) i) k (strategyAt (now choice) k) (now given) ⌝ }
-    ensures { λ ok. ⌜ ok ≡ within (tables z (now (benefits .entry)) (now (uses .entry)) (now (limits .entry))) (give (give (now (choice .entry)) i a) k b) ⌝ }
-{
-    room(z.resources, uses, sums, given, i, a, k, b)
 }
 
 // The sums after segment i goes from x to a.
@@ -156,19 +146,10 @@ fn move_sums(resources: usize, uses: &[u64], sums: &mut [u64], i: usize, x: usiz
 }
 
 // Segment i gets strategy a, and the sums move along.
-pub fn make_one(
-    z: Size,
-    benefits: &[u64],
-    uses: &[u64],
-    limits: &[u64],
-    choice: &mut [usize],
-    sums: &mut [u64],
-    i: usize,
-    a: usize,
-)
-    requires { ⌜ Ready z (now benefits) (now uses) (now limits) (now choice) (now sums) ⌝ }
+pub fn make_one(z: Size, uses: &[u64], choice: &mut [usize], sums: &mut [u64], i: usize, a: usize)
+    requires { ⌜ Running z (now uses) (now choice) (now sums) ⌝ }
     requires { ⌜ (1 ≤ i) × (i ≤ z .segments) × (a ≤ z .strategies) ⌝ }
-    ensures { λ _. ⌜ Ready z (now (benefits .entry)) (now (uses .entry)) (now (limits .entry)) (now (choice .exit)) (now (sums .exit)) ⌝ }
+    ensures { λ _. ⌜ Running z (now (uses .entry)) (now (choice .exit)) (now (sums .exit)) ⌝ }
     ensures { λ _. ⌜ now (choice .exit) ≡ give (now (choice .entry)) i a ⌝ }
 {
     let x = choice[i - 1];
@@ -176,9 +157,9 @@ pub fn make_one(
     choice[i - 1] = a;
 }
 
-// What a programme gains in all.
+// The total benefit of a programme.
 pub fn total_of(z: Size, benefits: &[u64], choice: &[usize]) -> u64
-    requires { ⌜ (z .segments ≤ 64) × (z .strategies ≤ 11) × Gains (now benefits) × Chosen z (now choice) ⌝ }
+    requires { ⌜ Bounded z × Benefits (now benefits) × Chosen z (now choice) ⌝ }
     ensures { λ v. ⌜ ((u l : List ℕ) → v ≡ total (tables z (now (benefits .entry)) u l) (now (choice .entry))) ⌝ }
 {
     let mut so_far: u64 = 0;

@@ -23,7 +23,7 @@ module _ (t : Table) (fit : FitAlone t) (i j : ℕ) (l : 1 ≤ i) (h : i ≤ t .
       go false e = left (omega (arith, ltb-false 0 (t .benefit i j) e))
 
   pub cleaned-benefit : t .benefit i (cleaned t i j) ≡ t .benefit i j
-  cleaned-benefit = by-test (λ a. t .benefit i a ≡ t .benefit i j) (λ worth. refl) (λ z. omega (arith, fit .nothing-gains i l h))
+  cleaned-benefit = by-test (λ a. t .benefit i a ≡ t .benefit i j) (λ worth. refl) (λ z. omega (arith, fit .nothing-worth i l h))
 
   pub cleaned-usage : (r : ℕ) → 1 ≤ r → r ≤ t .resources → t .usage i (cleaned t i j) r ≤ t .usage i j r
   cleaned-usage r lr hr = by-test (λ a. t .usage i a r ≤ t .usage i j r) (λ worth. omega arith) (λ z. omega (arith, fit .nothing-uses i r l h lr hr))
@@ -32,7 +32,7 @@ module _ (t : Table) (fit : FitAlone t) (i j : ℕ) (l : 1 ≤ i) (h : i ≤ t .
   cleaned-allowed s = by-test (Allowed t i) (λ worth. inr (some-j j refl worth, s, worth)) (λ z. inl refl)
     where
       some-j : (a : ℕ) → j ≡ a → 1 ≤ t .benefit i j → 1 ≤ a
-      some-j zero e worth = absurd (omega (arith, fit .nothing-gains i l h, ap (t .benefit i) e))
+      some-j zero e worth = absurd (omega (arith, fit .nothing-worth i l h, ap (t .benefit i) e))
       some-j (suc a) e worth = omega arith
 
   pub cleaned-same : Allowed t i j → cleaned t i j ≡ j

@@ -29,7 +29,7 @@ module _ (t : Table) (fit : FitAlone t) (c : ℕ → ℕ) (rival : Rival t c) (p
   -- a benefit is covered by its cost and the segment's margin
   covered : (i j : ℕ) → 1 ≤ i → i ≤ t .segments → j ≤ t .strategies → t .benefit i j ≤ cost t prices i j + margin t prices i
   unfolding margin net
-  covered i zero l h s = omega (arith, fit .nothing-gains i l h)
+  covered i zero l h s = omega (arith, fit .nothing-worth i l h)
   covered i (suc j) l h s = omega (arith, most-part (t .strategies) (net t prices i) (suc j) (omega arith) s)
 
   -- all costs together

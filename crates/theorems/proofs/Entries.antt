@@ -77,7 +77,7 @@ module _ (d : District) where
   table-fit few =
       record {
         segments = few;
-        nothing-gains = nothing-is;
+        nothing-worth = nothing-is;
         nothing-uses = λ i r l h lr hr. usage-is i 0 r l h (omega arith) lr hr;
         fits = λ i j r l h lj hj lr hr worth. rw (usage-is i j r l h hj lr hr, limit-is r lr hr) (candidate-fits i j worth r lr hr);
       }

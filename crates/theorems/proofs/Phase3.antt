@@ -32,7 +32,7 @@ module _ (t : Table) (c : List ℕ) where
 
     falls : (s e : List ℕ) → change t s ≡ some e → Numbers t s → left e < left s
     falls s e found n =
-        omega (arith, change-rises t s e found, total-le t (fit .segments) (fit .nothing-gains) e (keeps s e found n))
+        omega (arith, change-rises t s e found, total-le t (fit .segments) (fit .nothing-worth) e (keeps s e found n))
 
     pub phase3-ends : change t (phase3 t c .last) ≡ none
     unfolding phase3
@@ -45,6 +45,6 @@ module _ (t : Table) (c : List ℕ) where
         omega (
           arith,
           run-count (change t) (Numbers t) keeps left falls (total t (start t)) c numbers,
-          total-le t (fit .segments) (fit .nothing-gains) c numbers,
-          total-le t (fit .segments) (fit .nothing-gains) (phase3 t c .last) last,
+          total-le t (fit .segments) (fit .nothing-worth) c numbers,
+          total-le t (fit .segments) (fit .nothing-worth) (phase3 t c .last) last,
         )

@@ -5,7 +5,7 @@ use native.Mathlib.Omega.{arith}
 use borrow.Author.Needs.{needs}
 use Rattle.rules.specs.Ceiling.{pricedAll}
 use Rattle.ceiling.specs.Prices.{shown, Standing}
-use Rattle.ceiling.proofs.Search.{all-none, all-next, room-at, ready-trial}
+use Rattle.ceiling.proofs.Search.{all-none, all-next, room-at, raisable-trial}
 use Rattle.ceiling.proofs.price_all.Statement.{statement}
 use Rattle.ceiling.proofs.price_all.Tie as tie
 
@@ -22,7 +22,7 @@ price-one-requires : tie.Need-price-one-requires Inv-loop μ-loop
 price-one-requires c κs =
     let a = c .before .before .before .before .before .before .before .before .before in
     let l = c .before .before .before .before .loop in
-    (ready-trial _ _ _ _ _ (l .r) (a .pre .0) (room-at _ _ _ (l .r) (a .pre .1) (l .inv .1)) (omega arith), l .inv .2)
+    (raisable-trial _ _ _ _ _ (l .r) (a .pre .0) (room-at _ _ _ (l .r) (a .pre .1) (l .inv .1)) (omega arith), l .inv .2)
 
 loop-again : tie.Need-loop-again Inv-loop μ-loop
 loop-again c =

@@ -8,9 +8,10 @@ use Rattle.ceiling.specs.Prices.{Costs}
 use Rattle.ceiling.proofs.Costs.{costs-start, costs-past, costs-end}
 use Rattle.ceiling.proofs.reprice.Statement.{statement}
 use Rattle.ceiling.proofs.reprice.Tie as tie
+use Rattle.tables.specs.Arrays.{columns}
 
 abbrev Inv-loop : tie.InvT-loop
-Inv-loop z benefits downs prices costs₀ r price i₀ costs i = (i ≤ z .segments) × Costs z benefits downs (set prices (r - 1) price) prices (12 * i) costs
+Inv-loop z benefits downs prices costs₀ r price i₀ costs i = (i ≤ z .segments) × Costs z benefits downs (set prices (r - 1) price) prices (columns * i) costs
 
 abbrev μ-loop : tie.MeasureT-loop
 μ-loop z benefits downs prices costs₀ r price i₀ costs i = z .segments - i

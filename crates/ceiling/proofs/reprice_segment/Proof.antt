@@ -9,6 +9,7 @@ use Rattle.ceiling.specs.Prices.{In, Costs}
 use Rattle.ceiling.proofs.Costs.{costs-past, costs-held, costs-set, costs-skip, move-fits, move-is}
 use Rattle.ceiling.proofs.reprice_segment.Statement.{statement}
 use Rattle.ceiling.proofs.reprice_segment.Tie as tie
+use Rattle.rules.specs.District.{mostStrategies}
 
 abbrev Inv-loop : tie.InvT-loop
 Inv-loop z benefits downs prices costs₀ r price i old j₀ costs j = (j ≤ z .strategies) × Costs z benefits downs (set prices (r - 1) price) prices (entry i (j + 1)) costs
@@ -33,7 +34,7 @@ loop-again c =
     let a = c .before .before .before .before .before .before .before .before .before .before in
     let j = c .before .before .before .before .loop .j in
     let inside : In (a .args .z) (a .args .i) (j + 1) = record { segment-from = omega arith; segment-to = omega arith; strategy-from = omega arith; strategy-to = omega arith } in
-    let few : a .args .z .strategies ≤ 11 = omega arith in (
+    let few : a .args .z .strategies ≤ mostStrategies = omega arith in (
       search needs,
       ⊎-elim
           (λ w.

@@ -7,15 +7,16 @@ use native.Mathlib.Omega.{arith}
 use lib.ListN.{length, drop, length-set}
 use Rattle.base.specs.Over.{listedFrom}
 use Rattle.base.proofs.Listed.{fill-none, fill-next, fill-end}
+use Rattle.tables.specs.Arrays.{entries}
 use Rattle.fill.specs.Lists.{benefitEntry, benefitList}
 use Rattle.fill.proofs.fill_benefits.Statement.{statement}
 use Rattle.fill.proofs.fill_benefits.Tie as tie
 
 abbrev Inv-loop : tie.InvT-loop
-Inv-loop d table₀ n₀ table n = (n ≤ 768) × (length table ≡ 768) × (table ≡ listedFrom n 0 (benefitEntry d) ++ drop n table₀)
+Inv-loop d table₀ n₀ table n = (n ≤ entries) × (length table ≡ entries) × (table ≡ listedFrom n 0 (benefitEntry d) ++ drop n table₀)
 
 abbrev μ-loop : tie.MeasureT-loop
-μ-loop d table₀ n₀ table n = 768 - n
+μ-loop d table₀ n₀ table n = entries - n
 
 loop-holds : tie.Need-loop-holds Inv-loop μ-loop
 loop-holds c = (omega arith, c .before .pre .1, fill-none _ _ _)
@@ -36,7 +37,7 @@ returns : tie.Need-returns Inv-loop μ-loop
 unfolding benefitList
 returns c =
     let l = c .before .loop in
-    l .inv .2 ∙ fill-end _ (l .n) 768 0 _ (omega arith) (omega arith)
+    l .inv .2 ∙ fill-end _ (l .n) entries 0 _ (omega arith) (omega arith)
 
 pub fill-benefits-spec : {M : Type 1} → statement M
 fill-benefits-spec =

@@ -7,16 +7,17 @@ use native.Mathlib.Omega.{arith}
 use lib.ListN.{length, drop, length-set}
 use Rattle.base.specs.Over.{listedFrom}
 use Rattle.base.proofs.Listed.{fill-none, fill-next, fill-end}
+use Rattle.rules.specs.District.{mostResources}
 use Rattle.rules.specs.Table.{limitIn}
 use Rattle.fill.specs.Lists.{limitList}
 use Rattle.fill.proofs.fill_limits.Statement.{statement}
 use Rattle.fill.proofs.fill_limits.Tie as tie
 
 abbrev Inv-loop : tie.InvT-loop
-Inv-loop d table₀ r₀ table r = (r ≤ 16) × (length table ≡ 16) × (table ≡ listedFrom r 1 (limitIn d) ++ drop r table₀)
+Inv-loop d table₀ r₀ table r = (r ≤ mostResources) × (length table ≡ mostResources) × (table ≡ listedFrom r 1 (limitIn d) ++ drop r table₀)
 
 abbrev μ-loop : tie.MeasureT-loop
-μ-loop d table₀ r₀ table r = 16 - r
+μ-loop d table₀ r₀ table r = mostResources - r
 
 loop-holds : tie.Need-loop-holds Inv-loop μ-loop
 loop-holds c = (omega arith, c .before .pre .1, fill-none _ _ _)
@@ -36,7 +37,7 @@ returns : tie.Need-returns Inv-loop μ-loop
 unfolding limitList
 returns c =
     let l = c .before .loop in
-    l .inv .2 ∙ fill-end _ (l .r) 16 1 _ (omega arith) (omega arith)
+    l .inv .2 ∙ fill-end _ (l .r) mostResources 1 _ (omega arith) (omega arith)
 
 pub fill-limits-spec : {M : Type 1} → statement M
 fill-limits-spec =

@@ -7,15 +7,16 @@ use native.Mathlib.Omega.{arith}
 use lib.ListN.{length, drop, length-set}
 use Rattle.base.specs.Over.{listedFrom}
 use Rattle.base.proofs.Listed.{fill-none, fill-next, fill-end}
+use Rattle.rules.specs.District.{mostResources}
 use Rattle.rules.specs.Table.{usageIn}
 use Rattle.fill.proofs.fill_row.Statement.{statement}
 use Rattle.fill.proofs.fill_row.Tie as tie
 
 abbrev Inv-loop : tie.InvT-loop
-Inv-loop d i j row₀ a r₀ row r = (r ≤ 16) × (length row ≡ 16) × (row ≡ listedFrom r 1 (usageIn d i j) ++ drop r row₀)
+Inv-loop d i j row₀ a r₀ row r = (r ≤ mostResources) × (length row ≡ mostResources) × (row ≡ listedFrom r 1 (usageIn d i j) ++ drop r row₀)
 
 abbrev μ-loop : tie.MeasureT-loop
-μ-loop d i j row₀ a r₀ row r = 16 - r
+μ-loop d i j row₀ a r₀ row r = mostResources - r
 
 area-in-requires : tie.Need-area-in-requires Inv-loop μ-loop
 area-in-requires c κs = (c .before .pre .0, c .before .pre .1)
@@ -39,7 +40,7 @@ loop-again c =
 returns : tie.Need-returns Inv-loop μ-loop
 returns c =
     let l = c .before .loop in
-    l .inv .2 ∙ fill-end _ (l .r) 16 1 _ (omega arith) (omega arith)
+    l .inv .2 ∙ fill-end _ (l .r) mostResources 1 _ (omega arith) (omega arith)
 
 pub fill-row-spec : {M : Type 1} → statement M
 fill-row-spec =

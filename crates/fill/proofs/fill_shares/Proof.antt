@@ -7,17 +7,18 @@ use native.Mathlib.Omega.{arith}
 use lib.ListN.{length, drop, length-set}
 use Rattle.base.specs.Over.{listedFrom}
 use Rattle.base.proofs.Listed.{fill-none, fill-next, fill-end}
+use Rattle.tables.specs.Arrays.{useEntries}
 use Rattle.fill.specs.Lists.{shareEntry, shareList, downShareEntry, downShareList}
 use Rattle.fill.proofs.fill_shares.Statement.{statement}
 use Rattle.fill.proofs.fill_shares.Tie as tie
 
 abbrev Inv-loop : tie.InvT-loop
 Inv-loop uses limits shares₀ downs₀ n₀ shares downs n =
-    (n ≤ 12_288) × (length shares ≡ 12_288) × (shares ≡ listedFrom n 0 (shareEntry uses limits) ++ drop n shares₀)
-    × (length downs ≡ 12_288) × (downs ≡ listedFrom n 0 (downShareEntry uses limits) ++ drop n downs₀)
+    (n ≤ useEntries) × (length shares ≡ useEntries) × (shares ≡ listedFrom n 0 (shareEntry uses limits) ++ drop n shares₀)
+    × (length downs ≡ useEntries) × (downs ≡ listedFrom n 0 (downShareEntry uses limits) ++ drop n downs₀)
 
 abbrev μ-loop : tie.MeasureT-loop
-μ-loop uses limits shares₀ downs₀ n₀ shares downs n = 12_288 - n
+μ-loop uses limits shares₀ downs₀ n₀ shares downs n = useEntries - n
 
 loop-holds : tie.Need-loop-holds Inv-loop μ-loop
 loop-holds c =
@@ -53,8 +54,8 @@ unfolding shareList downShareList
 returns c =
     let l = c .before .loop in
     let p = c .before .before .before .before .before .before .pre .0 in (
-      l .inv .2 ∙ fill-end _ (l .n) 12_288 0 _ (omega arith) (omega arith),
-      l .inv .4 ∙ fill-end _ (l .n) 12_288 0 _ (omega arith) (omega arith),
+      l .inv .2 ∙ fill-end _ (l .n) useEntries 0 _ (omega arith) (omega arith),
+      l .inv .4 ∙ fill-end _ (l .n) useEntries 0 _ (omega arith) (omega arith),
     )
 
 pub fill-shares-spec : {M : Type 1} → statement M

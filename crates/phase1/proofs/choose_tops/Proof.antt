@@ -7,17 +7,18 @@ use denote.Ref.{now}
 use borrow.Author.Needs.{needs}
 use lib.ListN.{length, length-set}
 use Rattle.base.proofs.All.{each-none, each-set}
+use Rattle.rules.specs.District.{mostSegments}
 use Rattle.rules.specs.Phases.{strategyAt, topCandidate}
 use Rattle.tables.specs.Arrays.{tables}
-use Rattle.phase1.proofs.Laws.{start-is}
+use Rattle.phase1.proofs.Candidates.{start-is}
 use Rattle.phase1.proofs.choose_tops.Statement.{statement}
 use Rattle.phase1.proofs.choose_tops.Tie as tie
 
 abbrev Inv-loop : tie.InvT-loop
-Inv-loop z benefits choice₀ i₀ choice i = (i ≤ 64) × (length choice ≡ 64) × ((k : ℕ) → 1 ≤ k → k ≤ i → (u l : List ℕ) → strategyAt choice k ≡ topCandidate (tables z benefits u l) k)
+Inv-loop z benefits choice₀ i₀ choice i = (i ≤ mostSegments) × (length choice ≡ mostSegments) × ((k : ℕ) → 1 ≤ k → k ≤ i → (u l : List ℕ) → strategyAt choice k ≡ topCandidate (tables z benefits u l) k)
 
 abbrev μ-loop : tie.MeasureT-loop
-μ-loop z benefits choice₀ i₀ choice i = 64 - i
+μ-loop z benefits choice₀ i₀ choice i = mostSegments - i
 
 loop-holds : tie.Need-loop-holds Inv-loop μ-loop
 loop-holds c = (search needs, search needs, each-none _)

@@ -6,16 +6,16 @@ use native.Mathlib.Omega.{arith}
 use borrow.Author.Needs.{needs}
 use Rattle.base.proofs.Best.{Leads}
 use Rattle.tables.specs.Arrays.{benefitAt}
-use Rattle.phase1.proofs.Laws.{later, next-none, next-taken, next-kept, next-passed, next-end}
+use Rattle.phase1.proofs.Candidates.{later, next-none, next-taken, next-kept, next-passed, next-end}
 use Rattle.phase1.proofs.next_candidate.Statement.{statement}
 use Rattle.phase1.proofs.next_candidate.Tie as tie
 
 abbrev Inv-loop : tie.InvT-loop
-Inv-loop benefits i a next₀ gain₀ strategies old k₀ next gain k =
-    (k ≤ strategies) × Leads (later benefits i a) (benefitAt benefits i) k next gain
+Inv-loop benefits i a next₀ greatest₀ strategies old k₀ next greatest k =
+    (k ≤ strategies) × Leads (later benefits i a) (benefitAt benefits i) k next greatest
 
 abbrev μ-loop : tie.MeasureT-loop
-μ-loop benefits i a next₀ gain₀ strategies old k₀ next gain k = strategies - k
+μ-loop benefits i a next₀ greatest₀ strategies old k₀ next greatest k = strategies - k
 
 loop-holds : tie.Need-loop-holds Inv-loop μ-loop
 loop-holds c = (search needs, next-none _ _ _)

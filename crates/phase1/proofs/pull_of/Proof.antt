@@ -7,37 +7,38 @@ use borrow.Author.Needs.{needs}
 use denote.Ref.{now}
 use Rattle.base.specs.Over.{sum}
 use Rattle.base.proofs.Sums.{sum-none, sum-end}
-use Rattle.phase1.proofs.Laws.{heldPull, held-cell, pull-turn, pull-skip, pull-le, pull-sum}
+use Rattle.phase1.specs.Reduce.{heldPull}
+use Rattle.phase1.proofs.Pulls.{chosen-cell, pull-turn, pull-skip, pull-le}
 use Rattle.phase1.proofs.pull_of.Statement.{statement}
 use Rattle.phase1.proofs.pull_of.Tie as tie
 
 abbrev Inv-loop : tie.InvT-loop
-Inv-loop benefits uses limits shares choice sums over i all₀ resources r₀ all r = (r ≤ resources) × (all ≡ sum r (heldPull shares choice over i))
+Inv-loop shares choice over i all₀ resources r₀ all r = (r ≤ resources) × (all ≡ sum r (heldPull shares choice over i))
 
 abbrev μ-loop : tie.MeasureT-loop
-μ-loop benefits uses limits shares choice sums over i all₀ resources r₀ all r = resources - r
+μ-loop shares choice over i all₀ resources r₀ all r = resources - r
 
 loop-holds : tie.Need-loop-holds Inv-loop μ-loop
 loop-holds c = (search needs, sum-none _)
 
 chosen-share-requires : tie.Need-chosen-share-requires Inv-loop μ-loop
-chosen-share-requires c κs = let s = c .before .before .before .before .before .before .before .before .before .before in
-    ((s .pre .0 .shares .places, s .pre .0 .ready .chosen .places), (held-cell _ _ _ _ _ _ _ (s .pre .0) (s .args .i) (s .pre .1 .1 .0) (s .pre .1 .1 .1), search needs, omega (arith, s .pre .0 .ready .sound .resources)))
+chosen-share-requires c κs = let s = c .before .before .before .before .before .before in
+    ((s .pre .0 .places, s .pre .0 .chosen .places), (chosen-cell (s .pre .0) (s .args .i) (s .pre .1 .1 .0) (s .pre .1 .1 .1), search needs, omega (arith, s .pre .0 .bounded .resources)))
 
 mul-all : tie.Need-mul-all Inv-loop μ-loop
-mul-all c = let s = c .before .before .before .before .before .before .before .before .before .before .before in
+mul-all c = let s = c .before .before .before .before .before .before .before in
     let l = c .before .before .before .before .loop in
     let more = pull-turn (now (s .args .shares)) (now (s .args .choice)) (now (s .args .over)) (s .args .i) (l .r) (l .inv .1) (c .chosen-share .ensures) in
-    omega (arith, pull-le _ _ _ _ _ _ _ (s .pre .0) _ (s .pre .1 .0) (s .args .i) (s .pre .1 .1 .0) (s .pre .1 .1 .1) (l .r + 1) (omega arith))
+    omega (arith, pull-le (s .pre .0) (now (s .args .over)) (s .pre .1 .0) (s .args .i) (s .pre .1 .1 .0) (s .pre .1 .1 .1) (l .r + 1) (omega arith))
 
 add-all : tie.Need-add-all Inv-loop μ-loop
-add-all c = let s = c .before .before .before .before .before .before .before .before .before .before .before in
+add-all c = let s = c .before .before .before .before .before .before .before in
     let l = c .before .before .before .before .loop in
     let more = pull-turn (now (s .args .shares)) (now (s .args .choice)) (now (s .args .over)) (s .args .i) (l .r) (l .inv .1) (c .chosen-share .ensures) in
-    omega (arith, pull-le _ _ _ _ _ _ _ (s .pre .0) _ (s .pre .1 .0) (s .args .i) (s .pre .1 .1 .0) (s .pre .1 .1 .1) (l .r + 1) (omega arith))
+    omega (arith, pull-le (s .pre .0) (now (s .args .over)) (s .pre .1 .0) (s .args .i) (s .pre .1 .1 .0) (s .pre .1 .1 .1) (l .r + 1) (omega arith))
 
 loop-again : tie.Need-loop-again Inv-loop μ-loop
-loop-again c = let a = c .before .before .before .before .before .before .before .before .before .before .args in
+loop-again c = let a = c .before .before .before .before .before .before .args in
     let l = c .before .before .before .loop in (
       search needs,
       ⊎-elim
@@ -47,9 +48,7 @@ loop-again c = let a = c .before .before .before .before .before .before .before
     )
 
 returns : tie.Need-returns Inv-loop μ-loop
-returns c = let s = c .before .before .before .before .before .before .before .before in
-    let l = c .before .loop in
-    pull-sum _ _ _ _ _ _ _ (s .pre .0) _ (s .pre .1 .0) (s .args .i) (s .pre .1 .1 .0) (s .pre .1 .1 .1) (sum-end _ _ _ (l .inv .1) (l .inv .0) (omega arith))
+returns c = sum-end _ _ _ (c .before .loop .inv .1) (c .before .loop .inv .0) (omega arith)
 
 pub pull-of-spec : {M : Type 1} → statement M
 pull-of-spec =

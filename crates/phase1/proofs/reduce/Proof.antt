@@ -4,7 +4,8 @@ use mathlib.Core.Path.{sym, _∙_}
 use mathlib.Core.List.{[]}
 use native.Mathlib.Omega.{arith}
 use borrow.Author.Needs.{needs}
-use Rattle.phase1.proofs.Laws.{Down, down-start, down-within, down-nobody, down-spent, down-next, weakest-inside, weakest-cell, next-le, bound-le}
+use Rattle.phase1.proofs.Candidates.{next-le}
+use Rattle.phase1.proofs.Reduction.{bound-le, held-measured, Down, down-start, down-within, down-nobody, down-spent, down-next, weakest-inside, weakest-cell}
 use Rattle.phase1.proofs.reduce.Statement.{statement}
 use Rattle.phase1.proofs.reduce.Tie as tie
 
@@ -15,62 +16,66 @@ abbrev μ-loop : tie.MeasureT-loop
 μ-loop z benefits uses limits shares choice₀ sums₀ steps₀ bound choice sums steps = z .segments * z .strategies - steps
 
 mul-bound : tie.Need-mul-bound Inv-loop μ-loop
-mul-bound c = omega (arith, bound-le _ _ _ _ (c .before .before .before .before .before .before .before .pre .ready .sound))
+mul-bound c = omega (arith, bound-le (c .before .before .before .before .before .before .before .pre .running .bounded))
 
 loop-holds : tie.Need-loop-holds Inv-loop μ-loop
-loop-holds c = down-start _ _ _ _ _ _ _ (c .before .before .before .before .before .before .before .pre)
+loop-holds c = down-start (c .before .before .before .before .before .before .before .pre)
 
 limits-hold-requires : tie.Need-limits-hold-requires Inv-loop μ-loop
-limits-hold-requires c κs = c .before .before .before .loop .inv .held
+limits-hold-requires c κs =
+    let h = c .before .before .loop .inv .held in
+    (h .running .bounded .resources, h .limits, h .running .sums-length)
 
 same-length : tie.Need-same-length Inv-loop μ-loop
-same-length c = c .before .before .before .before .before .loop .inv .held .ready .chosen .places ∙ sym (c .before .before .before .before .before .before .before .before .before .before .before .before .before .pre .ready .chosen .places)
+same-length c = c .before .before .before .before .loop .inv .held .running .chosen .places ∙ sym (c .before .before .before .before .before .before .before .before .before .before .before .before .pre .running .chosen .places)
 
 same-length-2 : tie.Need-same-length-2 Inv-loop μ-loop
-same-length-2 c = c .before .before .before .before .before .loop .inv .held .ready .sums-length ∙ sym (c .before .before .before .before .before .before .before .before .before .before .before .before .before .pre .ready .sums-length)
+same-length-2 c = c .before .before .before .before .loop .inv .held .running .sums-length ∙ sym (c .before .before .before .before .before .before .before .before .before .before .before .before .pre .running .sums-length)
 
 returns : tie.Need-returns Inv-loop μ-loop
-returns c = down-within _ _ _ _ _ _ _ _ _ (c .before .before .before .before .before .loop .inv) (c .before .limits-hold .ensures) (c .if1 .taken)
+returns c = down-within (c .before .before .before .before .loop .inv) (c .before .limits-hold .ensures) (c .if1 .taken)
 
 weakest-of-requires : tie.Need-weakest-of-requires Inv-loop μ-loop
-weakest-of-requires c κs = c .before .before .before .before .before .before .before .loop .inv .held
+weakest-of-requires c κs =
+    let h = c .before .before .before .before .before .before .loop .inv .held in
+    (h .benefits, h .limits, held-measured h, h .running .sums-length)
 
 same-length-3 : tie.Need-same-length-3 Inv-loop μ-loop
-same-length-3 c = c .before .before .before .before .before .before .before .before .before .loop .inv .held .ready .chosen .places ∙ sym (c .before .before .before .before .before .before .before .before .before .before .before .before .before .before .before .before .before .pre .ready .chosen .places)
+same-length-3 c = c .before .before .before .before .before .before .before .before .loop .inv .held .running .chosen .places ∙ sym (c .before .before .before .before .before .before .before .before .before .before .before .before .before .before .before .before .pre .running .chosen .places)
 
 same-length-4 : tie.Need-same-length-4 Inv-loop μ-loop
-same-length-4 c = c .before .before .before .before .before .before .before .before .before .loop .inv .held .ready .sums-length ∙ sym (c .before .before .before .before .before .before .before .before .before .before .before .before .before .before .before .before .before .pre .ready .sums-length)
+same-length-4 c = c .before .before .before .before .before .before .before .before .loop .inv .held .running .sums-length ∙ sym (c .before .before .before .before .before .before .before .before .before .before .before .before .before .before .before .before .pre .running .sums-length)
 
 returns-2 : tie.Need-returns-2 Inv-loop μ-loop
-returns-2 c = down-nobody _ _ _ _ _ _ _ _ _ (c .before .before .before .before .before .before .before .before .before .loop .inv) (c .before .before .before .before .before .limits-hold .ensures) (c .before .before .before .before .if1 .left) (c .before .weakest-of .ensures) (c .if2 .taken)
+returns-2 c = down-nobody (c .before .before .before .before .before .before .before .before .loop .inv) (c .before .before .before .before .before .limits-hold .ensures) (c .before .before .before .before .if1 .left) (c .before .weakest-of .ensures) (c .if2 .taken)
 
 mul-next-candidate : tie.Need-mul-next-candidate Inv-loop μ-loop
-mul-next-candidate c = omega (arith, weakest-cell _ _ _ _ _ _ _ _ _ (c .before .before .before .before .before .before .before .before .before .loop .inv) (c .before .before .before .before .before .limits-hold .ensures) (c .before .before .before .before .if1 .left) (c .before .weakest-of .ensures) (c .if2 .left) .high)
+mul-next-candidate c = omega (arith, weakest-cell (c .before .before .before .before .before .before .before .before .loop .inv) (c .before .before .before .before .before .limits-hold .ensures) (c .before .before .before .before .if1 .left) (c .before .weakest-of .ensures) (c .if2 .left) .high)
 
 slice-read-next-candidate : tie.Need-slice-read-next-candidate Inv-loop μ-loop
-slice-read-next-candidate c = omega (arith, c .before .before .before .before .before .before .before .before .before .before .loop .inv .held .ready .chosen .places, weakest-cell _ _ _ _ _ _ _ _ _ (c .before .before .before .before .before .before .before .before .before .before .loop .inv) (c .before .before .before .before .before .before .limits-hold .ensures) (c .before .before .before .before .before .if1 .left) (c .before .before .weakest-of .ensures) (c .before .if2 .left) .high)
+slice-read-next-candidate c = omega (arith, c .before .before .before .before .before .before .before .before .before .loop .inv .held .running .chosen .places, weakest-cell (c .before .before .before .before .before .before .before .before .before .loop .inv) (c .before .before .before .before .before .before .limits-hold .ensures) (c .before .before .before .before .before .if1 .left) (c .before .before .weakest-of .ensures) (c .before .if2 .left) .high)
 
 next-candidate-requires : tie.Need-next-candidate-requires Inv-loop μ-loop
-next-candidate-requires c κs = let h = c .before .before .before .before .before .before .before .before .before .before .loop .inv .held .ready in
-    (h .sound .gains, (weakest-cell _ _ _ _ _ _ _ _ _ (c .before .before .before .before .before .before .before .before .before .before .loop .inv) (c .before .before .before .before .before .before .limits-hold .ensures) (c .before .before .before .before .before .if1 .left) (c .before .before .weakest-of .ensures) (c .before .if2 .left), h .chosen .numbers (c .before .before .weakest-of .result)))
+next-candidate-requires c κs = let h = c .before .before .before .before .before .before .before .before .before .loop .inv .held in
+    (h .benefits, (weakest-cell (c .before .before .before .before .before .before .before .before .before .loop .inv) (c .before .before .before .before .before .before .limits-hold .ensures) (c .before .before .before .before .before .if1 .left) (c .before .before .weakest-of .ensures) (c .before .if2 .left), h .running .chosen .numbers (c .before .before .weakest-of .result)))
 
 make-one-requires : tie.Need-make-one-requires Inv-loop μ-loop
-make-one-requires c κs = (c .before .before .before .before .before .before .before .before .before .before .before .before .before .loop .inv .held .ready, (omega (arith, c .before .before .before .before .if2 .left), weakest-inside _ _ _ _ _ _ _ _ _ (c .before .before .before .before .before .before .before .before .before .before .before .before .before .loop .inv) (c .before .before .before .before .before .before .before .before .before .limits-hold .ensures) (c .before .before .before .before .before .before .before .before .if1 .left) (c .before .before .before .before .before .weakest-of .ensures), next-le _ _ _ _ _ _ (c .before .before .next-candidate .ensures [] [])))
+make-one-requires c κs = (c .before .before .before .before .before .before .before .before .before .before .before .before .loop .inv .held .running, (omega (arith, c .before .before .before .before .if2 .left), weakest-inside (c .before .before .before .before .before .before .before .before .before .before .before .before .loop .inv) (c .before .before .before .before .before .before .before .before .before .limits-hold .ensures) (c .before .before .before .before .before .before .before .before .if1 .left) (c .before .before .before .before .before .weakest-of .ensures), next-le _ _ [] [] _ _ (c .before .before .next-candidate .ensures [] [])))
 
 add-steps : tie.Need-add-steps Inv-loop μ-loop
-add-steps c = omega (arith, c .before .before .before .before .before .before .before .before .before .before .before .before .before .before .before .before .before .loop-test .taken, bound-le _ _ _ _ (c .before .before .before .before .before .before .before .before .before .before .before .before .before .before .before .before .before .before .before .before .before .before .before .before .before .before .pre .ready .sound))
+add-steps c = omega (arith, c .before .before .before .before .before .before .before .before .before .before .before .before .before .before .before .before .loop-test .taken, bound-le (c .before .before .before .before .before .before .before .before .before .before .before .before .before .before .before .before .before .before .before .before .before .before .before .before .before .pre .running .bounded))
 
 loop-again : tie.Need-loop-again Inv-loop μ-loop
-loop-again c = down-next _ _ _ _ _ _ _ _ _ (c .before .before .before .before .before .before .before .before .before .before .before .before .before .before .before .before .before .before .loop .inv) (c .before .before .before .before .before .before .before .before .before .before .before .before .before .before .limits-hold .ensures) (c .before .before .before .before .before .before .before .before .before .before .before .before .before .if1 .left) (c .before .before .before .before .before .before .before .before .before .before .weakest-of .ensures) (c .before .before .before .before .before .before .before .before .before .if2 .left) (c .before .before .before .before .before .before .before .before .before .before .before .before .before .before .before .before .before .loop-test .taken) (c .before .before .before .before .before .before .before .next-candidate .ensures _ _) (c .before .before .before .before .make-one .ensures .0) (c .before .before .before .before .make-one .ensures .1)
+loop-again c = down-next (c .before .before .before .before .before .before .before .before .before .before .before .before .before .before .before .before .before .loop .inv) (c .before .before .before .before .before .before .before .before .before .before .before .before .before .before .limits-hold .ensures) (c .before .before .before .before .before .before .before .before .before .before .before .before .before .if1 .left) (c .before .before .before .before .before .before .before .before .before .before .weakest-of .ensures) (c .before .before .before .before .before .before .before .before .before .if2 .left) (c .before .before .before .before .before .before .before .before .before .before .before .before .before .before .before .before .loop-test .taken) (c .before .before .before .before .before .before .before .next-candidate .ensures) (c .before .before .before .before .make-one .ensures .0) (c .before .before .before .before .make-one .ensures .1)
 
 same-length-5 : tie.Need-same-length-5 Inv-loop μ-loop
-same-length-5 c = c .before .loop .inv .held .ready .chosen .places ∙ sym (c .before .before .before .before .before .before .before .before .before .pre .ready .chosen .places)
+same-length-5 c = c .before .loop .inv .held .running .chosen .places ∙ sym (c .before .before .before .before .before .before .before .before .before .pre .running .chosen .places)
 
 same-length-6 : tie.Need-same-length-6 Inv-loop μ-loop
-same-length-6 c = c .before .loop .inv .held .ready .sums-length ∙ sym (c .before .before .before .before .before .before .before .before .before .pre .ready .sums-length)
+same-length-6 c = c .before .loop .inv .held .running .sums-length ∙ sym (c .before .before .before .before .before .before .before .before .before .pre .running .sums-length)
 
 returns-3 : tie.Need-returns-3 Inv-loop μ-loop
-returns-3 c = down-spent _ _ _ _ _ _ _ _ _ (c .before .loop .inv) (c .loop-test .left)
+returns-3 c = down-spent (c .before .loop .inv) (c .loop-test .left)
 
 pub reduce-spec : {M : Type 1} → statement M
 reduce-spec =

@@ -1,27 +1,28 @@
 -- `phase1::surplus_of` meets its contract. Assumes nothing.
-use mathlib.Core.Path.{sym}
+use mathlib.Core.Path.{refl}
 use native.Mathlib.Omega.{arith}
 use borrow.Author.Needs.{needs}
-use Rattle.phase1.proofs.Laws.{surplus-none, surplus-some}
-use borrow.Author.Needs.{needs}
+use Rattle.phase1.proofs.Pulls.{no-surplus, some-surplus}
 use Rattle.phase1.proofs.surplus_of.Statement.{statement}
 use Rattle.phase1.proofs.surplus_of.Tie as tie
 
 returns : tie.Need-returns
-returns c = let s = c .before .before .before .before .before .before .before .before .before in
-    sym (surplus-none _ _ _ _ _ _ _ (s .pre .0) (s .args .r) (s .pre .1 .0) (s .pre .1 .1) (c .if1 .taken))
+returns c =
+    let s = c .before .before .before .before .before .before .before in
+    no-surplus (s .pre .0 .1) _ (s .pre .1 .0) (s .pre .1 .1) (c .if1 .taken)
 
 shares-in-requires : tie.Need-shares-in-requires
-shares-in-requires c κs = c .before .before .before .before .before .before .before .before .before .pre
+shares-in-requires c κs = let s = c .before .before .before .before .before .before .before in (s .pre .0 .1, s .pre .1)
 
 returns-2 : tie.Need-returns-2
-returns-2 c = let s = c .before .before .before .before .before .before .before .before .before .before .before in
-    let is = surplus-some _ _ _ _ _ _ _ (s .pre .0) (s .args .r) (s .pre .1 .0) (s .pre .1 .1) (c .before .before .if1 .left) in
-    omega (arith, c .before .shares-in .ensures)
+returns-2 c =
+    let s = c .before .before .before .before .before .before .before .before .before in
+    some-surplus (s .pre .0 .1) _ (s .pre .1 .0) (s .pre .1 .1) (c .before .before .if1 .left) (c .before .shares-in .ensures) (omega arith)
 
 returns-3 : tie.Need-returns-3
-returns-3 c = let s = c .before .before .before .before .before .before .before .before .before .before .before in
-    rw (c .before .shares-in .ensures) (sym (surplus-some _ _ _ _ _ _ _ (s .pre .0) (s .args .r) (s .pre .1 .0) (s .pre .1 .1) (c .before .before .if1 .left)))
+returns-3 c =
+    let s = c .before .before .before .before .before .before .before .before .before in
+    some-surplus (s .pre .0 .1) _ (s .pre .1 .0) (s .pre .1 .1) (c .before .before .if1 .left) (c .before .shares-in .ensures) refl
 
 pub surplus-of-spec : {M : Type 1} → statement M
 surplus-of-spec =

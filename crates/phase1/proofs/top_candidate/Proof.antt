@@ -5,12 +5,12 @@ use native.Mathlib.Omega.{arith}
 use borrow.Author.Needs.{needs}
 use Rattle.base.proofs.Best.{Leads}
 use Rattle.tables.specs.Arrays.{benefitAt}
-use Rattle.phase1.proofs.Laws.{gainful, top-none, top-taken, top-kept, top-end}
+use Rattle.phase1.proofs.Candidates.{valuable, top-none, top-taken, top-kept, top-end}
 use Rattle.phase1.proofs.top_candidate.Statement.{statement}
 use Rattle.phase1.proofs.top_candidate.Tie as tie
 
 abbrev Inv-loop : tie.InvT-loop
-Inv-loop benefits i top₀ most₀ strategies j₀ top most j = (j ≤ strategies) × Leads (gainful benefits i) (benefitAt benefits i) j top most
+Inv-loop benefits i top₀ most₀ strategies j₀ top most j = (j ≤ strategies) × Leads (valuable benefits i) (benefitAt benefits i) j top most
 
 abbrev μ-loop : tie.MeasureT-loop
 μ-loop benefits i top₀ most₀ strategies j₀ top most j = strategies - j

@@ -8,7 +8,7 @@ use Rattle.base.specs.Over.{sum}
 use Rattle.base.proofs.Sums.{sum-none, sum-next, sum-end}
 use Rattle.rules.specs.Phases.{strategyAt, chosenUsage, used}
 use Rattle.tables.specs.Arrays.{usageAt}
-use Rattle.phase1.proofs.Laws.{used-le}
+use Rattle.tables.proofs.Arrays.{uses-le, cell-of}
 use Rattle.phase1.proofs.used_of.Statement.{statement}
 use Rattle.phase1.proofs.used_of.Tie as tie
 
@@ -23,14 +23,14 @@ loop-holds c = (search needs, sum-none _)
 
 chosen-usage-requires : tie.Need-chosen-usage-requires Inv-loop μ-loop
 chosen-usage-requires c κs = let p = c .before .before .before .before .pre .0 in
-    let n = p .3 .numbers (c .before .loop .i + 1) in
-    ((p .2, p .3 .places), (record { low = omega arith; high = omega arith; number = omega arith }, search needs, search needs))
+    let i = c .before .loop .i + 1 in
+    ((p .1, p .2 .places), (cell-of (p .0) i _ (omega arith) (omega arith) (p .2 .numbers i), search needs, search needs))
 
 add-so-far : tie.Need-add-so-far Inv-loop μ-loop
 add-so-far c = let s = c .before .before .before .before .before in
     let l = c .before .before .loop in
     let more = sum-next (l .i) (λ k. usageAt (now (s .args .uses)) k (strategyAt (now (s .args .choice)) k) (s .args .r)) (l .inv .1) in
-    omega (arith, c .chosen-usage .ensures, used-le (now (s .args .uses)) (s .pre .0 .2) (now (s .args .choice)) (s .args .r) (l .i + 1) (omega arith))
+    omega (arith, c .chosen-usage .ensures, uses-le (s .pre .0 .1) (now (s .args .choice)) (s .args .r) (l .i + 1) (omega (arith, s .pre .0 .0 .segments)))
 
 loop-again : tie.Need-loop-again Inv-loop μ-loop
 loop-again c = (search needs, rw (c .chosen-usage .ensures) (sum-next _ _ (c .before .before .loop .inv .1)))

@@ -5,28 +5,28 @@ use native.Mathlib.Omega.{arith}
 use borrow.Author.Needs.{needs}
 use Rattle.base.proofs.Best.{Leads}
 use Rattle.rules.specs.Phases.{vacant, offerBenefit}
-use Rattle.tables.proofs.Laws.{cell-of}
+use Rattle.tables.proofs.Arrays.{cell-of}
 use Rattle.tables.specs.Arrays.{tables}
-use Rattle.phase2.proofs.Laws.{offer-le, best-none, best-taken, best-kept, best-passed, best-end}
+use Rattle.phase2.proofs.Offers.{offer-le, best-none, best-taken, best-kept, best-passed, best-end}
 use Rattle.phase2.proofs.best_offer.Statement.{statement}
 use Rattle.phase2.proofs.best_offer.Tie as tie
 
 abbrev Inv-loop : tie.InvT-loop
-Inv-loop z benefits uses limits choice sums top₀ gain₀ i₀ top gain i = (i ≤ z .segments) × Leads (vacant (tables z benefits uses limits) choice) (offerBenefit (tables z benefits uses limits) choice) i top gain
+Inv-loop z benefits uses limits choice sums top₀ most₀ i₀ top most i = (i ≤ z .segments) × Leads (vacant (tables z benefits uses limits) choice) (offerBenefit (tables z benefits uses limits) choice) i top most
 
 abbrev μ-loop : tie.MeasureT-loop
-μ-loop z benefits uses limits choice sums top₀ gain₀ i₀ top gain i = z .segments - i
+μ-loop z benefits uses limits choice sums top₀ most₀ i₀ top most i = z .segments - i
 
 loop-holds : tie.Need-loop-holds Inv-loop μ-loop
 loop-holds c = (search needs, best-none _ _ _ _ _)
 
 offer-of-requires : tie.Need-offer-of-requires Inv-loop μ-loop
-offer-of-requires c κs = (c .before .before .before .before .before .before .before .before .before .before .pre, omega arith, omega arith)
+offer-of-requires c κs = (c .before .before .before .before .before .before .before .before .before .before .pre, (omega arith, omega arith))
 
 benefit-requires : tie.Need-benefit-requires Inv-loop μ-loop
 benefit-requires c κs =
     let a = c .before .before .before .before .before .before .before .before .before .before .before in
-    (a .pre .sound .gains, cell-of _ _ _ _ (a .pre .sound) (c .before .before .before .before .before .loop .i + 1) (c .offer-of .result) (omega arith) (omega arith) (rw (c .offer-of .ensures) (offer-le _ _ _ _ _ (c .before .before .before .before .before .loop .i + 1))))
+    (a .pre .0, cell-of (a .pre .2 .bounded) (c .before .before .before .before .before .loop .i + 1) (c .offer-of .result) (omega arith) (omega arith) (rw (c .offer-of .ensures) (offer-le _ _ _ _ _ (c .before .before .before .before .before .loop .i + 1))))
 
 loop-again : tie.Need-loop-again Inv-loop μ-loop
 loop-again c =

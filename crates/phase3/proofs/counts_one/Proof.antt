@@ -1,8 +1,8 @@
 -- `phase3::counts_one` meets its contract. Assumes nothing.
 use mathlib.Core.Path.{sym, _∙_}
 use native.Mathlib.Omega.{arith}
-use Rattle.tables.proofs.Laws.{from-cell, places}
-use Rattle.phase3.proofs.Laws.{low-one, high-one}
+use Rattle.tables.proofs.Moves.{from-cell, places}
+use Rattle.phase3.proofs.ChangeSearch.{low-one, high-one}
 use borrow.Author.Needs.{needs}
 use Rattle.phase3.proofs.counts_one.Statement.{statement}
 use Rattle.phase3.proofs.counts_one.Tie as tie
@@ -11,23 +11,21 @@ chosen-benefit-requires : tie.Need-chosen-benefit-requires
 chosen-benefit-requires c κs =
     let s = c .before .before .before .before .before .before in
     let m = s .pre .1 in
-    ((s .pre .0 .sound .gains, s .pre .0 .chosen .places), from-cell _ _ _ _ _ _ (s .pre .0) _ 0 (m .0) (m .1))
+    ((s .pre .0 .0, s .pre .0 .2 .chosen .places), from-cell (s .pre .0 .2) _ (m .0) (m .1))
 
 returns : tie.Need-returns
 returns c =
     let s = c .before .before .before .before .before .before .before .before in
-    let r = s .pre .0 in
     let m = s .pre .1 in
-    let room = places _ _ _ _ _ _ r in
+    let room = places (s .pre .0 .2) in
     sym (low-one _ _ _ _ (m .0) (m .1) room (omega (arith, c .before .chosen-benefit .ensures, c .before .before .benefit .ensures)))
 
 returns-2 : tie.Need-returns-2
 returns-2 c =
     let s = c .before .before .before .before .before .before .before .before .before in
-    let r = s .pre .0 in
     let m = s .pre .1 in
-    let room = places _ _ _ _ _ _ r in
-    c .fits-one .ensures ∙ sym (high-one _ _ _ _ (m .0) (m .1) room (omega (arith, c .before .before .chosen-benefit .ensures, c .before .before .before .benefit .ensures)))
+    let room = places (s .pre .0 .2) in
+    c .fits-one .ensures _ ∙ sym (high-one _ _ _ _ (m .0) (m .1) room (omega (arith, c .before .before .chosen-benefit .ensures, c .before .before .before .benefit .ensures)))
 
 pub counts-one-spec : {M : Type 1} → statement M
 counts-one-spec =

@@ -7,7 +7,7 @@ use native.Mathlib.Omega.{arith}
 use Rattle.rules.specs.Phases.{single, singlesOf}
 use Rattle.tables.specs.Arrays.{tables}
 use Rattle.phase3.specs.declared.Change.the-variants.{Nothing}
-use Rattle.phase3.proofs.Laws.{single-none, singles-none, singles-end, single-found, found-nothing}
+use Rattle.phase3.proofs.ChangeSearch.{single-none, singles-none, singles-end, single-found, found-nothing}
 use borrow.Author.Needs.{needs}
 use Rattle.phase3.proofs.first_one.Statement.{statement}
 use Rattle.phase3.proofs.first_one.Tie as tie
@@ -51,7 +51,7 @@ search-again c = (
 )
 
 returns : tie.Need-returns Inv-loop μ-loop Inv-search μ-search
-returns c = found-nothing _ _ _ _ (c .before .search .inv .3) (singles-end _ _ (λ p lp l. c .before .search .inv .2 p (omega arith) l))
+returns c = found-nothing (c .before .search .inv .3) (singles-end _ _ (λ p lp l. c .before .search .inv .2 p (omega arith) l))
 
 returns-2 : tie.Need-returns-2 Inv-loop μ-loop Inv-search μ-search
 returns-2 c =

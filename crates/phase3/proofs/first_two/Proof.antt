@@ -8,9 +8,10 @@ use native.Mathlib.Omega.{arith}
 use denote.Ref.{now}
 use Rattle.rules.specs.Phases.{pair, pairsWith, pairsOf, pairsFrom}
 use Rattle.tables.specs.Arrays.{tables}
-use Rattle.tables.proofs.Laws.{benefit-nothing, usage-nothing, places}
+use Rattle.tables.proofs.Arrays.{benefit-nothing, usage-nothing}
+use Rattle.tables.proofs.Moves.{places, from-cell}
 use Rattle.phase3.specs.declared.Change.the-variants.{Nothing}
-use Rattle.phase3.proofs.Laws.{
+use Rattle.phase3.proofs.ChangeSearch.{
   pair-none,
   with-none,
   of-none,
@@ -21,7 +22,8 @@ use Rattle.phase3.proofs.Laws.{
   no-with,
   no-of,
   another-of,
-  compared-of,
+  compared,
+  top-le,
   found-nothing,
 }
 use borrow.Author.Needs.{needs}
@@ -75,8 +77,15 @@ pair-may-rise-requires :
     Inv-search
     μ-search
 pair-may-rise-requires c κs =
-    let s = c .before .before .before .before .before .before .before .before .before .before .before .before .pre in
-    ((compared-of _ _ _ _ _ _ (s .0), s .1), (omega arith, omega arith, omega arith))
+    let s = c .before .before .before .before .before .before .before .before .before .before .before .before in
+    let p = s .pre .0 in
+    let e = s .pre .1 .each in
+    let small = top-le (s .args .z .strategies) (p .0) in
+    let i = c .before .before .before .search .i in
+    let k = c .before .loop .k in (
+      (compared (p .0) (p .2) (omega arith) (omega arith) (omega arith), s .pre .1 .places),
+      (omega (arith, e i (omega arith) (omega arith), small i), omega (arith, e k (omega arith) (omega arith), small k)),
+    )
 
 both-give-up-requires :
     tie.Need-both-give-up-requires
@@ -88,7 +97,10 @@ both-give-up-requires :
     μ-loop
     Inv-search
     μ-search
-both-give-up-requires c κs = (c .before .before .before .before .before .before .before .before .before .before .before .before .before .before .pre .0, (omega arith, omega arith, omega arith))
+both-give-up-requires c κs =
+    let p = c .before .before .before .before .before .before .before .before .before .before .before .before .before .before .pre .0 in
+    let from = from-cell (p .2) in
+    ((p .2 .bounded .resources, p .2 .uses, p .1, p .2 .chosen .places), (from _ (omega arith) (omega arith), from _ (omega arith) (omega arith)))
 
 loop2-holds :
     tie.Need-loop2-holds Inv-loop3 μ-loop3 Inv-loop2 μ-loop2 Inv-loop μ-loop Inv-search μ-search
@@ -104,7 +116,9 @@ with-may-count-requires :
     μ-loop
     Inv-search
     μ-search
-with-may-count-requires c κs = (c .before .before .before .before .before .before .before .before .before .before .before .before .before .before .before .before .before .before .pre, (omega arith, omega arith, omega arith, omega arith, c .before .before .before .both-give-up .ensures))
+with-may-count-requires c κs =
+    let s = c .before .before .before .before .before .before .before .before .before .before .before .before .before .before .before .before .before .before .pre in
+    ((s .0 .0, s .0 .2, s .1, c .before .before .before .both-give-up .ensures .places), (omega arith, omega arith, omega arith, omega arith))
 
 loop3-holds :
     tie.Need-loop3-holds Inv-loop3 μ-loop3 Inv-loop2 μ-loop2 Inv-loop μ-loop Inv-search μ-search
@@ -120,30 +134,29 @@ counts-two-requires :
     μ-loop
     Inv-search
     μ-search
-counts-two-requires c κs = (
-  c .before .before .before .before .before .before .before .before .before .before .before .before .before .before .before .before .before .before .before .before .before .before .before .pre .0,
-  ((omega arith, omega arith, omega arith, omega arith, omega arith, c .before .before .before .before .before .before .before .before .both-give-up .ensures), another-of _ _ _ _ _ (sym (c .before .before .before .before .with-may-count .ensures) ∙ c .before .before .before .if2 .taken)),
-)
+counts-two-requires c κs =
+    let p = c .before .before .before .before .before .before .before .before .before .before .before .before .before .before .before .before .before .before .before .before .before .before .before .pre .0 in
+    ((p .0, p .2, c .before .before .before .before .before .before .before .before .both-give-up .ensures .places), (omega arith, omega arith, omega arith, omega arith, omega arith))
 
 add-b : tie.Need-add-b Inv-loop3 μ-loop3 Inv-loop2 μ-loop2 Inv-loop μ-loop Inv-search μ-search
-add-b c = omega (arith, c .before .before .before .loop3-test .taken, c .before .before .before .before .before .before .before .before .before .before .before .before .before .before .before .before .before .before .before .before .before .before .before .before .before .pre .0 .sound .strategies)
+add-b c = omega (arith, c .before .before .before .loop3-test .taken, c .before .before .before .before .before .before .before .before .before .before .before .before .before .before .before .before .before .before .before .before .before .before .before .before .before .pre .0 .2 .bounded .strategies)
 
 loop3-again :
     tie.Need-loop3-again Inv-loop3 μ-loop3 Inv-loop2 μ-loop2 Inv-loop μ-loop Inv-search μ-search
 loop3-again c = (
   search needs,
-  below-more _ _ (c .before .before .before .before .loop3 .inv .1) (pair-none _ _ _ _ _ _ (sym (c .before .counts-two .ensures) ∙ c .if3 .left)),
+  below-more _ _ (c .before .before .before .before .loop3 .inv .1) (pair-none _ _ _ _ _ _ (sym (c .before .counts-two .ensures _ (c .before .before .before .before .before .before .before .before .before .before .both-give-up .ensures) (another-of _ _ _ _ _ (sym (c .before .before .before .before .before .before .with-may-count .ensures _ (c .before .before .before .before .before .before .before .before .before .before .both-give-up .ensures)) ∙ c .before .before .before .before .before .if2 .taken))) ∙ c .if3 .left)),
   c .before .before .before .before .loop3 .inv .2,
 )
 
 add-a : tie.Need-add-a Inv-loop3 μ-loop3 Inv-loop2 μ-loop2 Inv-loop μ-loop Inv-search μ-search
-add-a c = omega (arith, c .before .before .before .loop2-test .taken, c .before .before .before .before .before .before .before .before .before .before .before .before .before .before .before .before .before .before .before .before .pre .0 .sound .strategies)
+add-a c = omega (arith, c .before .before .before .loop2-test .taken, c .before .before .before .before .before .before .before .before .before .before .before .before .before .before .before .before .before .before .before .before .pre .0 .2 .bounded .strategies)
 
 loop2-again :
     tie.Need-loop2-again Inv-loop3 μ-loop3 Inv-loop2 μ-loop2 Inv-loop μ-loop Inv-search μ-search
 loop2-again c =
     let l = c .before .before .before .before .loop2 in
-    let room = places _ _ _ _ _ _ (c .before .before .before .before .before .before .before .before .before .before .before .before .before .before .before .before .before .before .before .before .pre .0) in
+    let room = places (c .before .before .before .before .before .before .before .before .before .before .before .before .before .before .before .before .before .before .before .before .pre .0 .2) in
     ⊎-elim
     (λ w. (
       search needs,
@@ -152,7 +165,7 @@ loop2-again c =
     ))
     (λ w. (
       search needs,
-      below-more _ _ (l .inv .1) (no-with _ _ room _ _ (omega arith) (omega arith) (omega arith) (benefit-nothing _) (usage-nothing _) _ (sym (c .before .with-may-count .ensures) ∙ w .0 .left)),
+      below-more _ _ (l .inv .1) (no-with _ _ room _ _ (omega arith) (omega arith) (omega arith) (benefit-nothing _) (usage-nothing _) _ (sym (c .before .with-may-count .ensures _ (c .before .before .before .before .before .both-give-up .ensures)) ∙ w .0 .left)),
       w .1 ∙ l .inv .2,
     ))
     (c .if2 .came)
@@ -162,7 +175,7 @@ loop-again :
 loop-again c =
     let l = c .before .before .before .loop in
     let s = c .before .before .before .before .before .before .before .before .before .before .before .before .before .before in
-    let room = places _ _ _ _ _ _ (s .pre .0) in
+    let room = places (s .pre .0 .2) in
     ⊎-elim
     (λ w. (
       search needs,
@@ -173,7 +186,7 @@ loop-again c =
     (λ w. (
       search needs,
       search needs,
-      below-more _ _ (l .inv .2) (λ one. no-of _ _ room _ _ (omega arith) (omega arith) (omega arith) (benefit-nothing _) (sym (c .before .pair-may-rise .ensures (now (s .args .uses)) (now (s .args .limits))) ∙ w .0 .left)),
+      below-more _ _ (l .inv .2) (λ one. no-of _ _ room _ _ (omega arith) (omega arith) (omega arith) (benefit-nothing _) (sym (c .before .pair-may-rise .ensures (s .args .z) (now (s .args .uses)) (now (s .args .limits)) (s .pre .1) (omega arith) (omega arith)) ∙ w .0 .left)),
       w .1 ∙ l .inv .3,
     ))
     (c .if1 .came)
@@ -188,7 +201,7 @@ search-again c = (
 )
 
 returns : tie.Need-returns Inv-loop3 μ-loop3 Inv-loop2 μ-loop2 Inv-loop μ-loop Inv-search μ-search
-returns c = found-nothing _ _ _ _ (c .before .search .inv .3) (pairs-end _ _ (λ p lp l. c .before .search .inv .2 p (omega arith) l))
+returns c = found-nothing (c .before .search .inv .3) (pairs-end _ _ (λ p lp l. c .before .search .inv .2 p (omega arith) l))
 
 returns-2 :
     tie.Need-returns-2 Inv-loop3 μ-loop3 Inv-loop2 μ-loop2 Inv-loop μ-loop Inv-search μ-search
@@ -199,7 +212,7 @@ returns-2 c =
       is = sym (pair-found _ _ _ _ _ _ (outer .inv .0) (omega arith) (omega arith) (outer .inv .2) (inner .inv .2)
           (omega arith) (c .before .before .before .before .before .before .before .before .before .loop2 .inv .1)
           (omega arith) (c .before .before .before .before .loop3 .inv .1)
-          (sym (c .before .counts-two .ensures) ∙ c .if3 .taken));
+          (sym (c .before .counts-two .ensures _ (c .before .before .before .before .before .before .before .before .before .before .both-give-up .ensures) (another-of _ _ _ _ _ (sym (c .before .before .before .before .before .before .with-may-count .ensures _ (c .before .before .before .before .before .before .before .before .before .before .both-give-up .ensures)) ∙ c .before .before .before .before .before .if2 .taken))) ∙ c .if3 .taken));
       inside = (outer .inv .0, inner .inv .0, omega arith, omega arith, omega arith);
     }
 

@@ -2,7 +2,7 @@
 use Prim.Native.Nat.{_-_, _^_}
 use mathlib.Core.Path.{sym, _∙_}
 use native.Mathlib.Omega.{arith}
-use Rattle.phase3.proofs.Laws.{Under, under-start, under-end, under-small, under-next, turn, no-turn}
+use Rattle.phase3.proofs.ChangeSearch.{Under, under-start, under-end, under-small, under-next, turn, no-turn}
 use borrow.Author.Needs.{needs}
 use Rattle.phase3.proofs.improve.Statement.{statement}
 use Rattle.phase3.proofs.improve.Tie as tie
@@ -15,47 +15,49 @@ abbrev μ-loop : tie.MeasureT-loop
 
 fill-tops-requires : tie.Need-fill-tops-requires Inv-loop μ-loop
 fill-tops-requires c κs =
-    let s = c .before .before .before .before .before .before .pre .sound in
-    (s .gains, (s .segments, s .strategies, search needs))
+    let s = c .before .before .before .before .before .before .pre in
+    (s .0, (s .2 .bounded .segments, s .2 .bounded .strategies, search needs))
 
 loop-holds : tie.Need-loop-holds Inv-loop μ-loop
-loop-holds c = under-start _ _ _ _ _ _ (c .before .before .before .before .before .before .before .before .pre)
+loop-holds c = under-start _ _ _ (c .before .before .before .before .before .before .before .before .pre .2)
 
 first-change-requires : tie.Need-first-change-requires Inv-loop μ-loop
-first-change-requires c κs = (c .before .before .before .loop .inv .ready, c .before .before .before .before .before .fill-tops .ensures)
+first-change-requires c κs =
+    let p = c .before .before .before .before .before .before .before .before .before .before .before .before .pre in
+    ((p .0, p .1, c .before .before .before .loop .inv .running), c .before .before .before .before .before .fill-tops .ensures)
 
 same-length : tie.Need-same-length Inv-loop μ-loop
-same-length c = c .before .before .before .before .before .before .loop .inv .ready .chosen .places ∙ sym (c .before .before .before .before .before .before .before .before .before .before .before .before .before .before .before .pre .chosen .places)
+same-length c = c .before .before .before .before .before .before .loop .inv .running .chosen .places ∙ sym (c .before .before .before .before .before .before .before .before .before .before .before .before .before .before .before .pre .2 .chosen .places)
 
 same-length-2 : tie.Need-same-length-2 Inv-loop μ-loop
-same-length-2 c = c .before .before .before .before .before .before .loop .inv .ready .sums-length ∙ sym (c .before .before .before .before .before .before .before .before .before .before .before .before .before .before .before .pre .sums-length)
+same-length-2 c = c .before .before .before .before .before .before .loop .inv .running .sums-length ∙ sym (c .before .before .before .before .before .before .before .before .before .before .before .before .before .before .before .pre .2 .sums-length)
 
 returns : tie.Need-returns Inv-loop μ-loop
 returns c =
     let u = c .before .before .before .before .before .before .loop .inv in
-    let e = under-end _ _ _ _ _ _ _ _ u (no-turn _ _ _ _ (c .before .before .first-change .ensures) (sym (c .before .is-nothing .ensures) ∙ c .if1 .taken)) in
-    (u .ready, (e .0, e .1))
+    let e = under-end u (no-turn (c .before .before .first-change .ensures) (sym (c .before .is-nothing .ensures) ∙ c .if1 .taken)) in
+    (u .running, (e .0, e .1))
 
 make-change-requires : tie.Need-make-change-requires Inv-loop μ-loop
-make-change-requires c κs = (c .before .before .before .before .before .before .before .before .loop .inv .ready, c .before .before .before .before .first-change .ensures .inside)
+make-change-requires c κs = (c .before .before .before .before .before .before .before .before .loop .inv .running, c .before .before .before .before .first-change .ensures .inside)
 
 add-changes : tie.Need-add-changes Inv-loop μ-loop
 add-changes c =
     let u = c .before .before .before .before .before .before .before .before .before .before .before .before .before .loop .inv in
-    let e = turn _ _ _ _ (c .before .before .before .before .before .before .before .before .before .first-change .ensures) (sym (c .before .before .before .before .before .before .before .before .is-nothing .ensures) ∙ c .before .before .before .before .before .before .before .if1 .left) in
-    omega (arith, under-small _ _ _ _ _ _ _ _ u _ e)
+    let e = turn (c .before .before .before .before .before .before .before .before .before .first-change .ensures) (sym (c .before .before .before .before .before .before .before .before .is-nothing .ensures) ∙ c .before .before .before .before .before .before .before .if1 .left) in
+    omega (arith, under-small u e (c .before .before .before .before .before .before .before .before .before .before .before .before .before .before .before .before .before .before .before .before .before .before .pre .0))
 
 loop-less : tie.Need-loop-less Inv-loop μ-loop
 loop-less c =
     let u = c .before .before .before .before .before .before .before .before .before .before .before .before .before .loop .inv in
-    let e = turn _ _ _ _ (c .before .before .before .before .before .before .before .before .before .first-change .ensures) (sym (c .before .before .before .before .before .before .before .before .is-nothing .ensures) ∙ c .before .before .before .before .before .before .before .if1 .left) in
-    omega (arith, under-small _ _ _ _ _ _ _ _ u _ e)
+    let e = turn (c .before .before .before .before .before .before .before .before .before .first-change .ensures) (sym (c .before .before .before .before .before .before .before .before .is-nothing .ensures) ∙ c .before .before .before .before .before .before .before .if1 .left) in
+    omega (arith, under-small u e (c .before .before .before .before .before .before .before .before .before .before .before .before .before .before .before .before .before .before .before .before .before .before .pre .0))
 
 loop-again : tie.Need-loop-again Inv-loop μ-loop
 loop-again c =
     let u = c .before .before .before .before .before .before .before .before .before .before .before .before .before .loop .inv in
-    let e = turn _ _ _ _ (c .before .before .before .before .before .before .before .before .before .first-change .ensures) (sym (c .before .before .before .before .before .before .before .before .is-nothing .ensures) ∙ c .before .before .before .before .before .before .before .if1 .left) in
-    under-next _ _ _ _ _ _ _ _ u _ e _ _ (c .before .before .before .before .make-change .ensures .0) (c .before .before .before .before .make-change .ensures .1)
+    let e = turn (c .before .before .before .before .before .before .before .before .before .first-change .ensures) (sym (c .before .before .before .before .before .before .before .before .is-nothing .ensures) ∙ c .before .before .before .before .before .before .before .if1 .left) in
+    under-next u e (c .before .before .before .before .make-change .ensures .0) (c .before .before .before .before .make-change .ensures .1)
 
 pub improve-spec : {M : Type 1} → statement M
 improve-spec =

@@ -2,22 +2,10 @@
 use native.Mathlib.Omega.{arith}
 use denote.Ref.{now}
 use Rattle.rules.specs.Phases.{strategyAt}
-use Rattle.tables.proofs.Laws.{benefit-lt}
+use Rattle.tables.proofs.Arrays.{benefit-lt}
 use borrow.Author.Needs.{needs}
 use Rattle.phase3.proofs.present_benefit.Statement.{statement}
 use Rattle.phase3.proofs.present_benefit.Tie as tie
-
-chosen-benefit-requires : tie.Need-chosen-benefit-requires
-chosen-benefit-requires c κs =
-    let s = c .before .before in
-    let p = s .pre .0 in
-    ((p .gains, p .chosen .places), record { low = omega arith; high = omega arith; number = omega (arith, p .chosen .numbers (s .args .i)) })
-
-chosen-benefit-requires-2 : tie.Need-chosen-benefit-requires-2
-chosen-benefit-requires-2 c κs =
-    let s = c .before .before .before in
-    let p = s .pre .0 in
-    ((p .gains, p .chosen .places), record { low = omega arith; high = omega arith; number = omega (arith, p .chosen .numbers (s .args .k)) })
 
 add-result : tie.Need-add-result
 add-result c =
@@ -25,12 +13,15 @@ add-result c =
     let a = s .args in
     omega (
       arith,
-      benefit-lt (now (a .benefits)) (s .pre .0 .gains) (a .i) (strategyAt (now (a .choice)) (a .i)),
-      benefit-lt (now (a .benefits)) (s .pre .0 .gains) (a .k) (strategyAt (now (a .choice)) (a .k)),
+      benefit-lt (s .pre .benefits) (a .i) (strategyAt (now (a .choice)) (a .i)),
+      benefit-lt (s .pre .benefits) (a .k) (strategyAt (now (a .choice)) (a .k)),
       c .chosen-benefit2 .ensures,
       c .before .chosen-benefit .ensures,
     )
 
+returns : tie.Need-returns
+returns c = λ z u l. cc
+
 pub present-benefit-spec : {M : Type 1} → statement M
 present-benefit-spec =
-    tie.close (tie.spec chosen-benefit-requires chosen-benefit-requires-2 add-result (λ c. search needs))
+    tie.close (tie.spec (λ c κs. search needs) (λ c κs. search needs) add-result returns)

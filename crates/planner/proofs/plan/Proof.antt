@@ -1,7 +1,7 @@
 -- `planner::plan` meets its contract. Assumes nothing.
 use borrow.Author.Needs.{needs}
 use mathlib.Core.Path.{sym, _∙_}
-use Rattle.planner.proofs.Laws.{planned, unplanned}
+use Rattle.planner.proofs.Plans.{planned, unplanned}
 use Rattle.planner.proofs.plan.Statement.{statement}
 use Rattle.planner.proofs.plan.Tie as tie
 

@@ -3,7 +3,7 @@ use borrow.Author.Needs.{needs}
 use mathlib.Core.Path.{refl, ap, _∙_}
 use Rattle.grammar.proofs.InRanges.{in-ranges}
 use Rattle.rules.specs.Plan.{programmeOf}
-use Rattle.planner.proofs.Laws.{shares-of, priced, sized}
+use Rattle.planner.proofs.Plans.{shares-of, priced, sized}
 use Rattle.planner.proofs.programme_of.Statement.{statement}
 use Rattle.planner.proofs.programme_of.Tie as tie
 
@@ -11,13 +11,13 @@ fill-all-requires : tie.Need-fill-all-requires
 fill-all-requires c κs = (in-ranges _ (c .before .before .before .before .before .pre), refl, refl, refl, refl, refl)
 
 ceiling-of-requires : tie.Need-ceiling-of-requires
-ceiling-of-requires c κs = sized _ (in-ranges _ (c .before .before .before .before .before .before .before .before .before .before .before .before .before .pre)) _ _ _ _ _ _ (c .before .before .before .before .before .before .before .fill-all .ensures)
+ceiling-of-requires c κs = sized (in-ranges _ (c .before .before .before .before .before .before .before .before .before .before .before .before .before .pre)) (c .before .before .before .before .before .before .before .fill-all .ensures)
 
 phases-requires : tie.Need-phases-requires
 phases-requires c κs =
     let ranges = in-ranges _ (c .before .before .before .before .before .before .before .before .before .before .before .before .before .before .before .before .before .before .pre) in
     let filled = c .before .before .before .before .before .before .before .before .before .before .before .before .fill-all .ensures in
-    ((filled .sound, filled .fit, shares-of _ ranges _ _ _ _ _ _ filled), c .before .before .before .before .ceiling-of .ensures _ (priced _ ranges _ _ _ _ _ _ filled))
+    ((filled .tabled, filled .fit, shares-of ranges filled), c .before .before .before .before .ceiling-of .ensures _ (priced ranges filled))
 
 returns : tie.Need-returns
 returns c = c .phases .ensures ∙ ap programmeOf (c .before .before .before .before .before .before .before .before .before .before .before .before .before .fill-all .ensures .table)

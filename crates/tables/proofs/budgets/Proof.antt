@@ -1,18 +1,19 @@
--- `tables::budgets` meets its contract: the budgets passed are right, and no sum wraps. Assumes nothing.
+-- `tables::budgets` meets its contract: the budgets passed are right, and no sum wraps.
 use Prim.Native.Nat.{ℕ, _+_, _-_, _≤_}
 use mathlib.Core.Path.{_≡_, refl}
 use native.Mathlib.Omega.{arith}
 use lib.ListN.{getD, length, length-set}
 use Rattle.base.proofs.All.{each-none, each-set}
+use Rattle.rules.specs.District.{mostResources}
 use Rattle.tables.specs.Arrays.{usageAt}
-use Rattle.tables.proofs.Laws.{usage-lt}
+use Rattle.tables.proofs.Arrays.{usage-lt}
 use borrow.Author.Needs.{needs}
 use Rattle.tables.proofs.budgets.Statement.{statement}
 use Rattle.tables.proofs.budgets.Tie as tie
 
 abbrev Inv-loop : tie.InvT-loop
 Inv-loop resources uses limits i x k y each₀ r₀ each r =
-    (r ≤ resources) × (length each ≡ 16)
+    (r ≤ resources) × (length each ≡ mostResources)
     × ((q : ℕ) → 1 ≤ q → q ≤ r → getD each (q - 1) 0 ≡ getD limits (q - 1) 0 + (usageAt uses i x q + usageAt uses k y q))
 
 abbrev μ-loop : tie.MeasureT-loop
@@ -24,14 +25,14 @@ loop-holds c = (search needs, refl, each-none _)
 add-each : tie.Need-add-each Inv-loop μ-loop
 add-each c =
     let s = c .before .before .before .before .before .before .before in
-    let small = usage-lt _ (s .pre .0 .1) in
+    let small = usage-lt (s .pre .0 .1) in
     let r = c .before .before .before .before .loop .r + 1 in
     omega (arith, c .before .usage .ensures, c .usage2 .ensures, small (s .args .i) (s .args .x) r, small (s .args .k) (s .args .y) r)
 
 add-each-2 : tie.Need-add-each-2 Inv-loop μ-loop
 add-each-2 c =
     let s = c .before .before .before .before .before .before .before in
-    let small = usage-lt _ (s .pre .0 .1) in
+    let small = usage-lt (s .pre .0 .1) in
     let r = c .before .before .before .before .loop .r + 1 in
     omega (arith, c .before .usage .ensures, c .usage2 .ensures, small (s .args .i) (s .args .x) r, small (s .args .k) (s .args .y) r, s .pre .0 .2 .small (c .before .before .before .before .loop .r))
 

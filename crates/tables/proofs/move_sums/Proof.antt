@@ -1,4 +1,4 @@
--- `tables::move_sums` meets its contract: the sums passed have moved, and the others are as they were. Assumes nothing.
+-- `tables::move_sums` meets its contract: the sums passed have moved, and the others are as they were.
 use Prim.Native.Nat.{ℕ, _+_, _-_, _≤_}
 use mathlib.Core.Path.{_≡_, refl, _∙_}
 use native.Mathlib.Omega.{arith}
@@ -7,7 +7,7 @@ use lib.ListN.{length, getD, length-set}
 use lib.Seq.{getD-set-same, getD-set-other}
 use Rattle.base.proofs.All.{each-none, each-next}
 use Rattle.tables.specs.Moves.{moved}
-use Rattle.tables.proofs.Laws.{usage-lt}
+use Rattle.tables.proofs.Arrays.{usage-lt}
 use borrow.Author.Needs.{needs}
 use Rattle.tables.proofs.move_sums.Statement.{statement}
 use Rattle.tables.proofs.move_sums.Tie as tie
@@ -35,7 +35,7 @@ add-sums : tie.Need-add-sums Inv-loop μ-loop
 add-sums c =
     let s = c .before .before .before .before .before .before .before in
     let r = c .before .before .before .before .loop .r in
-    let small = usage-lt (now (s .args .uses)) (s .pre .uses) (s .args .i) (s .args .a) (r + 1) in
+    let small = usage-lt (s .pre .uses) (s .args .i) (s .args .a) (r + 1) in
     let held = s .pre .sums-small (r + 1) (omega arith) (omega arith) in
     let here : r + 1 - 1 ≡ r = omega arith in
     omega (arith, rw here at held, c .before .before .before .before .loop .inv .3 r (omega arith))

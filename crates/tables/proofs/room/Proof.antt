@@ -1,4 +1,4 @@
--- `tables::room` meets its contract: every resource that the loop passed suffices. Assumes nothing.
+-- `tables::room` meets its contract: every resource that the loop passed suffices.
 use Prim.Native.Nat.{_+_, _-_, _≤_}
 use mathlib.Core.Path.{_≡_, sym, _∙_}
 use mathlib.Core.Bool.{true}
@@ -7,7 +7,7 @@ use borrow.Author.Tests.{not-true, not-false}
 use Rattle.base.specs.Over.{all}
 use Rattle.base.proofs.All.{all-none, all-next, all-fails, all-end}
 use Rattle.tables.specs.Moves.{roomFor}
-use Rattle.tables.proofs.Laws.{room-part}
+use Rattle.tables.proofs.Moves.{testable-part}
 use borrow.Author.Needs.{needs}
 use Rattle.tables.proofs.room.Statement.{statement}
 use Rattle.tables.proofs.room.Tie as tie
@@ -24,7 +24,7 @@ loop-holds c = (search needs, all-none _)
 room-in-requires : tie.Need-room-in-requires Inv-loop μ-loop
 room-in-requires c κs =
     let s = c .before .before .before .before .before in
-    (room-part _ _ _ _ _ (s .pre .0) (omega arith), (s .pre .1 .0, s .pre .1 .1, omega arith))
+    (testable-part _ _ (s .pre .0) (omega arith), (s .pre .1 .0, s .pre .1 .1, omega arith))
 
 returns : tie.Need-returns Inv-loop μ-loop
 returns c = sym (all-fails _ _ (c .before .before .before .loop .r + 1) (omega arith) (omega arith) (sym (c .before .room-in .ensures) ∙ not-true _ (c .if1 .taken)))

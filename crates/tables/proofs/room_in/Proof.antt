@@ -1,17 +1,17 @@
--- `tables::room_in` meets its contract: no sum wraps. Assumes nothing.
+-- `tables::room_in` meets its contract: no sum wraps.
 use Prim.Native.Nat.{ℕ, _<_, _^_}
 use native.Mathlib.Omega.{arith}
 use denote.Ref.{now}
 use Rattle.tables.specs.Arrays.{usageAt}
 use Rattle.tables.specs.Moves.{roomFor}
-use Rattle.tables.proofs.Laws.{usage-lt}
+use Rattle.tables.proofs.Arrays.{usage-lt}
 use borrow.Author.Needs.{needs}
 use Rattle.tables.proofs.room_in.Statement.{statement}
 use Rattle.tables.proofs.room_in.Tie as tie
 
 -- no use reaches 2 ^ 41
 small : (c : tie.Start) (i j : ℕ) → usageAt (now (c .args .uses)) i j (c .args .r) < 2 ^ 41
-small c i j = usage-lt _ (c .pre .0 .uses) i j (c .args .r)
+small c i j = usage-lt (c .pre .0 .uses) i j (c .args .r)
 
 add-more : tie.Need-add-more
 add-more c =

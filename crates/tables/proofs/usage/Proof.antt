@@ -1,11 +1,11 @@
--- `tables::usage` meets its contract. Assumes nothing.
-use Rattle.tables.proofs.Laws.{usage-at}
+-- `tables::usage` meets its contract.
+use Rattle.tables.proofs.Arrays.{usage-at}
 use borrow.Author.Needs.{needs}
 use Rattle.tables.proofs.usage.Statement.{statement}
 use Rattle.tables.proofs.usage.Tie as tie
 
 returns : tie.Need-returns
-returns c = usage-at _ (c .before .pre .0) _ _ _ (c .before .pre .1 .0) (c .before .pre .1 .1) (c .before .pre .1 .2)
+returns c = usage-at (c .before .pre .0) _ _ _ (c .before .pre .1 .0) (c .before .pre .1 .1) (c .before .pre .1 .2)
 
 pub usage-spec : {M : Type 1} → statement M
 usage-spec =

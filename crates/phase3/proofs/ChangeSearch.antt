@@ -1,5 +1,5 @@
--- Laws of the search for changes: what raises nothing is no change, and how the nested loops find the first. Assumes nothing.
-use Prim.Native.Nat.{ℕ, zero, suc, _+_, _-_, _^_, _≤_, _<_}
+-- Laws of the search for changes: what raises nothing is no change, and how the nested loops find the first.
+use Prim.Native.Nat.{ℕ, zero, suc, _+_, _^_, _≤_, _<_}
 use mathlib.Core.Path.{_≡_, refl, sym, ap, _∙_}
 use mathlib.Core.Bool.{Bool, true, false, and-false, or-true, true≢false}
 use mathlib.Core.List.{List}
@@ -42,8 +42,9 @@ use Rattle.rules.specs.Phases.{
 use Rattle.laws.proofs.Changes.{change-rises, change-numbers, total-most}
 use Rattle.laws.proofs.Give.{kept, total-give, used-give, within-less}
 use Rattle.tables.specs.declared.Size.{Size}
-use Rattle.tables.specs.Arrays.{benefitAt, tables, Gains, Ready}
-use Rattle.tables.proofs.Laws.{benefit-nothing, benefit-lt, total-le}
+use Rattle.tables.specs.Arrays.{benefitAt, tables, Benefits, Running}
+use Rattle.tables.proofs.Arrays.{benefit-nothing, benefit-lt, total-le}
+use Rattle.tables.proofs.Moves.{from-cell}
 use Rattle.phase3.specs.Improve.{after, isNothing, made, Found, countsOne, countsTwo, top, Compared, present, pairMayRise, withMayCount}
 use Rattle.phase3.specs.declared.Change.{Change}
 use Rattle.phase3.specs.declared.Change.the-variants.{Nothing, One, Two}
@@ -181,9 +182,9 @@ module _ (t : Table) (c : List ℕ) (room : t .segments ≤ length c) (i k : ℕ
   low-pair : (a b : ℕ) → t .benefit i a + t .benefit k b ≤ present t c i k → pair t c i k a b ≡ none
   low-pair a b h = pair-none t c i k a b (low-two t c i a low (omega arith) room k b above high h)
 
-  module _ (gain : (i : ℕ) → t .benefit i 0 ≡ 0) where
+  module _ (worthless : (i : ℕ) → t .benefit i 0 ≡ 0) where
     top-ge : (i j : ℕ) → j < t .strategies + 1 → t .benefit i j ≤ top t i
-    top-ge i zero h = omega (arith, gain i)
+    top-ge i zero h = omega (arith, worthless i)
     top-ge i (suc j) h = most-part (t .strategies) (t .benefit i) (suc j) (omega arith) (omega arith)
 
     pub no-of : pairMayRise t c i k ≡ false → pairsOf t c i k ≡ none
@@ -240,35 +241,35 @@ module _ (t : Table) (c : List ℕ) (i k a : ℕ) where
       go true q = refl
       go false q = sym (not-another q) ∙ e
 
-pub top-le : (s : ℕ) (b : List ℕ) → Gains b → (i : ℕ) → most s (benefitAt b i) ≤ 2 ^ 40
-top-le s b g i = most-bound s (2 ^ 40) (benefitAt b i) (λ j l h. let lt = benefit-lt b g i j in omega arith)
+pub top-le : (s : ℕ) {b : List ℕ} → Benefits b → (i : ℕ) → most s (benefitAt b i) ≤ 2 ^ 40
+top-le s {b} g i = most-bound s (2 ^ 40) (benefitAt b i) (λ j l h. let lt = benefit-lt g i j in omega arith)
 
 -- ---- what the loop of changes keeps
 
-pub compared-of : (z : Size) (b u l c sums : List ℕ) → Ready z b u l c sums → Compared z b c
-compared-of z b u l c sums ready =
+pub compared : {z : Size} {b u c sums : List ℕ} → Benefits b → Running z u c sums → {i k : ℕ} → 1 ≤ i → i < k → k ≤ z .segments → Compared b c i k
+compared benefits running {i} {k} low above high =
     record {
-      segments = ready .sound .segments;
-      strategies = ready .sound .strategies;
-      gains = ready .sound .gains;
-      chosen = ready .chosen;
+      benefits = benefits;
+      places = running .chosen .places;
+      first = from-cell running i low (omega arith);
+      second = from-cell running k (omega arith) high;
     }
 
 -- programme c after m changes from c₀
 pub record Under (z : Size) (b u l c₀ c sums : List ℕ) (m : ℕ) : Type 0 where
-  pub ready : Ready z b u l c sums
+  pub running : Running z u c sums
   pub reached : Reached (change (tables z b u l)) (total (tables z b u l) (start (tables z b u l))) c₀ c m
-  pub gained : m + total (tables z b u l) c₀ ≤ total (tables z b u l) c
+  pub risen : m + total (tables z b u l) c₀ ≤ total (tables z b u l) c
 
-pub under-start : (z : Size) (b u l c sums : List ℕ) → Ready z b u l c sums → Under z b u l c c sums 0
-under-start z b u l c sums r =
+pub under-start : {z : Size} (b u l : List ℕ) {c sums : List ℕ} → Running z u c sums → Under z b u l c c sums 0
+under-start {z} b u l {c} running =
     record {
-      ready = r;
+      running = running;
       reached = reached-start (change (tables z b u l)) (total (tables z b u l) (start (tables z b u l))) c;
-      gained = omega arith;
+      risen = omega arith;
     }
 
-module _ (z : Size) (b u l c₀ c sums : List ℕ) (m : ℕ) (under : Under z b u l c₀ c sums m) where
+module _ {z : Size} {b u l c₀ c sums : List ℕ} {m : ℕ} (under : Under z b u l c₀ c sums m) where
   abbrev t : Table
   t = tables z b u l
 
@@ -278,25 +279,25 @@ module _ (z : Size) (b u l c₀ c sums : List ℕ) (m : ℕ) (under : Under z b 
       let ended = reached-end (change t) (total t (start t)) c₀ c m (under .reached) e in
       (sym (ended .0), sym (ended .1))
 
-  module _ (e : List ℕ) (q : change t c ≡ some e) where
+  module _ {e : List ℕ} (q : change t c ≡ some e) where
     -- each change raises the total, which bounds them
-    pub under-less : m + 1 ≤ total t (start t)
+    under-less : m + 1 ≤ total t (start t)
     under-less =
         let rise = change-rises t c e q in
-        let most = total-most t (benefit-nothing b) e (under .ready .sound .segments) (change-numbers t c e q (under .ready .chosen .numbers)) in
-        omega (arith, under .gained)
+        let most = total-most t (benefit-nothing b) e (under .running .bounded .segments) (change-numbers t c e q (under .running .chosen .numbers)) in
+        omega (arith, under .risen)
 
-    pub under-small : m + 1 ≤ 2 ^ 46
-    under-small = omega (arith, under-less, total-le z b u l (under .ready .sound) (start t))
+    pub under-small : Benefits b → m + 1 ≤ 2 ^ 46
+    under-small benefits = omega (arith, under-less, total-le (under .running .bounded) benefits u l (start t))
 
-    pub under-next : (c₂ sums₂ : List ℕ) → Ready z b u l c₂ sums₂ → c₂ ≡ e → Under z b u l c₀ c₂ sums₂ (m + 1)
-    under-next c₂ sums₂ r same =
+    pub under-next : {c₂ sums₂ : List ℕ} → Running z u c₂ sums₂ → c₂ ≡ e → Under z b u l c₀ c₂ sums₂ (m + 1)
+    under-next running same =
         let rise = change-rises t c e q in
-        let more : m + 1 + total t c₀ ≤ total t e = omega (arith, under .gained) in
+        let more : m + 1 + total t c₀ ≤ total t e = omega (arith, under .risen) in
         record {
-          ready = r;
+          running = running;
           reached = rw same (reached-next (change t) (total t (start t)) c₀ c e m (under .reached) (omega (arith, under-less)) q);
-          gained = rw same more;
+          risen = rw same more;
         }
 
 -- ---- the code's own changes
@@ -311,14 +312,14 @@ change-made c Nothing e = absurd (true≢false e)
 change-made c (One i a) e = refl
 change-made c (Two i k a b) e = refl
 
-pub found-nothing : (z : Size) (c : List ℕ) (x : Change) (search : Option (List ℕ)) → x ≡ Nothing → search ≡ none → Found z c x search
-found-nothing z c x search e q = rw (e, q) (record { is = refl; inside = tt })
+pub found-nothing : {z : Size} {c : List ℕ} {x : Change} {search : Option (List ℕ)} → x ≡ Nothing → search ≡ none → Found z c x search
+found-nothing e q = rw (e, q) (record { is = refl; inside = tt })
 
 -- single changes come before pairs
-module _ (t : Table) (z : Size) (c : List ℕ) (x : Change) (single : Found z c x (firstSingle t c)) where
-  pub change-pair : isNothing x ≡ true → (y : Change) → Found z c y (firstPair t c) → Found z c y (change t c)
+module _ (t : Table) {z : Size} {c : List ℕ} {x : Change} (single : Found z c x (firstSingle t c)) where
+  pub change-pair : isNothing x ≡ true → {y : Change} → Found z c y (firstPair t c) → Found z c y (change t c)
   unfolding change
-  change-pair e y pair =
+  change-pair e pair =
       record { is = pair .is ∙ sym (ap (λ (o : Option (List ℕ)). orElse o (firstPair t c)) (sym (single .is) ∙ nothing-made c x e)); inside = pair .inside }
 
   pub change-single : isNothing x ≡ false → Found z c x (change t c)
@@ -328,7 +329,7 @@ module _ (t : Table) (z : Size) (c : List ℕ) (x : Change) (single : Found z c 
       record { is = m ∙ sym (ap (λ (o : Option (List ℕ)). orElse o (firstPair t c)) (sym (single .is) ∙ m)); inside = single .inside }
 
 -- what a search found, as the loop of changes goes on or ends
-module _ (z : Size) (c : List ℕ) (x : Change) (search : Option (List ℕ)) (found : Found z c x search) where
+module _ {z : Size} {c : List ℕ} {x : Change} {search : Option (List ℕ)} (found : Found z c x search) where
   pub turn : isNothing x ≡ false → search ≡ some (after c x)
   turn e = sym (found .is) ∙ change-made c x e
 

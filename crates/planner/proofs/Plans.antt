@@ -1,4 +1,4 @@
--- What filled arrays give the phases and the ceiling. Assumes nothing.
+-- What filled arrays give the phases and the ceiling.
 use Prim.Native.Nat.{ℕ, _≤_}
 use mathlib.Core.Path.{_≡_, refl, ap}
 use mathlib.Core.Bool.{true, false}
@@ -17,31 +17,31 @@ use Rattle.theorems.proofs.Promises.{few-steps}
 use Rattle.laws.specs.Tables.{FitAlone, OfCandidates}
 use Rattle.laws.proofs.Steps.{start-allowed}
 use Rattle.grammar.specs.Ranges.{Ranges}
-use Rattle.tables.specs.Arrays.{entry, tables, benefitAt, Cell}
+use Rattle.tables.specs.Arrays.{entry, useEntry, tables, benefitAt, Cell}
 use Rattle.tables.specs.declared.Size.{Size}
-use Rattle.tables.proofs.Laws.{benefit-at, cell-of}
+use Rattle.tables.proofs.Arrays.{benefit-at, cell-of}
 use Rattle.fill.specs.Filled.{Filled}
 use Rattle.fill.proofs.Shares.{down-share-le}
-use Rattle.ceiling.specs.Prices.{shareEntry, In, Priced, Sized}
+use Rattle.ceiling.specs.Prices.{In, Priced, Sized}
 use Rattle.phase1.specs.Reduce.{Shares}
 
-module _ (d : District) (ranges : Ranges d) (z : Size) (b u l s e : List ℕ) (filled : Filled d z b u l s e) where
+module _ {d : District} (ranges : Ranges d) {z : Size} {b u l s e : List ℕ} (filled : Filled d z b u l s e) where
   pub shares-of : Shares z b u l s
   shares-of =
       record {
         places = filled .shares-length;
-        shares-are = λ i j r low high few from to. filled .shares i j r (cell-of z b u l (filled .sound) i j low high few) from (omega (arith, filled .sound .resources));
+        shares-are = λ i j r low high few from to. filled .shares i j r (cell-of (filled .tabled .bounded) i j low high few) from (omega (arith, filled .tabled .bounded .resources));
       }
 
   inside : {i j : ℕ} → In z i j → Cell i j
-  inside {i} {j} within = cell-of z b u l (filled .sound) i j (within .segment-from) (within .segment-to) (within .strategy-to)
+  inside {i} {j} within = cell-of (filled .tabled .bounded) i j (within .segment-from) (within .segment-to) (within .strategy-to)
 
   -- the entry of a strategy is its benefit
   entry-is : (i j : ℕ) → In z i j → getD b (entry i j) 0 ≡ benefitAt b i j
-  entry-is i j within = benefit-at b (filled .sound .gains) i j (inside within)
+  entry-is i j within = benefit-at (filled .tabled .benefits) i j (inside within)
 
-  down-is : (i j r : ℕ) → In z i j → 1 ≤ r → r ≤ z .resources → getD e (shareEntry i j r) 0 ≡ downShare (tables z b u l) i j r
-  down-is i j r within from to = filled .downs i j r (inside within) from (omega (arith, filled .sound .resources))
+  down-is : (i j r : ℕ) → In z i j → 1 ≤ r → r ≤ z .resources → getD e (useEntry i j r) 0 ≡ downShare (tables z b u l) i j r
+  down-is i j r within from to = filled .downs i j r (inside within) from (omega (arith, filled .tabled .bounded .resources))
 
   pub priced : Priced (tables z b u l) z b e
   priced = record { segments = refl; strategies = refl; resources = refl; benefits = entry-is; shares = down-is }
@@ -55,13 +55,13 @@ module _ (d : District) (ranges : Ranges d) (z : Size) (b u l s e : List ℕ) (f
   pub sized : Sized z b e
   sized =
       record {
-        segments = filled .sound .segments;
-        strategies = filled .sound .strategies;
+        segments = filled .tabled .bounded .segments;
+        strategies = filled .tabled .bounded .strategies;
         resources-from = some-resource;
-        resources-to = filled .sound .resources;
-        benefits-length = filled .sound .gains .places;
+        resources-to = filled .tabled .bounded .resources;
+        benefits-length = filled .tabled .benefits .places;
         shares-length = filled .downs-length;
-        benefit-small = filled .sound .gains .small;
+        benefit-small = filled .tabled .benefits .small;
         share-small = λ i j r within worth from to.
             rw (down-is i j r within from to)
             (down-share-le (tables z b u l) (filled .fit) i j r (within .segment-from) (within .segment-to) (within .strategy-from) (within .strategy-to) from to (omega (arith, entry-is i j within, worth)));

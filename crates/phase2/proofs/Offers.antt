@@ -1,4 +1,4 @@
--- Laws of offers and pick-ups over arrays. Assumes nothing.
+-- Offers and pick-ups over arrays.
 use Prim.Native.Nat.{ℕ, zero, suc, _+_, _-_, _≤_, _<_}
 use mathlib.Core.Path.{_≡_, refl, ap, sym, _∙_}
 use mathlib.Core.Bool.{true, false, true≢false}
@@ -15,8 +15,8 @@ use Rattle.rules.specs.Table.{Table}
 use Rattle.rules.specs.Phases.{strategyAt, give, isCandidate, greater, within, fitting, offer, offerBenefit, vacant, greaterOffer, bestOffer, pickedUp, pickUp, phase2}
 use Rattle.laws.proofs.PickUps.{offer-fits, vacancies, vacancies-le, pick-up-falls}
 use Rattle.tables.specs.declared.Size.{Size}
-use Rattle.tables.specs.Arrays.{benefitAt, tables, Ready}
-use Rattle.tables.proofs.Laws.{benefit-nothing}
+use Rattle.tables.specs.Arrays.{benefitAt, tables, Running}
+use Rattle.tables.proofs.Arrays.{benefit-nothing}
 
 module _ (z : Size) (b u l c : List ℕ) where
   abbrev t : Table
@@ -31,23 +31,23 @@ module _ (z : Size) (b u l c : List ℕ) where
         leads-none (fitting t c i) (benefitAt b i) (benefit-nothing b i)
         (λ k e. ltb-true 0 (benefitAt b i k) (and-both (ltb 0 (benefitAt b i k)) (within t (give c i k)) e .0))
 
-    module _ (n : ℕ) {value top gain : ℕ} (is : value ≡ benefitAt b i (n + 1)) (leads : Leads (fitting t c i) (benefitAt b i) n top gain) where
-      pub offer-taken : gain < value → within t (give c i (n + 1)) ≡ true → Leads (fitting t c i) (benefitAt b i) (n + 1) (n + 1) value
+    module _ (n : ℕ) {value top most : ℕ} (is : value ≡ benefitAt b i (n + 1)) (leads : Leads (fitting t c i) (benefitAt b i) n top most) where
+      pub offer-taken : most < value → within t (give c i (n + 1)) ≡ true → Leads (fitting t c i) (benefitAt b i) (n + 1) (n + 1) value
       unfolding fitting isCandidate
-      offer-taken h w = leads-taken (fitting t c i) (benefitAt b i) n top gain leads is (rw (lt-ltb 0 (benefitAt b i (n + 1)) (omega arith)) w) h
+      offer-taken h w = leads-taken (fitting t c i) (benefitAt b i) n top most leads is (rw (lt-ltb 0 (benefitAt b i (n + 1)) (omega arith)) w) h
 
-      pub offer-kept : value ≤ gain → Leads (fitting t c i) (benefitAt b i) (n + 1) top gain
-      offer-kept h = leads-kept (fitting t c i) (benefitAt b i) n top gain leads (λ e. omega arith)
+      pub offer-kept : value ≤ most → Leads (fitting t c i) (benefitAt b i) (n + 1) top most
+      offer-kept h = leads-kept (fitting t c i) (benefitAt b i) n top most leads (λ e. omega arith)
 
-      pub offer-passed : within t (give c i (n + 1)) ≡ false → Leads (fitting t c i) (benefitAt b i) (n + 1) top gain
+      pub offer-passed : within t (give c i (n + 1)) ≡ false → Leads (fitting t c i) (benefitAt b i) (n + 1) top most
       unfolding fitting
       offer-passed w =
-          leads-kept (fitting t c i) (benefitAt b i) n top gain leads
+          leads-kept (fitting t c i) (benefitAt b i) n top most leads
           (λ e. absurd (true≢false (sym (and-both (isCandidate t i (n + 1)) (within t (give c i (n + 1))) e .1) ∙ w)))
 
-    pub offer-end : {n top gain : ℕ} → Leads (fitting t c i) (benefitAt b i) n top gain → n ≡ z .strategies → top ≡ offer t c i
+    pub offer-end : {n top most : ℕ} → Leads (fitting t c i) (benefitAt b i) n top most → n ≡ z .strategies → top ≡ offer t c i
     unfolding offer greater
-    offer-end {n} {top} {gain} leads e = leads-end (fitting t c i) (benefitAt b i) n top gain leads e
+    offer-end {n} {top} {most} leads e = leads-end (fitting t c i) (benefitAt b i) n top most leads e
 
   pub offer-le : (i : ℕ) → offer t c i ≤ z .strategies
   unfolding offer
@@ -61,7 +61,7 @@ module _ (z : Size) (b u l c : List ℕ) where
       leads-none (vacant t c) (offerBenefit t c) refl
       (λ k e. offer-fits t c k (ltb-true 0 (offer t c k) (and-both (eqb (strategyAt c k) 0) (ltb 0 (offer t c k)) e .1)) .0)
 
-  module _ (n : ℕ) {top gain : ℕ} (leads : Leads (vacant t c) (offerBenefit t c) n top gain) where
+  module _ (n : ℕ) {top most : ℕ} (leads : Leads (vacant t c) (offerBenefit t c) n top most) where
     at-next : strategyAt c (n + 1) ≡ getD c n 0
     at-next = let at : n + 1 - 1 ≡ n = omega arith in ap (λ (k : ℕ). getD c k 0) at
 
@@ -70,28 +70,28 @@ module _ (z : Size) (b u l c : List ℕ) where
       unfolding offerBenefit
       worth = is ∙ ap (benefitAt b (n + 1)) offered
 
-      pub best-taken : getD c n 0 ≡ 0 → gain < value → Leads (vacant t c) (offerBenefit t c) (n + 1) (n + 1) value
+      pub best-taken : getD c n 0 ≡ 0 → most < value → Leads (vacant t c) (offerBenefit t c) (n + 1) (n + 1) value
       unfolding vacant offerBenefit
       best-taken free h =
           let some : 1 ≤ offer t c (n + 1) = positive (offer t c (n + 1)) refl in
-          leads-taken (vacant t c) (offerBenefit t c) n top gain leads worth (rw (eq-eqb (strategyAt c (n + 1)) 0 (at-next ∙ free), lt-ltb 0 (offer t c (n + 1)) some)) h
+          leads-taken (vacant t c) (offerBenefit t c) n top most leads worth (rw (eq-eqb (strategyAt c (n + 1)) 0 (at-next ∙ free), lt-ltb 0 (offer t c (n + 1)) some)) h
         where
           positive : (o : ℕ) → offer t c (n + 1) ≡ o → 1 ≤ o
           positive zero e = absurd (omega (arith, h, worth, ap (benefitAt b (n + 1)) e, benefit-nothing b (n + 1)))
           positive (suc o) e = omega arith
 
-      pub best-kept : value ≤ gain → Leads (vacant t c) (offerBenefit t c) (n + 1) top gain
-      best-kept h = leads-kept (vacant t c) (offerBenefit t c) n top gain leads (λ e. omega (arith, worth))
+      pub best-kept : value ≤ most → Leads (vacant t c) (offerBenefit t c) (n + 1) top most
+      best-kept h = leads-kept (vacant t c) (offerBenefit t c) n top most leads (λ e. omega (arith, worth))
 
-    pub best-passed : (getD c n 0 ≡ 0 → ⊥) → Leads (vacant t c) (offerBenefit t c) (n + 1) top gain
+    pub best-passed : (getD c n 0 ≡ 0 → ⊥) → Leads (vacant t c) (offerBenefit t c) (n + 1) top most
     unfolding vacant
     best-passed taken =
-        leads-kept (vacant t c) (offerBenefit t c) n top gain leads
+        leads-kept (vacant t c) (offerBenefit t c) n top most leads
         (λ e. absurd (taken (sym at-next ∙ eqb-true (strategyAt c (n + 1)) 0 (and-both (eqb (strategyAt c (n + 1)) 0) (ltb 0 (offer t c (n + 1))) e .0))))
 
-  pub best-end : {n top gain : ℕ} → Leads (vacant t c) (offerBenefit t c) n top gain → n ≡ z .segments → top ≡ bestOffer t c
+  pub best-end : {n top most : ℕ} → Leads (vacant t c) (offerBenefit t c) n top most → n ≡ z .segments → top ≡ bestOffer t c
   unfolding bestOffer greaterOffer
-  best-end {n} {top} {gain} leads e = leads-end (vacant t c) (offerBenefit t c) n top gain leads e
+  best-end {n} {top} {most} leads e = leads-end (vacant t c) (offerBenefit t c) n top most leads e
 
   pub best-le-segments : bestOffer t c ≤ z .segments
   unfolding bestOffer
@@ -110,34 +110,33 @@ module _ (z : Size) (b u l c : List ℕ) where
 
 -- after m pick-ups there are m segments less that have nothing
 pub record Picking (z : Size) (b u l start c sums : List ℕ) (m : ℕ) : Type 0 where
-  pub ready : Ready z b u l c sums
+  pub running : Running z u c sums
   pub reached : Reached (pickUp (tables z b u l)) (z .segments) start c m
   pub left : m + vacancies (tables z b u l) c ≤ z .segments
 
-module _ (z : Size) (b u l start : List ℕ) where
-  pub picking-start : (sums : List ℕ) → Ready z b u l start sums → Picking z b u l start start sums 0
-  picking-start sums ready =
-      record { ready = ready; reached = reached-start (pickUp (tables z b u l)) (z .segments) start; left = omega (arith, vacancies-le (tables z b u l) start) }
+pub picking-start : {z : Size} (b u l : List ℕ) {start sums : List ℕ} → Running z u start sums → Picking z b u l start start sums 0
+picking-start {z} b u l {start} running =
+    record { running = running; reached = reached-start (pickUp (tables z b u l)) (z .segments) start; left = omega (arith, vacancies-le (tables z b u l) start) }
 
-  module _ (c sums : List ℕ) (m : ℕ) (here : Picking z b u l start c sums m) where
-    pub picking-end : pickUp (tables z b u l) c ≡ none → (c ≡ phase2 (tables z b u l) start .last) × (m ≡ phase2 (tables z b u l) start .count)
-    unfolding phase2
-    picking-end e =
-        let done = reached-end (pickUp (tables z b u l)) (z .segments) start c m (here .reached) e in
-        (sym (done .0), sym (done .1))
+module _ {z : Size} {b u l start c sums : List ℕ} {m : ℕ} (here : Picking z b u l start c sums m) where
+  pub picking-end : pickUp (tables z b u l) c ≡ none → (c ≡ phase2 (tables z b u l) start .last) × (m ≡ phase2 (tables z b u l) start .count)
+  unfolding phase2
+  picking-end e =
+      let done = reached-end (pickUp (tables z b u l)) (z .segments) start c m (here .reached) e in
+      (sym (done .0), sym (done .1))
 
-    -- segment i gets strategy j
-    pub picking-next :
-        (i j : ℕ) (e sums₂ : List ℕ) → i ≡ bestOffer (tables z b u l) c → (i ≡ 0 → ⊥) → j ≡ offer (tables z b u l) c i → e ≡ give c i j
-        → Ready z b u l e sums₂ → (m < z .segments) × Picking z b u l start e sums₂ (m + 1)
-    picking-next i j e sums₂ best some-i offered given ready =
-        let next : pickUp (tables z b u l) c ≡ some e = pick-some z b u l c i j best some-i offered ∙ ap some (sym given) in
-        let fewer = pick-up-falls (tables z b u l) c e next (omega (arith, here .ready .sound .segments, here .ready .chosen .places)) in
-        let less : m < z .segments = omega (arith, here .left) in (
-          less,
-          record {
-            ready = ready;
-            reached = reached-next (pickUp (tables z b u l)) (z .segments) start c e m (here .reached) less next;
-            left = omega (arith, here .left);
-          },
-        )
+  -- segment i gets strategy j
+  pub picking-next :
+      {i j : ℕ} {e sums₂ : List ℕ} → i ≡ bestOffer (tables z b u l) c → (i ≡ 0 → ⊥) → j ≡ offer (tables z b u l) c i → e ≡ give c i j
+      → Running z u e sums₂ → (m < z .segments) × Picking z b u l start e sums₂ (m + 1)
+  picking-next {i} {j} {e} best some-i offered given running =
+      let next : pickUp (tables z b u l) c ≡ some e = pick-some z b u l c i j best some-i offered ∙ ap some (sym given) in
+      let fewer = pick-up-falls (tables z b u l) c e next (omega (arith, here .running .bounded .segments, here .running .chosen .places)) in
+      let less : m < z .segments = omega (arith, here .left) in (
+        less,
+        record {
+          running = running;
+          reached = reached-next (pickUp (tables z b u l)) (z .segments) start c e m (here .reached) less next;
+          left = omega (arith, here .left);
+        },
+      )
