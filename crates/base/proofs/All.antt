@@ -1,4 +1,4 @@
--- Laws of tests over 1 to n. Assumes nothing.
+-- Laws of tests over 1 to n.
 use Prim.Native.Nat.{ℕ, zero, suc, _+_, _-_, _≤_, _<_}
 use mathlib.Core.Path.{_≡_, refl, subst}
 use mathlib.Core.Bool.{Bool, true, false, and-false}

@@ -1,4 +1,4 @@
--- Laws of the best of 1 to n. Assumes nothing.
+-- Laws of the best of 1 to n.
 use Prim.Native.Nat.{ℕ, zero, suc, _+_, _≤_, _<_}
 use mathlib.Core.Path.{_≡_, refl, ap, sym, _∙_}
 use mathlib.Core.Bool.{Bool, true, false, _&&_, _||_, true≢false}

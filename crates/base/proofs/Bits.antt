@@ -1,4 +1,4 @@
--- Bits by shift and mask: one tested, one set, one cleared. Assumes nothing.
+-- Bits by shift and mask: one tested, one set, one cleared.
 use Prim.Native.Nat.{ℕ, suc, zero, _+_, _-_, _*_, _/_, _%_, _^_, _≤_, _<_, min}
 use mathlib.Core.Path.{_≡_, refl, ap}
 use native.Mathlib.Nat.{pow-suc, mod-eq-of-lt, one-mul, zero-min}

@@ -1,4 +1,4 @@
--- A buffer into whose tail bytes are written: how far it is written, and what is still to come. Assumes nothing.
+-- A buffer into whose tail bytes are written: how far it is written, and what is still to come.
 use Prim.Native.Nat.{ℕ, _+_, _-_, _≤_, _<_}
 use mathlib.Core.Path.{_≡_, refl, sym, ap, _∙_}
 use mathlib.Core.List.{List, [], _∷_, _++_, append-assoc, append-nil}

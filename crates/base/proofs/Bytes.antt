@@ -1,4 +1,4 @@
--- Laws of numbers as bytes, over the width. Assumes nothing.
+-- Laws of numbers as bytes, over the width.
 use Prim.Native.Nat.{ℕ, zero, suc, _+_, _*_, _/_, _%_, _^_, _≤_, _<_}
 use mathlib.Core.Path.{_≡_, refl, sym, ap, _∙_}
 use mathlib.Core.List.{List, [], _∷_, _++_}
@@ -7,11 +7,7 @@ use native.Mathlib.Numerals.{add-one}
 use native.Mathlib.Omega.{arith}
 use lib.ListN.{length, getD, take, drop}
 use lib.Seq.{drop-cons, length-take-le, getD-drop, getD-append-add}
-use Rattle.base.specs.Bytes.{bytesOf, numberOf}
-
--- each is a byte
-abbrev pub Bytes : List ℕ → Type 0
-Bytes bs = (n : ℕ) → getD bs n 0 < 256
+use Rattle.base.specs.Bytes.{Bytes, bytesOf, numberOf}
 
 pub length-bytes : (w v : ℕ) → length (bytesOf w v) ≡ w
 length-bytes zero v = refl

@@ -1,4 +1,4 @@
--- Laws of choices by tests. `search picks` finds the case of a definition that goes by tests. Assumes nothing.
+-- Laws of choices by tests. `search picks` finds the case of a definition that goes by tests.
 use Prim.Native.Nat.{ℕ, _≤_, _<_}
 use mathlib.Core.Path.{_≡_, refl, sym, _∙_}
 use mathlib.Core.Bool.{Bool, true, false, _&&_, _||_, and-false, true≢false}

@@ -1,5 +1,5 @@
 -- Whole numbers with a sign: bounds by their absolute value, which stand in ℕ, where omega reads them; what a signed local of the machine
--- holds; and laws of sumZ. Assumes nothing.
+-- holds; and laws of sumZ.
 use Prim.Native.Nat.{ℕ, zero, suc, _+_, _-_, _*_, _/_, _^_, _≤_, _<_, zero-le}
 use mathlib.Core.Path.{_≡_, refl, sym, ap, ap₂, _∙_, subst}
 use mathlib.Core.Bool.{Bool, true, false, cond}

@@ -1,4 +1,4 @@
--- Laws of listedFrom, and of loops that fill a list with it from the front. Assumes nothing.
+-- Laws of listedFrom, and of loops that fill a list with it from the front.
 use Prim.Native.Nat.{ℕ, zero, suc, _+_, _-_, _≤_, _<_}
 use mathlib.Core.Path.{_≡_, refl, sym, ap, ap₂, _∙_}
 use mathlib.Core.List.{List, [], _∷_, _++_, append-assoc, append-nil}

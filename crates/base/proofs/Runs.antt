@@ -1,4 +1,4 @@
--- Laws of the search from state to state. Assumes nothing.
+-- Laws of the search from state to state.
 use Prim.Native.Nat.{ℕ, zero, suc, _+_, _-_, _≤_, _<_}
 use mathlib.Core.Path.{_≡_, refl, ap, _∙_}
 use mathlib.Core.Option.{Option, none, some}

@@ -1,4 +1,4 @@
--- Laws of the search for the first of many. Assumes nothing.
+-- Laws of the search for the first of many.
 use Prim.Native.Nat.{ℕ, zero, suc, _≤_, _<_}
 use mathlib.Core.Path.{_≡_, refl, subst}
 use mathlib.Core.Bool.{Bool, true, false}

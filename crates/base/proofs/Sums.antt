@@ -1,4 +1,4 @@
--- Laws of sums and of greatest values over 1 to n. Assumes nothing.
+-- Laws of sums and of greatest values over 1 to n.
 use Prim.Native.Nat.{ℕ, zero, suc, _+_, _*_, _≤_, _<_, max}
 use mathlib.Core.Path.{_≡_, refl, ap, sym, _∙_}
 use mathlib.Core.Logic.{⊎-elim}

@@ -1,4 +1,4 @@
--- Laws of the digits of a number, and of bytes put to the front of a buffer, one piece after another. Assumes nothing.
+-- Laws of the digits of a number, and of bytes put to the front of a buffer, one piece after another.
 use Prim.Native.Nat.{ℕ, zero, suc, _+_, _-_, _/_, _%_, _^_, _≤_, _<_}
 use mathlib.Core.Path.{_≡_, refl, sym, ap, _∙_}
 use mathlib.Core.List.{List, [], _∷_, _++_, append-nil}

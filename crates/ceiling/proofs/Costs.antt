@@ -1,4 +1,4 @@
--- What a new price does to the costs and to the ceiling, and that no sum of them wraps. Assumes nothing.
+-- What a new price does to the costs and to the ceiling, and that no sum of them wraps.
 use Prim.Native.Nat.{ℕ, suc, _+_, _-_, _*_, _^_, _≤_, _<_, max, min}
 use mathlib.Core.Path.{_≡_, refl, ap, sym, _∙_}
 use mathlib.Core.Bool.{Bool, true, false}

@@ -1,4 +1,4 @@
--- The ceiling depends on a table's sizes, benefits and down-shares alone. Assumes nothing.
+-- The ceiling depends on a table's sizes, benefits and down-shares alone.
 use Prim.Native.Nat.{ℕ, zero, suc, _-_, _^_, _≤_}
 use mathlib.Core.Path.{_≡_, refl, ap, _∙_}
 use mathlib.Core.List.{List}

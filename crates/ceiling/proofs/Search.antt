@@ -1,4 +1,4 @@
--- Laws of the price search: which price a step takes, and that prices stay below 2 ^ 41. Assumes nothing.
+-- Laws of the price search: which price a step takes, and that prices stay below 2 ^ 41.
 use Prim.Native.Nat.{ℕ, zero, suc, _+_, _-_, _*_, _^_, _≤_, _<_, min}
 use mathlib.Core.Path.{_≡_, refl, sym, _∙_}
 use mathlib.Core.Bool.{_&&_}

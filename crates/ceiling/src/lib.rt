@@ -13,12 +13,6 @@ ghost use Rattle.rules.specs.Table.{Table};
 ghost use Rattle.rules.specs.Ceiling.{priceAt, margin, ceilingAt, priced, pricedAll, ceiling};
 ghost use Rattle.ceiling.specs.Prices.{Priced, Sized, shown, Prices, Costs, Trial, Headroom, Standing};
 
-fn larger(a: u64, b: u64) -> u64
-    ensures { λ x. ⌜ x ≡ max a b ⌝ }
-{
-    if a < b { b } else { a }
-}
-
 // a − b, or 0 where b is greater.
 fn above(a: u64, b: u64) -> u64
     ensures { λ x. ⌜ x ≡ a - b ⌝ }
@@ -71,7 +65,7 @@ fn margin_at(
         let benefit = benefits[at];
         if best < benefit {
             let cost = moved(costs[at], downs[MOST_RESOURCES * at + (r - 1)], old, price);
-            best = larger(best, above(benefit, cost));
+            best = tables::larger(best, above(benefit, cost));
         }
         j += 1;
     }

@@ -1,4 +1,4 @@
--- Laws of the reading of a line: one byte more, one number more. Assumes nothing.
+-- Laws of the reading of a line: one byte more, one number more.
 use Prim.Native.Nat.{ℕ, zero, suc, _+_, _-_, _*_, _^_, _≤_, _<_}
 use mathlib.Core.Bool.{Bool, true, false, _&&_, and-false}
 use mathlib.Core.List.{List, [], _∷_, _++_, append-nil, append-assoc}

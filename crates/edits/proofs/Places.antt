@@ -1,4 +1,4 @@
--- Places past the last, and the range of a rating. Assumes nothing.
+-- Places past the last, and the range of a rating.
 use Prim.Native.Nat.{ℕ, _+_, _-_, _≤_, _<_}
 use mathlib.Core.Path.{_≡_, refl}
 use mathlib.Core.Bool.{Bool, true, false}

@@ -1,4 +1,4 @@
--- A district in the file's ranges is what its file loads as. Assumes nothing.
+-- A district in the file's ranges is what its file loads as.
 use Prim.Native.Nat.{ℕ, zero, suc, _+_, _^_, _≤_, _<_}
 use mathlib.Core.Path.{_≡_, refl, sym, ap, _∙_}
 use mathlib.Core.Bool.{Bool, true, false}

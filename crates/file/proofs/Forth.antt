@@ -1,4 +1,4 @@
--- A file that loads is the file of the district that it loads as, which is in the file's ranges. Assumes nothing.
+-- A file that loads is the file of the district that it loads as, which is in the file's ranges.
 use Prim.Native.Nat.{ℕ, zero, suc, _+_, _-_, _≤_, _<_}
 use mathlib.Core.Path.{_≡_, refl, sym, ap, subst, _∙_}
 use mathlib.Core.Bool.{Bool, true, false}
@@ -10,9 +10,9 @@ use lib.Dec.{ltb, eqb}
 use lib.ListN.{length, getD, take, drop, length-append, length-drop, take-append-drop}
 use lib.Seq.{append-snoc, getD-append-add, getD-take, take-all, take-at, take-take, drop-drop}
 use borrow.Author.Tests.{ltb-false, eqb-true}
-use Rattle.base.proofs.Bytes.{Bytes, bytes-drop, bytes-suffix, front-bytes}
+use Rattle.base.proofs.Bytes.{bytes-drop, bytes-suffix, front-bytes}
 use Rattle.base.proofs.Choice.{pick-yes}
-use Rattle.base.specs.Bytes.{bytesOf, numberOf}
+use Rattle.base.specs.Bytes.{Bytes, bytesOf, numberOf}
 use Rattle.base.specs.Choice.{pick}
 use Rattle.rules.specs.Answers.{accepting}
 use Rattle.rules.specs.Calls.{loadRefusalOf, loadRefusal, loadedOf, districtIn}

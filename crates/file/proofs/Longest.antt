@@ -1,4 +1,4 @@
--- The longest file is that of a district with every count at its greatest. No number is wider in any other. Assumes nothing.
+-- The longest file is that of a district with every count at its greatest. No number is wider in any other.
 use Prim.Native.Nat.{ℕ, zero, suc, _+_, _-_, _≤_}
 use mathlib.Core.Path.{_≡_, refl, sym, _∙_}
 use mathlib.Core.Bool.{Bool, true, false, true≢false}

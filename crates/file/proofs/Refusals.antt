@@ -1,4 +1,4 @@
--- A file that does not load has one of the refusals for files; what a load and an export give. Assumes nothing.
+-- A file that does not load has one of the refusals for files; what a load and an export give.
 use Prim.Native.Nat.{ℕ, zero, suc, _+_, _-_, _≤_, _<_}
 use mathlib.Core.Path.{_≡_, refl, subst}
 use mathlib.Core.List.{List, [], _∷_, _++_}

@@ -1,4 +1,4 @@
--- The rules' definitions one step at a time, as the loops take them. Assumes nothing.
+-- The rules' definitions one step at a time, as the loops take them.
 use Prim.Native.Nat.{ℕ, zero, suc, _+_, _-_, _*_, _≤_, _<_}
 use mathlib.Core.Path.{_≡_, refl, sym, ap, _∙_}
 use mathlib.Core.Bool.{_&&_, true, false}

@@ -1,4 +1,4 @@
--- The theorems of the file in one, as the contract of `longest_file` cites them. Assumes nothing.
+-- The theorems of the file in one, as the contract of `longest_file` cites them.
 use mathlib.Core.Path.{_≡_, refl}
 use mathlib.Core.List.{[]}
 use Rattle.rules.specs.District.{greatestOf, freshDistrict}

@@ -4,7 +4,7 @@ use mathlib.Core.Path.{_≡_}
 use mathlib.Core.Bool.{true}
 use mathlib.Core.List.{List, []}
 use lib.ListN.{length}
-use Rattle.rules.specs.Demands.{Bytes}
+use Rattle.base.specs.Bytes.{Bytes}
 use Rattle.rules.specs.District.{District, freshDistrict}
 use Rattle.rules.specs.File.{found, decode, encode, inRange}
 

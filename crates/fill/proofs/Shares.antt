@@ -1,4 +1,4 @@
--- The arrays of shares hold the table's shares, and a candidate's are at most 10,000. Assumes nothing.
+-- The arrays of shares hold the table's shares, and a candidate's are at most 10,000.
 use Prim.Native.Nat.{ℕ, zero, suc, _+_, _-_, _*_, _/_, _%_, _^_, _≤_, _<_}
 use mathlib.Core.Path.{_≡_, ap, ap₂, sym, _∙_}
 use mathlib.Core.List.{List}

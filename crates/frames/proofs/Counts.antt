@@ -1,4 +1,4 @@
--- A number of bytes that a buffer has counts bytes at its front. Assumes nothing.
+-- A number of bytes that a buffer has counts bytes at its front.
 use Prim.Native.Nat.{ℕ, _≤_}
 use mathlib.Core.List.{List}
 use mathlib.Core.Path.{sym}

@@ -1,4 +1,4 @@
--- What being inside a field's range says of a number, and which range each field has. Assumes nothing.
+-- What being inside a field's range says of a number, and which range each field has.
 use Prim.Native.Nat.{ℕ, _+_, _-_, _≤_, _<_}
 use mathlib.Core.Path.{_≡_, sym, refl, _∙_}
 use mathlib.Core.Bool.{Bool, true, false, _&&_, _||_}

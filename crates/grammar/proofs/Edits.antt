@@ -1,4 +1,4 @@
--- An edit that is not refused leaves the district in the file's ranges. Assumes nothing.
+-- An edit that is not refused leaves the district in the file's ranges.
 use Prim.Native.Nat.{ℕ, zero, suc, _+_, _-_, _*_, _/_, _^_, _≤_, _<_, min}
 use mathlib.Core.Path.{_≡_, refl, sym, ap, _∙_}
 use mathlib.Core.Bool.{Bool, true, false, _&&_}

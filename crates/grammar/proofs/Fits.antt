@@ -1,4 +1,4 @@
--- A number that its field may hold fits the field's bytes. Assumes nothing.
+-- A number that its field may hold fits the field's bytes.
 use Prim.Native.Nat.{ℕ, zero, suc, _+_, _-_, _^_, _≤_, _<_, min}
 use mathlib.Core.Path.{_≡_, refl}
 use mathlib.Core.Bool.{Bool, true}

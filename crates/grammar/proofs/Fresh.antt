@@ -1,4 +1,4 @@
--- The district of a fresh unit is in the file's ranges, computed. Assumes nothing.
+-- The district of a fresh unit is in the file's ranges, computed.
 use mathlib.Core.Path.{_≡_, refl}
 use mathlib.Core.Bool.{true}
 use Rattle.rules.specs.District.{greatestOf, freshDistrict}

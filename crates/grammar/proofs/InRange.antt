@@ -1,4 +1,4 @@
--- The rules' test of a district's ranges says of every place what `InRange` says. Assumes nothing.
+-- The rules' test of a district's ranges says of every place what `InRange` says.
 use Prim.Native.Nat.{ℕ, zero, suc, _+_, _≤_, _<_}
 use mathlib.Core.Path.{_≡_, refl, sym, ap, subst, _∙_}
 use mathlib.Core.Bool.{true}

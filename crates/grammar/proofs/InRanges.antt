@@ -1,4 +1,4 @@
--- Every range fact that the arithmetic needs, of a district in the file's ranges. Assumes nothing.
+-- Every range fact that the arithmetic needs, of a district in the file's ranges.
 use Prim.Native.Nat.{ℕ, _+_, _-_, _*_, _^_, _≤_, _<_, min}
 use mathlib.Core.Path.{_≡_, refl, sym, ap, subst}
 use mathlib.Core.Bool.{Bool, true}

@@ -1,5 +1,4 @@
 -- The file's records: where each starts, that no number is wider than 4 bytes, and that each may stand where it does.
--- Assumes nothing.
 use Prim.Native.Nat.{ℕ, zero, suc, _+_, _-_, _*_, _≤_, _<_}
 use mathlib.Core.Path.{_≡_, refl, ap}
 use mathlib.Core.Bool.{Bool, true, false}

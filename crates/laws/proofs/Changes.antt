@@ -1,4 +1,4 @@
--- What a change of phase 3 is: one segment or two that change, a rise of the total, and limits that hold. Assumes nothing.
+-- What a change of phase 3 is: one segment or two that change, a rise of the total, and limits that hold.
 use Prim.Native.Nat.{ℕ, zero, suc, _≤_, _<_}
 use mathlib.Core.Path.{_≡_, refl, ap, subst}
 use mathlib.Core.Bool.{Bool, true, false, not, _&&_, _||_}

@@ -1,4 +1,4 @@
--- What a segment's new strategy does to a programme, its total and its uses. Assumes nothing.
+-- What a segment's new strategy does to a programme, its total and its uses.
 use Prim.Native.Nat.{ℕ, zero, suc, _+_, _-_, _≤_}
 use mathlib.Core.Path.{_≡_, ap}
 use mathlib.Core.List.{List, [], _∷_}

@@ -1,4 +1,4 @@
--- From one programme to another by giving segments nothing or candidates. Assumes nothing.
+-- From one programme to another by giving segments nothing or candidates.
 use Prim.Native.Nat.{ℕ, _-_, _≤_, _<_}
 use mathlib.Core.Path.{_≡_, refl, _∙_}
 use mathlib.Core.Bool.{Bool, true, false}

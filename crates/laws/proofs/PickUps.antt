@@ -1,4 +1,4 @@
--- What a pick-up of phase 2 does: a segment with nothing gets a candidate, the total rises, and every limit holds. Assumes nothing.
+-- What a pick-up of phase 2 does: a segment with nothing gets a candidate, the total rises, and every limit holds.
 use Prim.Native.Nat.{ℕ, zero, suc, _≤_, _<_}
 use mathlib.Core.Path.{_≡_, refl, subst}
 use mathlib.Core.Bool.{true}

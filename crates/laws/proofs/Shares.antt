@@ -1,4 +1,4 @@
--- Shares of a programme of candidates, in a table whose candidates fit alone: bounds. Assumes nothing.
+-- Shares of a programme of candidates, in a table whose candidates fit alone: bounds.
 use Prim.Native.Nat.{ℕ, zero, suc, _+_, _-_, _*_, _≤_}
 use mathlib.Core.Path.{_≡_}
 use mathlib.Core.List.{List}

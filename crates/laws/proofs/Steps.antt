@@ -1,4 +1,4 @@
--- Phase 1 step by step: what a step is, and that programmes of candidates stay such. Assumes nothing.
+-- Phase 1 step by step: what a step is, and that programmes of candidates stay such.
 use Prim.Native.Nat.{ℕ, zero, suc, _+_, _-_, _≤_}
 use mathlib.Core.Path.{_≡_, refl, ap, subst, _∙_}
 use mathlib.Core.Bool.{Bool, true, false}

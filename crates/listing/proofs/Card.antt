@@ -1,4 +1,4 @@
--- The test card's programme, listed. Assumes nothing.
+-- The test card's programme, listed.
 use mathlib.Core.List.{_∷_}
 use mathlib.Core.Path.{_≡_, refl}
 use lib.ListN.{replicate}

@@ -1,4 +1,4 @@
--- How many bytes a listing has at most. Assumes nothing.
+-- How many bytes a listing has at most.
 use Prim.Native.Nat.{ℕ, zero, suc, _+_, _-_, _*_, _≤_, min}
 use mathlib.Core.List.{List, _++_}
 use native.Mathlib.Omega.{arith}

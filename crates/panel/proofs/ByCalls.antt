@@ -1,4 +1,4 @@
--- A unit that calls lead to stays one whatever line is answered, and what demand 3 claims holds of it. Assumes nothing.
+-- A unit that calls lead to stays one whatever line is answered, and what demand 3 claims holds of it.
 use mathlib.Core.List.{List, [], _∷_, _++_}
 use mathlib.Core.Path.{_≡_, refl, sym, ap, _∙_}
 use Prim.Native.Nat.{ℕ}

@@ -1,4 +1,4 @@
--- What is kept of a line, and what one byte of the input does. Assumes nothing.
+-- What is kept of a line, and what one byte of the input does.
 use Prim.Native.Nat.{ℕ, _+_, _≤_, _<_}
 use mathlib.Core.List.{List, [], _∷_, _++_}
 use mathlib.Core.Path.{_≡_, sym}

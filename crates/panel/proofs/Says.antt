@@ -1,4 +1,4 @@
--- How long an exported file and a complaint are at most; and from what a command says to what is put. Assumes nothing.
+-- How long an exported file and a complaint are at most; and from what a command says to what is put.
 use Prim.Native.Nat.{ℕ, _+_, _≤_}
 use mathlib.Core.Bool.{Bool, true, false}
 use mathlib.Core.List.{List, _++_}

@@ -23,13 +23,6 @@ pub enum Change {
     Two(usize, usize, usize, usize),
 }
 
-// The larger of two.
-fn larger(a: u64, b: u64) -> u64
-    ensures { λ v. ⌜ v ≡ max a b ⌝ }
-{
-    if a < b { b } else { a }
-}
-
 // The greatest of segment i's benefits.
 fn top_of(strategies: usize, benefits: &[u64], i: usize) -> u64
     requires { ⌜ Benefits (now benefits) ⌝ }
@@ -38,7 +31,7 @@ fn top_of(strategies: usize, benefits: &[u64], i: usize) -> u64
 {
     let mut greatest: u64 = 0;
     for j in 0..strategies {
-        greatest = larger(greatest, tables::benefit(benefits, i, j + 1));
+        greatest = tables::larger(greatest, tables::benefit(benefits, i, j + 1));
     }
     greatest
 }

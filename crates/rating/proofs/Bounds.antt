@@ -1,5 +1,5 @@
 -- How large the numbers of a district in range can be. Of `gain` and of `effect` the rest of this crate knows only what stands here and in
--- their own functions. Assumes nothing.
+-- their own functions.
 use Prim.Native.Nat.{ℕ, zero, suc, _+_, _-_, _*_, _≤_}
 use mathlib.Core.Path.{_≡_, refl}
 use mathlib.Core.Bool.{Bool, true, false}

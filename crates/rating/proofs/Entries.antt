@@ -1,4 +1,4 @@
--- The table's entries, by cases: what the district has, and what it does not have. Assumes nothing.
+-- The table's entries, by cases: what the district has, and what it does not have.
 use Prim.Native.Nat.{ℕ, suc, _-_, _*_, _≤_, _<_}
 use mathlib.Core.Path.{_≡_, refl, sym, _∙_}
 use mathlib.Core.Bool.{Bool, true, false, _&&_, and-false}

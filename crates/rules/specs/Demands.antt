@@ -7,7 +7,8 @@ use mathlib.Core.Option.{none}
 use lib.Dec.{leb, eqb}
 use lib.IntN.{pos}
 use lib.Signed.{_≤ℤ_}
-use lib.ListN.{getD, length, drop}
+use lib.ListN.{length, drop}
+use Rattle.base.specs.Bytes.{Bytes}
 use Rattle.base.specs.Over.{all}
 use Rattle.rules.specs.District.{District, mostSegments, segmentsOf, strategiesOf}
 use Rattle.rules.specs.File.{encode}
@@ -81,9 +82,6 @@ pub record ByTheRules (cs : List Call) : Type 0 where
 
 abbrev pub TheRules : Type 0
 TheRules = (cs : List Call) → ByTheRules cs
-
-abbrev pub Bytes : List ℕ → Type 0
-Bytes file = (n : ℕ) → getD file n 0 < 256
 
 -- of every file that loads, into a unit in any state: the export that follows, into any buffer with room, is the file
 pub record ByteForByte (file : List ℕ) : Type 0 where

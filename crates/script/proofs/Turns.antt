@@ -1,4 +1,4 @@
--- One turn of `run`: the first of the calls that are left is made. Assumes nothing.
+-- One turn of `run`: the first of the calls that are left is made.
 use Prim.Native.Nat.{ℕ, zero, suc, _+_, _-_, _≤_, _<_}
 use mathlib.Core.Path.{_≡_, refl, ap, _∙_}
 use mathlib.Core.List.{List, [], _∷_}

@@ -1,4 +1,4 @@
--- What an entry of the table is, and where there is none. Assumes nothing.
+-- What an entry of the table is, and where there is none.
 use Prim.Native.Nat.{ℕ, _<_, _≤_}
 use mathlib.Core.Path.{_≡_}
 use mathlib.Core.Bool.{Bool, true, false, _&&_, and-false}

@@ -1,6 +1,6 @@
 // A district's table held in arrays: reads, tests of the limits, and changes of a programme.
 ghost use mathlib.Core.Path.{_≡_};
-ghost use Prim.Native.Nat.{ℕ, _<_, _≤_};
+ghost use Prim.Native.Nat.{ℕ, _<_, _≤_, max};
 ghost use mathlib.Core.List.{List};
 ghost use Rattle.base.specs.Over.{all};
 ghost use Rattle.rules.specs.District.{mostSegments, mostResources};
@@ -25,6 +25,13 @@ pub struct Size {
     pub segments: usize,
     pub strategies: usize,
     pub resources: usize,
+}
+
+// The larger of the two.
+pub fn larger(a: u64, b: u64) -> u64
+    ensures { λ v. ⌜ v ≡ max a b ⌝ }
+{
+    if a < b { b } else { a }
 }
 
 // The benefit of strategy j on segment i; 0 for nothing.

@@ -1,4 +1,4 @@
--- A strategy, or nothing in the place of one that is no candidate: its benefit in the table is the same, and it uses no more. Assumes nothing.
+-- A strategy, or nothing in the place of one that is no candidate: its benefit in the table is the same, and it uses no more.
 use Prim.Native.Nat.{ℕ, zero, suc, _-_, _≤_}
 use mathlib.Core.Path.{_≡_, refl, ap, sym}
 use mathlib.Core.Bool.{Bool, true, false}

@@ -1,5 +1,5 @@
 -- A permitted strategy that fits alone has no greater benefit than its entry in the table, so that candidates stand in for all that are
--- permitted. Assumes nothing.
+-- permitted.
 use Prim.Native.Nat.{ℕ}
 use mathlib.Core.Path.{_≡_, refl, sym, subst}
 use mathlib.Core.Bool.{Bool, true, false, not}

@@ -1,5 +1,5 @@
 -- At any prices the ceiling is at least the total of every programme within the limits: what a strategy's benefit is beyond its cost is in its
--- segment's margin, and the costs of what fits the limits are at most those of the whole limits. Assumes nothing.
+-- segment's margin, and the costs of what fits the limits are at most those of the whole limits.
 use Prim.Native.Nat.{ℕ, zero, suc, _+_, _*_, _-_, _/_, _≤_}
 use mathlib.Core.Path.{ap, _∙_}
 use mathlib.Core.List.{List}

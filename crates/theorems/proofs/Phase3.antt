@@ -1,4 +1,4 @@
--- Phase 3 ends because no change counts, after no more changes than the total rises by. Assumes nothing.
+-- Phase 3 ends because no change counts, after no more changes than the total rises by.
 use Prim.Native.Nat.{ℕ, _+_, _-_, _≤_, _<_}
 use mathlib.Core.Path.{_≡_}
 use mathlib.Core.Bool.{true}

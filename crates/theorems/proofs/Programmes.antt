@@ -1,5 +1,4 @@
 -- The three phases together, of a table whose candidates fit alone: each ends because there is no next, and keeps what the one before left.
--- Assumes nothing.
 use Prim.Native.Nat.{ℕ, _+_, _-_, _*_, _≤_, _<_}
 use mathlib.Core.Path.{_≡_}
 use mathlib.Core.Bool.{true}
@@ -11,7 +10,7 @@ use Rattle.rules.specs.Demands.{Finished}
 use Rattle.laws.specs.Tables.{FitAlone, OfCandidates}
 use Rattle.laws.proofs.Gives.{PastNothing, gives-candidates, candidates-numbers, gives-past}
 use Rattle.theorems.proofs.Phase1.{phase1-allowed, phase1-within, phase1-few, phase1-past}
-use Rattle.theorems.proofs.Phase2.{phase2-gives, phase2-ends, phase2-within, phase2-few}
+use Rattle.theorems.proofs.Phase2.{phase2-gives, phase2-ends, phase2-within}
 use Rattle.theorems.proofs.Phase3.{phase3-gives, phase3-ends, phase3-within, phase3-few}
 
 module _ (t : Table) (fit : FitAlone t) where
@@ -46,10 +45,6 @@ module _ (t : Table) (fit : FitAlone t) where
   pub few-steps : reduced t .count ≤ t .segments * t .strategies
   unfolding reduced
   few-steps = phase1-few t fit
-
-  pub few-pickups : filled t .count ≤ t .segments
-  unfolding filled
-  few-pickups = phase2-few t (reduced t .last) (omega (arith, reduced-candidates .places, fit .segments))
 
   pub few-changes : improved t .count + total t (filled t .last) ≤ total t (improved t .last)
   unfolding improved

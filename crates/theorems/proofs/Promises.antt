@@ -1,5 +1,4 @@
--- What demand 3 and "The calls" promise of the programme of every district. Of the file's ranges it takes the most segments alone. Assumes
--- nothing.
+-- What demand 3 and "The calls" promise of the programme of every district. Of the file's ranges it takes the most segments alone.
 use Prim.Native.Nat.{ℕ, _-_, _*_, _≤_}
 use mathlib.Core.Path.{_≡_, _∙_}
 use native.Mathlib.Nat.{mul-le-mul}
@@ -78,7 +77,3 @@ module _ (d : District) (few : segmentsOf d ≤ mostSegments) where
   pub few-steps : strategiesOf d ≤ mostStrategies → programmeOf (tableOf d) .steps ≤ mostSegments * mostStrategies
   unfolding programmeOf tableOf
   few-steps s = omega (arith, programmes.few-steps (tableOf d) fit, mul-le-mul few s)
-
-  pub few-pickups : programmeOf (tableOf d) .pickups ≤ segmentsOf d
-  unfolding programmeOf tableOf
-  few-pickups = programmes.few-pickups (tableOf d) fit

@@ -1,5 +1,5 @@
 -- Where phase 3 finds no change, no programme within the limits that differs in one segment or two is better, whatever strategies it has: those
--- that are no candidates count nothing, and without them the limits still hold. Assumes nothing.
+-- that are no candidates count nothing, and without them the limits still hold.
 use Prim.Native.Nat.{ℕ, zero, suc, _-_, _≤_}
 use mathlib.Core.Path.{_≡_, refl, ap, sym, _∙_, subst}
 use mathlib.Core.Bool.{Bool, true, false}

@@ -1,5 +1,5 @@
 -- What holds of every programme that a search over programmes leads to, where each step gives segments nothing or candidates and keeps the
--- limits. Assumes nothing.
+-- limits.
 use Prim.Native.Nat.{ℕ}
 use mathlib.Core.Path.{_≡_}
 use mathlib.Core.Bool.{true}

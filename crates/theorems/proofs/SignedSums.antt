@@ -1,4 +1,4 @@
--- Sums of signed numbers against sums of whole numbers. Assumes nothing.
+-- Sums of signed numbers against sums of whole numbers.
 use Prim.Native.Nat.{ℕ, zero, suc, _+_, _-_, _≤_}
 use mathlib.Core.Path.{_≡_, refl}
 use mathlib.Core.Bool.{Bool, true, false, cond}

@@ -1,4 +1,4 @@
--- A programme of candidates or nothing has the same total, and is as much within the limits, by the table as by the district. Assumes nothing.
+-- A programme of candidates or nothing has the same total, and is as much within the limits, by the table as by the district.
 use Prim.Native.Nat.{ℕ, _≤_}
 use mathlib.Core.Path.{_≡_, sym}
 use mathlib.Core.Bool.{true, _&&_, _||_}

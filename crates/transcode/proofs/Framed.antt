@@ -1,4 +1,4 @@
--- What an export with room leaves, and what a load's refusal or district is answered with. Assumes nothing.
+-- What an export with room leaves, and what a load's refusal or district is answered with.
 use Prim.Native.Nat.{ℕ, zero, suc, _+_, _≤_}
 use mathlib.Core.Path.{_≡_, refl, sym, ap, _∙_}
 use mathlib.Core.List.{List, [], _∷_}

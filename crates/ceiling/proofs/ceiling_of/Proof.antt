@@ -1,4 +1,4 @@
--- `ceiling::ceiling_of` meets its contract. Assumes nothing.
+-- `ceiling::ceiling_of` meets its contract.
 use Prim.Native.Nat.{_≤_, _-_}
 use mathlib.Core.Path.{_≡_, ap, sym, _∙_}
 use native.Mathlib.Omega.{arith}

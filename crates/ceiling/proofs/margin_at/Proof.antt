@@ -1,4 +1,4 @@
--- `ceiling::margin_at` meets its contract. Assumes nothing.
+-- `ceiling::margin_at` meets its contract.
 use Prim.Native.Nat.{_<_, _≤_, _-_, _+_}
 use mathlib.Core.Logic.{⊎-elim}
 use mathlib.Core.Path.{_∙_, _≡_}

@@ -1,4 +1,4 @@
--- `ceiling::power` meets its contract. Assumes nothing.
+-- `ceiling::power` meets its contract.
 use native.Mathlib.Nat.{one-mul, mod-eq-of-lt}
 use borrow.Author.Needs.{needs}
 use lib.Pow.{pow-lt}

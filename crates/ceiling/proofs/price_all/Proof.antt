@@ -1,4 +1,4 @@
--- `ceiling::price_all` meets its contract. Assumes nothing.
+-- `ceiling::price_all` meets its contract.
 use Prim.Native.Nat.{_≤_, _-_}
 use mathlib.Core.Path.{_≡_, sym, _∙_}
 use native.Mathlib.Omega.{arith}

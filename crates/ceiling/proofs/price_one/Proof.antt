@@ -1,4 +1,4 @@
--- `ceiling::price_one` meets its contract. Assumes nothing.
+-- `ceiling::price_one` meets its contract.
 use Prim.Native.Nat.{_-_}
 use mathlib.Core.Path.{_≡_, ap, sym, _∙_}
 use native.Mathlib.Omega.{arith}

@@ -1,4 +1,4 @@
--- `ceiling::reprice_segment` meets its contract. Assumes nothing.
+-- `ceiling::reprice_segment` meets its contract.
 use Prim.Native.Nat.{_<_, _≤_, _-_, _+_}
 use mathlib.Core.Logic.{⊎-elim}
 use native.Mathlib.Omega.{arith}

@@ -1,4 +1,4 @@
--- `ceiling::trial` meets its contract. Assumes nothing.
+-- `ceiling::trial` meets its contract.
 use Prim.Native.Nat.{_≤_, _-_, _+_}
 use mathlib.Core.Path.{sym, _∙_}
 use native.Mathlib.Omega.{arith}

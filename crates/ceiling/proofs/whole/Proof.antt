@@ -1,4 +1,4 @@
--- `ceiling::whole` meets its contract. Assumes nothing.
+-- `ceiling::whole` meets its contract.
 use Prim.Native.Nat.{_≤_, _-_}
 use mathlib.Core.Path.{_≡_}
 use native.Mathlib.Omega.{arith}

@@ -1,4 +1,4 @@
--- `command::is_of` meets its contract. Assumes nothing.
+-- `command::is_of` meets its contract.
 use Rattle.command.specs.Reading.{isOf}
 use borrow.Author.Needs.{needs}
 use Rattle.command.proofs.is_of.Statement.{statement}

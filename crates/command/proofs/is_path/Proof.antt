@@ -1,4 +1,4 @@
--- `command::is_path` meets its contract. Assumes nothing.
+-- `command::is_path` meets its contract.
 use lib.ListN.{length}
 use borrow.Author.Tests.{le-leb, lt-leb}
 use Rattle.command.specs.Reading.{isPath}

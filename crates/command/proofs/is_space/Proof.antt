@@ -1,4 +1,4 @@
--- `command::is_space` meets its contract. Assumes nothing.
+-- `command::is_space` meets its contract.
 use borrow.Author.Tests.{eq-eqb, ne-eqb}
 use Rattle.command.specs.Reading.{isSpace}
 use Rattle.command.proofs.is_space.Statement.{statement}

@@ -1,4 +1,4 @@
--- `command::read_number` meets its contract: what is still to be read has the same number. Assumes nothing.
+-- `command::read_number` meets its contract: what is still to be read has the same number.
 use Prim.Native.Nat.{_-_, _^_, _≤_, _<_}
 use mathlib.Core.Path.{_≡_, sym, _∙_}
 use native.Mathlib.Omega.{arith}

@@ -1,4 +1,4 @@
--- `command::word_length` meets its contract. Assumes nothing.
+-- `command::word_length` meets its contract.
 use Prim.Native.Nat.{_+_, _-_, _≤_}
 use mathlib.Core.List.{[], _∷_}
 use mathlib.Core.Path.{_≡_, ap, _∙_}

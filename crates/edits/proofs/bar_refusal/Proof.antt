@@ -1,4 +1,4 @@
--- `edits::bar_refusal` meets its contract. Assumes nothing.
+-- `edits::bar_refusal` meets its contract.
 use borrow.Author.Needs.{needs}
 use Rattle.rules.specs.Calls.{barRefusal}
 use Rattle.edits.proofs.bar_refusal.Statement.{statement}

@@ -1,4 +1,4 @@
--- `edits::bars_of` meets its contract. Assumes nothing.
+-- `edits::bars_of` meets its contract.
 use borrow.Author.Needs.{needs}
 use native.Mathlib.Omega.{arith}
 use Rattle.rules.specs.District.{barsOf, barsPlace}

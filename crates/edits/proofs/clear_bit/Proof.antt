@@ -1,4 +1,4 @@
--- `edits::clear_bit` meets its contract. Assumes nothing.
+-- `edits::clear_bit` meets its contract.
 use borrow.Author.Needs.{needs}
 use mathlib.Core.Path.{sym}
 use Rattle.base.proofs.Bits.{cleared-by-and, not-cleared}

@@ -1,4 +1,4 @@
--- `edits::fresh_district` meets its contract. Assumes nothing.
+-- `edits::fresh_district` meets its contract.
 use borrow.Author.Needs.{needs}
 use Rattle.rules.specs.District.{freshDistrict}
 use mathlib.Core.Path.{refl}

@@ -1,4 +1,4 @@
--- `edits::greatest_of` meets its contract. Assumes nothing.
+-- `edits::greatest_of` meets its contract.
 use borrow.Author.Needs.{needs}
 use Rattle.edits.proofs.Places.{past}
 use Prim.Native.Nat.{_+_, _-_}

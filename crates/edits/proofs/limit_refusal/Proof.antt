@@ -1,4 +1,4 @@
--- `edits::limit_refusal` meets its contract. Assumes nothing.
+-- `edits::limit_refusal` meets its contract.
 use borrow.Author.Needs.{needs}
 use Rattle.rules.specs.Calls.{limitRefusal}
 use Rattle.edits.proofs.limit_refusal.Statement.{statement}

@@ -1,4 +1,4 @@
--- `edits::one_to` meets its contract. Assumes nothing.
+-- `edits::one_to` meets its contract.
 use borrow.Author.Needs.{needs}
 use Rattle.edits.proofs.one_to.Statement.{statement}
 use Rattle.edits.proofs.one_to.Tie as tie

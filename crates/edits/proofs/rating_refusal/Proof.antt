@@ -1,4 +1,4 @@
--- `edits::rating_refusal` meets its contract. Assumes nothing.
+-- `edits::rating_refusal` meets its contract.
 use borrow.Author.Needs.{needs}
 use Rattle.rules.specs.Calls.{ratingRefusal}
 use Rattle.edits.proofs.Places.{rating-range}

@@ -1,4 +1,4 @@
--- `edits::set_bit` meets its contract. Assumes nothing.
+-- `edits::set_bit` meets its contract.
 use borrow.Author.Needs.{needs}
 use mathlib.Core.Path.{sym}
 use Rattle.base.proofs.Bits.{set-by-or, not-set}

@@ -1,4 +1,4 @@
--- `edits::value_at` meets its contract. Assumes nothing.
+-- `edits::value_at` meets its contract.
 use borrow.Author.Needs.{needs}
 use Rattle.edits.proofs.Places.{past}
 use native.Mathlib.Omega.{arith}

@@ -1,4 +1,4 @@
--- `edits::with_bar` meets its contract. Assumes nothing.
+-- `edits::with_bar` meets its contract.
 use borrow.Author.Needs.{needs}
 use Rattle.rules.specs.District.{withBar}
 use Rattle.edits.proofs.with_bar.Statement.{statement}

@@ -1,4 +1,4 @@
--- `edits::with_bars` meets its contract. Assumes nothing.
+-- `edits::with_bars` meets its contract.
 use borrow.Author.Needs.{needs}
 use mathlib.Core.Path.{sym}
 use lib.Seq.{set-out}

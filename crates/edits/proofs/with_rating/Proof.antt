@@ -1,4 +1,4 @@
--- `edits::with_rating` meets its contract. Assumes nothing.
+-- `edits::with_rating` meets its contract.
 use borrow.Author.Needs.{needs}
 use mathlib.Core.Path.{sym}
 use lib.Seq.{set-out}

@@ -1,4 +1,4 @@
--- `edits::within` meets its contract. Assumes nothing.
+-- `edits::within` meets its contract.
 use native.Mathlib.Omega.{arith}
 use borrow.Author.Tests.{le-leb, lt-leb}
 use Rattle.edits.proofs.within.Statement.{statement}

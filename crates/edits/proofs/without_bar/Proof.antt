@@ -1,4 +1,4 @@
--- `edits::without_bar` meets its contract. Assumes nothing.
+-- `edits::without_bar` meets its contract.
 use borrow.Author.Needs.{needs}
 use Rattle.rules.specs.District.{withoutBar}
 use Rattle.edits.proofs.without_bar.Statement.{statement}

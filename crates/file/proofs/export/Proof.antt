@@ -1,4 +1,4 @@
--- `export` meets its contract: the file's length decides. Assumes nothing.
+-- `export` meets its contract: the file's length decides.
 use native.Mathlib.Omega.{arith}
 use Rattle.file.proofs.Refusals.{export-short, export-fits}
 use borrow.Author.Needs.{needs}

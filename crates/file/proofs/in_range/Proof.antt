@@ -1,4 +1,4 @@
--- `in_range` meets its contract: an array has a district's places. Assumes nothing.
+-- `in_range` meets its contract: an array has a district's places.
 use mathlib.Core.Path.{_≡_}
 use lib.ListN.{length}
 use borrow.Author.Tests.{eq-eqb}

@@ -1,4 +1,4 @@
--- `load` meets its contract: what the file is read as is what the rest of it is read as, after the values so far. Assumes nothing.
+-- `load` meets its contract: what the file is read as is what the rest of it is read as, after the values so far.
 use Prim.Native.Nat.{ℕ, _+_, _-_, _≤_, _<_}
 use mathlib.Core.Path.{_≡_, refl, sym, ap, _∙_}
 use mathlib.Core.List.{List, [], _++_}

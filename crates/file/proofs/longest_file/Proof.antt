@@ -1,4 +1,4 @@
--- `longest_file` meets its contract. Assumes nothing.
+-- `longest_file` meets its contract.
 use mathlib.Core.Path.{refl}
 use Rattle.file.proofs.Trips.{trips}
 use Rattle.file.proofs.longest_file.Statement.{statement}

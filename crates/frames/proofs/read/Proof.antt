@@ -1,4 +1,4 @@
--- `frames::read` meets its contract. Assumes nothing.
+-- `frames::read` meets its contract.
 use borrow.Author.Needs.{needs}
 use native.Mathlib.Omega.{arith}
 use Rattle.frames.proofs.Counts.{counts}

@@ -1,4 +1,4 @@
--- `frames::read_bytes` meets its contract. Assumes nothing.
+-- `frames::read_bytes` meets its contract.
 use mathlib.Core.Path.{sym}
 use lib.Seq.{length-take-le}
 use borrow.Author.Needs.{needs}

@@ -1,4 +1,4 @@
--- `listing::put_number` meets its contract; the number falls at each call of itself. Assumes nothing.
+-- `listing::put_number` meets its contract; the number falls at each call of itself.
 use Prim.Native.Nat.{ℕ, _+_, _/_, _%_, _^_, _≤_, _<_}
 use mathlib.Core.Path.{_≡_, ap, _∙_}
 use mathlib.Core.List.{List, [], _∷_, _++_}

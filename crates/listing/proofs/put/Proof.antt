@@ -1,4 +1,4 @@
--- `listing::put` meets its contract. Assumes nothing.
+-- `listing::put` meets its contract.
 use Prim.Native.Nat.{_+_, _-_, _≤_}
 use mathlib.Core.Path.{_≡_}
 use mathlib.Core.List.{_∷_}

@@ -1,4 +1,4 @@
--- `listing::put_done` meets its contract. Assumes nothing.
+-- `listing::put_done` meets its contract.
 use Rattle.base.specs.Text.{text}
 use Rattle.listing.specs.Listing.{done}
 use borrow.Author.Needs.{needs}

@@ -1,4 +1,4 @@
--- `listing::put_line` meets its contract. Assumes nothing.
+-- `listing::put_line` meets its contract.
 use native.Mathlib.Omega.{arith}
 use borrow.Author.Needs.{needs}
 use Rattle.base.specs.Text.{text}

@@ -1,4 +1,4 @@
--- `listing::put_listing` meets its contract: the lines of the segments, then the results. Assumes nothing.
+-- `listing::put_listing` meets its contract: the lines of the segments, then the results.
 use Prim.Native.Nat.{_≤_, min}
 use native.Mathlib.Omega.{arith}
 use lib.ListN.{length}

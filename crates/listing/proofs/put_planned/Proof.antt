@@ -1,4 +1,4 @@
--- `listing::put_planned` meets its contract. Assumes nothing.
+-- `listing::put_planned` meets its contract.
 use borrow.Author.Needs.{needs}
 use Rattle.listing.specs.Listing.{planned}
 use Rattle.listing.proofs.put_planned.Statement.{statement}

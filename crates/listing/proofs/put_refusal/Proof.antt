@@ -1,4 +1,4 @@
--- `listing::put_refusal` meets its contract. Assumes nothing.
+-- `listing::put_refusal` meets its contract.
 use native.Mathlib.Omega.{arith}
 use Rattle.base.specs.Text.{text}
 use Rattle.listing.specs.Listing.{refusal}

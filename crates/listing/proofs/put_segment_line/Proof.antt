@@ -1,4 +1,4 @@
--- `listing::put_segment_line` meets its contract: two pieces, one after the other. Assumes nothing.
+-- `listing::put_segment_line` meets its contract: two pieces, one after the other.
 use native.Mathlib.Omega.{arith}
 use borrow.Author.Needs.{needs}
 use Rattle.base.specs.Text.{text, decimal}

@@ -1,4 +1,4 @@
--- `listing::put_segment_lines` meets its contract: what is written and what is to come is the whole. Assumes nothing.
+-- `listing::put_segment_lines` meets its contract: what is written and what is to come is the whole.
 use Prim.Native.Nat.{ℕ, suc, _+_, _-_, _≤_, _<_}
 use mathlib.Core.List.{List, _++_}
 use mathlib.Core.Path.{_≡_}

@@ -1,4 +1,4 @@
--- `listing::put_shown` meets its contract. Assumes nothing.
+-- `listing::put_shown` meets its contract.
 use borrow.Author.Needs.{needs}
 use Rattle.listing.specs.Listing.{shown}
 use Rattle.listing.proofs.put_shown.Statement.{statement}

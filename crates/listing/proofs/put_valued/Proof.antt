@@ -1,4 +1,4 @@
--- `listing::put_valued` meets its contract. Assumes nothing.
+-- `listing::put_valued` meets its contract.
 use native.Mathlib.Omega.{arith}
 use Rattle.listing.specs.Listing.{valued}
 use Rattle.listing.proofs.Lengths.{line-fits}

@@ -1,4 +1,4 @@
--- `panel::answer` meets its contract. Assumes nothing.
+-- `panel::answer` meets its contract.
 use Rattle.base.proofs.Text.{put-within, put-part}
 use Rattle.panel.proofs.ByCalls.{by-calls-line, sound-at}
 use borrow.Author.Needs.{needs}

@@ -1,4 +1,4 @@
--- `panel::export` meets its contract. Assumes nothing.
+-- `panel::export` meets its contract.
 use native.Mathlib.Omega.{arith}
 use mathlib.Core.Logic.{⊎-elim}
 use mathlib.Core.Path.{_≡_, refl, sym, ap, _∙_}

@@ -1,4 +1,4 @@
--- `panel::failed` meets its contract. Assumes nothing.
+-- `panel::failed` meets its contract.
 use native.Mathlib.Omega.{arith}
 use Rattle.panel.proofs.Says.{failed-length}
 use borrow.Author.Needs.{needs}

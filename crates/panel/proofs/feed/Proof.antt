@@ -1,4 +1,4 @@
--- `panel::feed` meets its contract: what the bytes ahead lead to from here, all the bytes lead to from the start. Assumes nothing.
+-- `panel::feed` meets its contract: what the bytes ahead lead to from here, all the bytes lead to from the start.
 use native.Mathlib.Omega.{arith}
 use Prim.Native.Nat.{ℕ, _-_, _≤_, _<_}
 use mathlib.Core.List.{List}

@@ -1,4 +1,4 @@
--- `panel::keep` meets its contract. Assumes nothing.
+-- `panel::keep` meets its contract.
 use native.Mathlib.Omega.{arith}
 use lib.ListN.{length-set}
 use Rattle.panel.proofs.Feeds.{kept-more, kept-full}

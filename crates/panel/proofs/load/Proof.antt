@@ -1,4 +1,4 @@
--- `panel::load` meets its contract. Assumes nothing.
+-- `panel::load` meets its contract.
 use Rattle.base.specs.Text.{text}
 use Rattle.panel.specs.Console.{read, unopened, unread}
 use Rattle.panel.proofs.Says.{puts}

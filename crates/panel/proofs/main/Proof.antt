@@ -1,4 +1,4 @@
--- `panel::main` is safe and ends: the number of reads that are left falls, and the unit is always one that calls lead to. Assumes nothing.
+-- `panel::main` is safe and ends: the number of reads that are left falls, and the unit is always one that calls lead to.
 use native.Mathlib.Omega.{arith}
 use Prim.Native.Nat.{_≤_}
 use mathlib.Core.Path.{_≡_, refl, sym, _∙_}

@@ -1,4 +1,4 @@
--- `panel::obey` meets its contract. Assumes nothing.
+-- `panel::obey` meets its contract.
 use mathlib.Core.Path.{refl}
 use Rattle.base.specs.Text.{text}
 use Rattle.panel.specs.Console.{said, after}

@@ -1,4 +1,4 @@
--- `phase1::choose_tops` meets its contract: the segments passed have their top candidates. Assumes nothing.
+-- `phase1::choose_tops` meets its contract: the segments passed have their top candidates.
 use Prim.Native.Nat.{ℕ, _-_, _≤_}
 use mathlib.Core.Path.{_≡_}
 use mathlib.Core.List.{List}

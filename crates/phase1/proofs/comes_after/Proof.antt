@@ -1,4 +1,4 @@
--- `phase1::comes_after` meets its contract. Assumes nothing.
+-- `phase1::comes_after` meets its contract.
 use mathlib.Core.Path.{sym}
 use mathlib.Core.Bool.{or-false}
 use lib.Dec.{ltb}

@@ -1,4 +1,4 @@
--- `phase1::limits_hold` meets its contract: each limit passed holds. Assumes nothing.
+-- `phase1::limits_hold` meets its contract: each limit passed holds.
 use Prim.Native.Nat.{ℕ, _+_, _-_, _≤_}
 use mathlib.Core.Path.{_≡_}
 use native.Mathlib.Omega.{arith}

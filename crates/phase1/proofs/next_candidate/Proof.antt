@@ -1,4 +1,4 @@
--- `phase1::next_candidate` meets its contract. Assumes nothing.
+-- `phase1::next_candidate` meets its contract.
 use Prim.Native.Nat.{_≤_, _-_}
 use mathlib.Core.Path.{sym, _∙_}
 use mathlib.Core.Logic.{⊎-elim}

@@ -1,4 +1,4 @@
--- `phase1::pull_of` meets its contract: the sum so far is that of the resources passed. Assumes nothing.
+-- `phase1::pull_of` meets its contract: the sum so far is that of the resources passed.
 use Prim.Native.Nat.{_+_, _-_, _≤_}
 use mathlib.Core.Path.{_≡_, _∙_}
 use mathlib.Core.Logic.{⊎-elim}

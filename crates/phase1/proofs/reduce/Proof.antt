@@ -1,4 +1,4 @@
--- `phase1::reduce` meets its contract: the steps made and those from here on are all of them. Assumes nothing.
+-- `phase1::reduce` meets its contract: the steps made and those from here on are all of them.
 use Prim.Native.Nat.{_*_, _-_}
 use mathlib.Core.Path.{sym, _∙_}
 use mathlib.Core.List.{[]}

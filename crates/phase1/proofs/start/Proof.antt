@@ -1,4 +1,4 @@
--- `phase1::start` meets its contract: the sums passed are right. Assumes nothing.
+-- `phase1::start` meets its contract: the sums passed are right.
 use Prim.Native.Nat.{ℕ, _-_, _≤_}
 use mathlib.Core.Path.{_≡_, sym, _∙_}
 use mathlib.Core.List.{List, []}

@@ -1,4 +1,4 @@
--- `phase1::surplus_of` meets its contract. Assumes nothing.
+-- `phase1::surplus_of` meets its contract.
 use mathlib.Core.Path.{refl}
 use native.Mathlib.Omega.{arith}
 use borrow.Author.Needs.{needs}

@@ -1,4 +1,4 @@
--- `phase1::surpluses` meets its contract: the surpluses passed are right. Assumes nothing.
+-- `phase1::surpluses` meets its contract: the surpluses passed are right.
 use Prim.Native.Nat.{ℕ, _-_, _≤_}
 use mathlib.Core.Path.{_≡_, refl}
 use native.Mathlib.Omega.{arith}

@@ -1,4 +1,4 @@
--- `phase1::top_candidate` meets its contract. Assumes nothing.
+-- `phase1::top_candidate` meets its contract.
 use Prim.Native.Nat.{_≤_, _-_}
 use mathlib.Core.Logic.{⊎-elim}
 use native.Mathlib.Omega.{arith}

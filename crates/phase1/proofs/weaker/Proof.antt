@@ -1,4 +1,4 @@
--- `phase1::weaker` meets its contract: it goes by cases as the rules do. Assumes nothing.
+-- `phase1::weaker` meets its contract: it goes by cases as the rules do.
 use Prim.Native.Nat.{ℕ}
 use mathlib.Core.Path.{_≡_}
 use mathlib.Core.List.{List}

@@ -1,4 +1,4 @@
--- `phase1::weakest_of` meets its contract: the weakest so far is that of the segments passed. Assumes nothing.
+-- `phase1::weakest_of` meets its contract: the weakest so far is that of the segments passed.
 use Prim.Native.Nat.{ℕ, _-_, _≤_}
 use mathlib.Core.Path.{_≡_}
 use mathlib.Core.List.{List}

@@ -1,4 +1,4 @@
--- `phase2::best_offer` meets its contract. Assumes nothing.
+-- `phase2::best_offer` meets its contract.
 use Prim.Native.Nat.{_≤_, _-_, _+_}
 use mathlib.Core.Logic.{⊎-elim}
 use native.Mathlib.Omega.{arith}

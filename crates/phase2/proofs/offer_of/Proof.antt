@@ -1,4 +1,4 @@
--- `phase2::offer_of` meets its contract. Assumes nothing.
+-- `phase2::offer_of` meets its contract.
 use Prim.Native.Nat.{_≤_, _-_, _+_}
 use mathlib.Core.Logic.{⊎-elim}
 use mathlib.Core.Path.{sym, _∙_}

@@ -1,4 +1,4 @@
--- `phase2::pick_up` meets its contract. Assumes nothing.
+-- `phase2::pick_up` meets its contract.
 use Prim.Native.Nat.{_-_}
 use mathlib.Core.Path.{sym, _∙_}
 use native.Mathlib.Omega.{arith}

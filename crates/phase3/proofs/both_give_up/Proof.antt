@@ -1,4 +1,4 @@
--- `phase3::both_give_up` meets its contract. Assumes nothing.
+-- `phase3::both_give_up` meets its contract.
 use borrow.Author.Needs.{needs}
 use Rattle.phase3.proofs.both_give_up.Statement.{statement}
 use Rattle.phase3.proofs.both_give_up.Tie as tie

@@ -1,4 +1,4 @@
--- `phase3::counts_one` meets its contract. Assumes nothing.
+-- `phase3::counts_one` meets its contract.
 use mathlib.Core.Path.{sym, _∙_}
 use native.Mathlib.Omega.{arith}
 use Rattle.tables.proofs.Moves.{from-cell, places}

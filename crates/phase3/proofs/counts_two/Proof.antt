@@ -1,4 +1,4 @@
--- `phase3::counts_two` meets its contract. Assumes nothing.
+-- `phase3::counts_two` meets its contract.
 use mathlib.Core.Path.{sym, _∙_}
 use borrow.Author.Tests.{not-true, not-false}
 use native.Mathlib.Omega.{arith}

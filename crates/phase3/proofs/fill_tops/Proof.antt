@@ -1,4 +1,4 @@
--- `phase3::fill_tops` meets its contract: the segments passed have their greatest benefits. Assumes nothing.
+-- `phase3::fill_tops` meets its contract: the segments passed have their greatest benefits.
 use Prim.Native.Nat.{ℕ, _-_, _≤_}
 use mathlib.Core.Path.{_≡_, refl}
 use native.Mathlib.Omega.{arith}

@@ -1,4 +1,4 @@
--- `phase3::first_change` meets its contract. Assumes nothing.
+-- `phase3::first_change` meets its contract.
 use mathlib.Core.Path.{sym, _∙_}
 use Rattle.phase3.proofs.ChangeSearch.{change-pair, change-single}
 use borrow.Author.Needs.{needs}

@@ -1,4 +1,4 @@
--- `phase3::first_two` meets its contract: whatever the loops passed, or passed over, is no change. Assumes nothing.
+-- `phase3::first_two` meets its contract: whatever the loops passed, or passed over, is no change.
 use Prim.Native.Nat.{ℕ, _-_, _≤_, _<_}
 use mathlib.Core.Path.{_≡_, refl, sym, _∙_}
 use mathlib.Core.Logic.{⊎-elim}

@@ -1,4 +1,4 @@
--- `phase3::improve` meets its contract: what is left of the search from here ends where the whole search does. Assumes nothing.
+-- `phase3::improve` meets its contract: what is left of the search from here ends where the whole search does.
 use Prim.Native.Nat.{_-_, _^_}
 use mathlib.Core.Path.{sym, _∙_}
 use native.Mathlib.Omega.{arith}

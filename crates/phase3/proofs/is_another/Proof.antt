@@ -1,4 +1,4 @@
--- `phase3::is_another` meets its contract. Assumes nothing.
+-- `phase3::is_another` meets its contract.
 use borrow.Author.Tests.{eq-eqb, ne-eqb}
 use Rattle.rules.specs.Phases.{another, isCandidate}
 use borrow.Author.Needs.{needs}

@@ -1,4 +1,4 @@
--- `phase3::make_change` meets its contract. Assumes nothing.
+-- `phase3::make_change` meets its contract.
 use Prim.Native.Nat.{ℕ}
 use mathlib.Core.Path.{sym, ap, subst, _∙_}
 use mathlib.Core.List.{List}

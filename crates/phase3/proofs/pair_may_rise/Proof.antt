@@ -1,4 +1,4 @@
--- `phase3::pair_may_rise` meets its contract. Assumes nothing.
+-- `phase3::pair_may_rise` meets its contract.
 use borrow.Author.Needs.{needs}
 use Rattle.phase3.proofs.pair_may_rise.Statement.{statement}
 use Rattle.phase3.proofs.pair_may_rise.Tie as tie

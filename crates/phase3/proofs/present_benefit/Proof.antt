@@ -1,4 +1,4 @@
--- `phase3::present_benefit` meets its contract. Assumes nothing.
+-- `phase3::present_benefit` meets its contract.
 use native.Mathlib.Omega.{arith}
 use denote.Ref.{now}
 use Rattle.rules.specs.Phases.{strategyAt}

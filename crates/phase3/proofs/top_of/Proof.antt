@@ -1,4 +1,4 @@
--- `phase3::top_of` meets its contract: the greatest so far is that of the strategies passed. Assumes nothing.
+-- `phase3::top_of` meets its contract: the greatest so far is that of the strategies passed.
 use Prim.Native.Nat.{_-_, _≤_}
 use mathlib.Core.Path.{_≡_}
 use native.Mathlib.Omega.{arith}

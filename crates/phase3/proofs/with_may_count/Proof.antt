@@ -1,4 +1,4 @@
--- `phase3::with_may_count` meets its contract. Assumes nothing.
+-- `phase3::with_may_count` meets its contract.
 use mathlib.Core.Path.{sym, _∙_}
 use borrow.Author.Tests.{not-true, not-false}
 use native.Mathlib.Omega.{arith}

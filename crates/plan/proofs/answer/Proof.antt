@@ -1,4 +1,4 @@
--- `plan::answer` meets its contract. Assumes nothing.
+-- `plan::answer` meets its contract.
 use borrow.Author.Needs.{needs}
 use mathlib.Core.Path.{_≡_, ap, _∙_}
 use Rattle.rules.specs.Calls.{freshUnit, loadOf}

@@ -1,4 +1,4 @@
--- `plan::main` is safe and ends. Assumes nothing.
+-- `plan::main` is safe and ends.
 use borrow.Author.Needs.{needs}
 use Rattle.base.proofs.Text.{put-within, put-part}
 use Rattle.plan.proofs.main.Statement.{statement}

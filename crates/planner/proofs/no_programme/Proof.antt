@@ -1,4 +1,4 @@
--- `planner::no_programme` meets its contract. Assumes nothing.
+-- `planner::no_programme` meets its contract.
 use mathlib.Core.Path.{refl}
 use Rattle.rules.specs.Plan.{noProgramme}
 use Rattle.planner.proofs.no_programme.Statement.{statement}

@@ -1,4 +1,4 @@
--- `planner::phases` meets its contract. Assumes nothing.
+-- `planner::phases` meets its contract.
 use borrow.Author.Needs.{needs}
 use Rattle.planner.proofs.Plans.{together, start-held}
 use Rattle.planner.proofs.phases.Statement.{statement}

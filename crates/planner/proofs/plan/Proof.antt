@@ -1,4 +1,4 @@
--- `planner::plan` meets its contract. Assumes nothing.
+-- `planner::plan` meets its contract.
 use borrow.Author.Needs.{needs}
 use mathlib.Core.Path.{sym, _∙_}
 use Rattle.planner.proofs.Plans.{planned, unplanned}

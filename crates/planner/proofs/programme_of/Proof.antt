@@ -1,4 +1,4 @@
--- `planner::programme_of` meets its contract. Assumes nothing.
+-- `planner::programme_of` meets its contract.
 use borrow.Author.Needs.{needs}
 use mathlib.Core.Path.{refl, ap, _∙_}
 use Rattle.grammar.proofs.InRanges.{in-ranges}

@@ -1,4 +1,4 @@
--- `script::body_of` meets its contract. Assumes nothing.
+-- `script::body_of` meets its contract.
 use borrow.Author.Needs.{needs}
 use borrow.Author.Tests.{eq-eqb, ne-eqb}
 use Rattle.script.specs.Script.{bodyIn}

@@ -1,4 +1,4 @@
--- `script::exported` meets its contract. Assumes nothing.
+-- `script::exported` meets its contract.
 use mathlib.Core.Path.{ap}
 use borrow.Author.Needs.{needs}
 use Rattle.rules.specs.Calls.{Export}

@@ -1,4 +1,4 @@
--- `script::make` meets its contract. Assumes nothing.
+-- `script::make` meets its contract.
 use borrow.Author.Needs.{needs}
 use borrow.Author.Tests.{ne-eqb}
 use Rattle.rules.specs.Lists.{outcomeOf}

@@ -1,4 +1,4 @@
--- `script::refused` meets its contract. Assumes nothing.
+-- `script::refused` meets its contract.
 use mathlib.Core.Path.{ap}
 use borrow.Author.Needs.{needs}
 use Rattle.rules.specs.Calls.{Export}

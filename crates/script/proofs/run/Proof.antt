@@ -1,4 +1,4 @@
--- `script::run` meets its contract. Assumes nothing.
+-- `script::run` meets its contract.
 use Prim.Native.Nat.{_≤_}
 use mathlib.Core.Path.{_≡_, refl, sym, _∙_}
 use borrow.Author.Needs.{needs}

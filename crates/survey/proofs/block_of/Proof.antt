@@ -1,4 +1,4 @@
--- `survey::block_of` meets its contract. Assumes nothing.
+-- `survey::block_of` meets its contract.
 use borrow.Author.Needs.{needs}
 use Rattle.rules.specs.Survey.{blockOf}
 use Rattle.base.proofs.Choice.{cases}

@@ -1,4 +1,4 @@
--- `survey::entry` meets its contract. Assumes nothing.
+-- `survey::entry` meets its contract.
 use mathlib.Core.Path.{refl}
 use Rattle.rules.specs.Survey.{deductPoints}
 use borrow.Author.Needs.{needs}

@@ -1,4 +1,4 @@
--- `survey::survey_points` meets its contract. Assumes nothing.
+-- `survey::survey_points` meets its contract.
 use borrow.Author.Needs.{needs}
 use borrow.Author.Tests.{ne-eqb}
 use Rattle.rules.specs.Survey.{pointsOf}

@@ -1,4 +1,4 @@
--- `tables::fits_one` meets its contract: the second segment goes from nothing to nothing. Assumes nothing.
+-- `tables::fits_one` meets its contract: the second segment goes from nothing to nothing.
 use mathlib.Core.Path.{_∙_}
 use Rattle.tables.proofs.Arrays.{cell-of}
 use Rattle.tables.proofs.Moves.{testable, from-cell, one-fits}

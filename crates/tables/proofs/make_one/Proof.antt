@@ -1,4 +1,4 @@
--- `tables::make_one` meets its contract. Assumes nothing.
+-- `tables::make_one` meets its contract.
 use mathlib.Core.Path.{refl}
 use native.Mathlib.Omega.{arith}
 use Rattle.tables.proofs.Moves.{movable, running-give}

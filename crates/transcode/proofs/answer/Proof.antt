@@ -1,4 +1,4 @@
--- `transcode::answer` meets its contract: a refusal is a byte, and no file is longer than the buffer. Assumes nothing.
+-- `transcode::answer` meets its contract: a refusal is a byte, and no file is longer than the buffer.
 use mathlib.Core.Path.{ap}
 use native.Mathlib.Omega.{arith}
 use borrow.Author.Needs.{needs}

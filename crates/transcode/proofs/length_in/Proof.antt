@@ -1,4 +1,4 @@
--- `transcode::length_in` meets its contract. Assumes nothing.
+-- `transcode::length_in` meets its contract.
 use borrow.Author.Needs.{needs}
 use Rattle.transcode.specs.Transcoded.{lengthIn}
 use Rattle.transcode.proofs.length_in.Statement.{statement}

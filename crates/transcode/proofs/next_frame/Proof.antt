@@ -1,4 +1,4 @@
--- `transcode::next_frame` is safe. Assumes nothing.
+-- `transcode::next_frame` is safe.
 use borrow.Author.Needs.{needs}
 use Rattle.base.proofs.Text.{put-within, put-part}
 use Rattle.transcode.proofs.next_frame.Statement.{statement}

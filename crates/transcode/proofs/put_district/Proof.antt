@@ -1,4 +1,4 @@
--- `transcode::put_district` meets its contract. Assumes nothing.
+-- `transcode::put_district` meets its contract.
 use lib.ListN.{replicate, length-replicate}
 use borrow.Author.Needs.{needs}
 use Rattle.base.specs.Text.{Put}

@@ -1,4 +1,4 @@
--- `transcode::put_framed` meets its contract. Assumes nothing.
+-- `transcode::put_framed` meets its contract.
 use Prim.Native.Nat.{_≤_}
 use mathlib.Core.List.{_++_}
 use native.Mathlib.Omega.{arith}

@@ -1,4 +1,4 @@
--- `unit::conclude` meets its contract. Assumes nothing.
+-- `unit::conclude` meets its contract.
 use borrow.Author.Needs.{needs}
 use Rattle.rules.specs.Answers.{answerOf, accepting}
 use Rattle.rules.specs.Calls.{answered}

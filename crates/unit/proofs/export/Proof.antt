@@ -1,4 +1,4 @@
--- `unit::export` meets its contract. Assumes nothing.
+-- `unit::export` meets its contract.
 use borrow.Author.Needs.{needs}
 use Rattle.rules.specs.Calls.{exportOf}
 use Rattle.unit.proofs.export.Statement.{statement}

@@ -1,4 +1,4 @@
--- `unit::fresh` meets its contract. Assumes nothing.
+-- `unit::fresh` meets its contract.
 use borrow.Author.Needs.{needs}
 use Rattle.rules.specs.Calls.{freshUnit}
 use Rattle.demands.proofs.EveryAnswer.{every-answer, every-points}

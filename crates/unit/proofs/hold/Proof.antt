@@ -1,4 +1,4 @@
--- `unit::hold` meets its contract. Assumes nothing.
+-- `unit::hold` meets its contract.
 use borrow.Author.Needs.{needs}
 use Rattle.rules.specs.Calls.{unitOf}
 use Rattle.unit.proofs.hold.Statement.{statement}

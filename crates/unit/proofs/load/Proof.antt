@@ -1,4 +1,4 @@
--- `unit::load` meets its contract. Assumes nothing.
+-- `unit::load` meets its contract.
 use borrow.Author.Needs.{needs}
 use mathlib.Core.Path.{_∙_}
 use Rattle.rules.specs.Calls.{loadOf}

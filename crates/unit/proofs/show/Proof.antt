@@ -1,4 +1,4 @@
--- `unit::show` meets its contract. Assumes nothing.
+-- `unit::show` meets its contract.
 use mathlib.Core.Path.{refl}
 use Rattle.rules.specs.Calls.{showOf}
 use Rattle.unit.proofs.show.Statement.{statement}

@@ -1,4 +1,4 @@
--- `vectors::answer` meets its contract. Assumes nothing.
+-- `vectors::answer` meets its contract.
 use borrow.Author.Needs.{needs}
 use Rattle.vectors.specs.Worked.{worked}
 use Rattle.vectors.proofs.answer.Statement.{statement}

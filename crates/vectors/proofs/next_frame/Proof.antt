@@ -1,4 +1,4 @@
--- `vectors::next_frame` is safe. Assumes nothing.
+-- `vectors::next_frame` is safe.
 use borrow.Author.Needs.{needs}
 use Rattle.base.proofs.Text.{put-within, put-part}
 use Rattle.vectors.proofs.next_frame.Statement.{statement}

@@ -1,12 +1,12 @@
--- `number` meets its contract: the bytes are read from the highest down, and the value is that of those read. Assumes nothing.
+-- `number` meets its contract: the bytes are read from the highest down, and the value is that of those read.
 use Prim.Native.Nat.{ℕ, suc, _+_, _-_, _*_, _^_, _≤_, _<_}
 use mathlib.Core.Path.{_≡_, refl, _∙_}
 use mathlib.Core.List.{List}
 use native.Mathlib.Nat.{pow-le-pow-right, sub-self, add-zero, sub-zero}
 use native.Mathlib.Omega.{arith}
 use lib.ListN.{length, take, drop, getD, length-drop}
-use Rattle.base.proofs.Bytes.{Bytes, number-more, bytes-drop, front-below}
-use Rattle.base.specs.Bytes.{numberOf}
+use Rattle.base.proofs.Bytes.{number-more, bytes-drop, front-below}
+use Rattle.base.specs.Bytes.{Bytes, numberOf}
 use borrow.Author.Needs.{needs}
 use Rattle.file.proofs.bytes.number.Statement.{statement}
 use Rattle.file.proofs.bytes.number.Tie as tie

@@ -1,4 +1,4 @@
--- `put` meets its contract: what is written so far, and what is still to come, is the whole. Assumes nothing.
+-- `put` meets its contract: what is written so far, and what is still to come, is the whole.
 use Prim.Native.Nat.{ℕ, suc, _+_, _-_, _/_, _%_, _≤_}
 use mathlib.Core.Path.{_≡_, ap, _∙_}
 use native.Mathlib.Nat.{sub-zero}

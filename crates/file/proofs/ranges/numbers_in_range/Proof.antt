@@ -1,4 +1,4 @@
--- `numbers_in_range` meets its contract: the test in all is the test from here on. Assumes nothing.
+-- `numbers_in_range` meets its contract: the test in all is the test from here on.
 use Prim.Native.Nat.{ℕ, _+_, _-_, _≤_}
 use mathlib.Core.Path.{_≡_, sym, ap, _∙_}
 use mathlib.Core.Bool.{Bool, true, false, _&&_}

@@ -1,4 +1,4 @@
--- `payload` meets its contract: the sum so far and the widths to come are the size. Assumes nothing.
+-- `payload` meets its contract: the sum so far and the widths to come are the size.
 use Prim.Native.Nat.{ℕ, _+_, _-_, _≤_}
 use mathlib.Core.Path.{_≡_, ap}
 use native.Mathlib.Nat.{sub-zero, zero-add}

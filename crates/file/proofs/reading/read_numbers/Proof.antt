@@ -1,4 +1,4 @@
--- `read_numbers` meets its contract: what is read in all is what is read from here on, after the values so far. Assumes nothing.
+-- `read_numbers` meets its contract: what is read in all is what is read from here on, after the values so far.
 use Prim.Native.Nat.{ℕ, _+_, _-_, _≤_}
 use mathlib.Core.Path.{_≡_, refl, sym, ap, _∙_}
 use mathlib.Core.List.{List, []}

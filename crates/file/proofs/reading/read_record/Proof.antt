@@ -1,4 +1,4 @@
--- `read_record` meets its contract: the tests that led to each answer say which case of the definition holds. Assumes nothing.
+-- `read_record` meets its contract: the tests that led to each answer say which case of the definition holds.
 use Prim.Native.Nat.{_-_, _≤_, _<_}
 use mathlib.Core.Path.{_≡_, refl, sym, _∙_}
 use mathlib.Core.Bool.{true, false}

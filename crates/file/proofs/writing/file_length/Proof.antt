@@ -1,4 +1,4 @@
--- `file_length` meets its contract: the sum so far and the records to come are the file. Assumes nothing.
+-- `file_length` meets its contract: the sum so far and the records to come are the file.
 use Prim.Native.Nat.{ℕ, _+_, _-_, _≤_}
 use mathlib.Core.Path.{_≡_, refl, ap, _∙_}
 use native.Mathlib.Nat.{zero-add}

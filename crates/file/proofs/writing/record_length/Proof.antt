@@ -1,4 +1,4 @@
--- `record_length` meets its contract. Assumes nothing.
+-- `record_length` meets its contract.
 use mathlib.Core.Path.{sym, _∙_}
 use native.Mathlib.Omega.{arith}
 use Rattle.file.proofs.Steps.{length-there, length-none, widths-small}

@@ -1,4 +1,4 @@
--- `write_file` meets its contract: what is written so far and the records to come are the file. Assumes nothing.
+-- `write_file` meets its contract: what is written so far and the records to come are the file.
 use Prim.Native.Nat.{ℕ, _+_, _-_, _≤_}
 use mathlib.Core.Path.{_≡_, refl, sym, ap}
 use mathlib.Core.List.{_++_}

@@ -1,4 +1,4 @@
--- `write_header` meets its contract. Assumes nothing.
+-- `write_header` meets its contract.
 use Prim.Native.Nat.{_≤_}
 use mathlib.Core.Path.{_≡_, refl, sym, ap, _∙_}
 use mathlib.Core.List.{[], _++_}

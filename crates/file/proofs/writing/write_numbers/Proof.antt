@@ -1,4 +1,4 @@
--- `write_numbers` meets its contract: what is written so far and what is to come is the whole. Assumes nothing.
+-- `write_numbers` meets its contract: what is written so far and what is to come is the whole.
 use Prim.Native.Nat.{ℕ, _+_, _-_, _≤_}
 use mathlib.Core.Path.{_≡_, ap}
 use mathlib.Core.List.{_++_}

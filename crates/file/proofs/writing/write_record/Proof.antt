@@ -1,4 +1,4 @@
--- `write_record` meets its contract: the header to the front, the numbers to what follows. Assumes nothing.
+-- `write_record` meets its contract: the header to the front, the numbers to what follows.
 use Prim.Native.Nat.{_+_, _≤_}
 use mathlib.Core.Path.{refl, sym}
 use mathlib.Core.List.{[], _++_, append-nil}

@@ -1,4 +1,4 @@
--- `panel::files::new_name` meets its contract. Assumes nothing.
+-- `panel::files::new_name` meets its contract.
 use native.Mathlib.Omega.{arith}
 use mathlib.Core.List.{_++_}
 use lib.ListN.{length, length-append}

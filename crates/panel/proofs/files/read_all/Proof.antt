@@ -1,4 +1,4 @@
--- `panel::files::read_all` meets its contract: the count is within the buffer, which keeps its length. Assumes nothing.
+-- `panel::files::read_all` meets its contract: the count is within the buffer, which keeps its length.
 use native.Mathlib.Omega.{arith}
 use Prim.Native.Nat.{_+_, _-_, _≤_}
 use mathlib.Core.Path.{_≡_, refl, sym, ap, _∙_}
