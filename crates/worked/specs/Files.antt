@@ -1,8 +1,8 @@
--- Files given back: what is exported of the card and of a fresh unit, what a buffer keeps, and the longest file.
+-- Files given back: what is exported of the card and of a fresh unit, and what a buffer keeps.
 use Prim.Native.Nat.{ℕ}
 use mathlib.Core.Path.{_≡_, refl}
 use mathlib.Core.List.{List, [], _∷_}
-use lib.ListN.{length, replicate}
+use lib.ListN.{replicate}
 use Rattle.rules.specs.District.{freshDistrict}
 use Rattle.rules.specs.File.{encode}
 use Rattle.rules.specs.Calls.{districtIn, exportOf}
@@ -27,8 +27,3 @@ pub given-back :
     ≡ card ∷ freshFile ∷ replicate 86 255 ∷ []
 unfolding resultOf
 given-back = refl
-
--- the file of the greatest counts; that none is longer is file/specs/Trips
-pub longest : length (encode (64 ∷ 11 ∷ 10 ∷ 9 ∷ 4 ∷ 16 ∷ [])) ≡ 3_788
-unfolding resultOf
-longest = refl
