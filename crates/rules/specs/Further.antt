@@ -109,25 +109,6 @@ overall =
           ∷ [];
     }
 
--- two limits with different surpluses
-abbrev pub surpluses : Roads
-surpluses =
-    record {
-      years = 2;
-      limits = 31 ∷ 38 ∷ [];
-      greatest = 10 ∷ [];
-      strategies =
-          record { requirements = 1423 ∷ 0 ∷ []; gains = pos 5 ∷ []; percents = (50 ∷ 90 ∷ []) ∷ [] }
-          ∷ record { requirements = 500 ∷ 2000 ∷ []; gains = pos 5 ∷ []; percents = (50 ∷ 90 ∷ []) ∷ [] }
-          ∷ record { requirements = 1000 ∷ 0 ∷ []; gains = pos 10 ∷ []; percents = (100 ∷ 73 ∷ []) ∷ [] }
-          ∷ [];
-      pavements = nothingDemanded ∷ [];
-      segments =
-          segment 100 30 (5 ∷ [])
-          ∷ record { pavement = 1; traffic = 106; environment = 100; length = 100; width = 10; barred = []; ratings = 5 ∷ [] }
-          ∷ [];
-    }
-
 -- a rating that reaches its minimum exactly
 abbrev pub exactMinimum : Roads
 exactMinimum =
@@ -249,7 +230,6 @@ furtherCases =
     ∷ planned twoLimits ⇒ shows (1 ∷ 1 ∷ 0 ∷ []) 1_280_000 1_280_000 1_710_059 2 1 0
     ∷ planned minima ⇒ shows (0 ∷ 0 ∷ 1 ∷ 0 ∷ []) 32_374_800 15_125_160 41_838_146 2 0 1
     ∷ planned overall ⇒ shows (0 ∷ 1 ∷ []) 5_700_000 5_700_000 5_700_000 0 0 0
-    ∷ planned surpluses ⇒ shows (3 ∷ 0 ∷ []) 2_595_000 682_000 2_931_548 3 0 2
     ∷ planned exactMinimum ⇒ shows (0 ∷ 0 ∷ 1 ∷ []) 32_940_000 28_620_000 45_092_745 1 0 1
     ∷ planned twicePicked ⇒ shows (0 ∷ 1 ∷ 1 ∷ 1 ∷ []) 21_000_000 21_000_000 21_005_600 3 2 0
     ∷ planned roundedRatios ⇒ shows (1 ∷ 0 ∷ []) 65 63 128 1 0 1

@@ -24,7 +24,6 @@ use Rattle.rules.specs.Survey
 use Rattle.rules.specs.Lists
 use Rattle.rules.specs.Writer
 
-infix 70 _⇒_
 -- after the calls: what is shown, or what segment 1 comes to under strategy 1 for distress 1: its rating in year 0; ratings, and survivals, in
 -- years 1 to T; the effect
 pub data Case : Type 0 where
@@ -96,6 +95,7 @@ unfolding
     Lists.refusalOf Lists.altered Lists.districtFrom Lists.districtAfter Lists.lentTo Lists.outcomeOf Lists.unitFrom Lists.unitAfter
 resultOf c = resultIn c (Lists.unitAfter (callsOf c))
 
+infix 70 _⇒_
 -- a case, and what it comes to as worked elsewhere
 pub data WorkedCase : Type 0 where
   _⇒_ : Case → List ℤ → WorkedCase

@@ -34,7 +34,9 @@ pub record Segment : Type 0 where
 -- a district; N, S, D, Y and R follow from how many there are of each
 pub record Roads : Type 0 where
   pub years : ℕ
+  -- of each resource, in whole units
   pub limits : List ℕ
+  -- of each distress type, its greatest rating
   pub greatest : List ℕ
   pub strategies : List Strategy
   pub pavements : List Pavement

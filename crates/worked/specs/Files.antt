@@ -1,11 +1,10 @@
--- Files given back: what is exported of the card and of a fresh unit, what a buffer keeps, and the longest file.
+-- Files given back: what is exported of the card and of a fresh unit, and what a buffer keeps.
 use Prim.Native.Nat.{ℕ}
 use mathlib.Core.Path.{_≡_, refl}
 use mathlib.Core.List.{List, [], _∷_}
-use lib.ListN.{length, replicate}
+use lib.ListN.{replicate}
 use Rattle.rules.specs.District.{freshDistrict}
-use Rattle.rules.specs.File.{encode, longestFile}
-use Rattle.rules.specs.Format.{mostCounts}
+use Rattle.rules.specs.File.{encode}
 use Rattle.rules.specs.Calls.{districtIn, exportOf}
 use Rattle.rules.specs.Lists.{Load, unitAfter}
 use Rattle.rules.specs.Results.{resultOf}
@@ -28,8 +27,3 @@ pub given-back :
     ≡ card ∷ freshFile ∷ replicate 86 255 ∷ []
 unfolding resultOf
 given-back = refl
-
--- the file of the greatest counts; that none is longer is file/specs/Trips
-pub longest : length (encode mostCounts) ≡ longestFile
-unfolding resultOf
-longest = refl
