@@ -10,7 +10,7 @@ use crate::tables::Tables;
 /// What a show gives.
 #[derive(Clone, Debug, PartialEq, Eq)]
 pub struct Plan {
-    /// Strategy number for each of 64 places, 0 for nothing and past N.
+    /// 64 strategy numbers; 0 is nothing, also for a segment that there is not.
     pub strategies: [u8; MOST_SEGMENTS],
     pub total: i64,
     pub total_after_phase_two: i64,

@@ -1,5 +1,5 @@
--- Demand 1: of a unit in any state, a call that meets no condition for a refusal gives a full result, and any other gives the first condition's
--- number and changes nothing.
+-- Demand 1: of a unit in any state, a call that nothing refuses gives a full result, and any other gives the number of the first refusal and changes
+-- nothing.
 use Prim.Native.Nat.{ℕ, zero, suc}
 use mathlib.Core.List.{List, []}
 use mathlib.Core.Path.{_≡_, refl}

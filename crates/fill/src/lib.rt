@@ -74,7 +74,7 @@ fn fill_limits(d: &District, table: &mut [u64])
     }
 }
 
-// The share that a use is of a limit, in ten-thousandths, rounded up; 0 where the limit is 0.
+// The share that a use is of a limit, in ten-thousandths, rounded up; none of a limit of 0.
 fn share(u: u64, l: u64) -> u64
     requires { ⌜ (u < 2 ^ 41) × (l < 2 ^ 47) ⌝ }
     ensures { λ s. ⌜ s ≡ divideUp (u * 10000) l ⌝ }

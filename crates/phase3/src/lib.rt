@@ -1,4 +1,4 @@
-// Phase 3: the first change that raises the total and stays within the limits is made, and the search begins again.
+// Phase 3: changes of one segment or two that raise the total and keep the limits, until none is left.
 ghost use mathlib.Core.Path.{_≡_};
 ghost use Prim.Native.Nat.{ℕ, _-_, _^_, _<_, _≤_, max};
 ghost use mathlib.Core.Bool.{true};
@@ -180,7 +180,7 @@ fn counts_two(
     tables::room(z.resources, uses, sums, given, i, a, k, b)
 }
 
-// The first single change that counts: by segment, then by strategy, with nothing as 0.
+// The first single change that counts, segment by segment: nothing before strategy 1, and so on up.
 fn first_one(
     z: Size,
     benefits: &[u64],
@@ -208,7 +208,7 @@ fn first_one(
     found
 }
 
-// The first pair that counts: by first segment, second (the higher), first strategy, second strategy. Segments and
+// The first pair that counts, ordered by the lower segment, the higher one, and then the strategy of each. Segments and
 // first strategies with which no pair can count are passed over.
 fn first_two(
     z: Size,
@@ -301,8 +301,7 @@ fn make_change(z: Size, uses: &[u64], choice: &mut [usize], sums: &mut [u64], x:
     }
 }
 
-// Phase 3: the first change that counts is made and the search begins again, until there is none. Returns how many
-// changes were made.
+// Makes the first change that counts, and starts anew, until no change counts. Returns how many were made.
 pub fn improve(
     z: Size,
     benefits: &[u64],

@@ -1,4 +1,5 @@
-// Plans a district: reads its file from standard input, at most 4,096 bytes, and prints the programme, or the refusal.
+// Plans the district whose file comes from standard input, and prints the programme, or the refusal. No more than
+// 4,096 bytes are read.
 ghost use Prim.Native.Nat.{_≤_};
 ghost use lib.ListN.{length};
 ghost use Rattle.base.specs.Text.{Put};

@@ -35,7 +35,7 @@ returned d Show = 0
 
 -- of a unit in any state and any call; the programme that goes with the district held is Calls.unitOf's, and Demand 2 has it after any list
 pub record Settled (u : Unit) (c : Call) : Type 0 where
-  -- a call that meets no condition for a refusal gives a full result, and the unit then holds the district as the call alters it;
+  -- a call that nothing refuses gives a full result, and the unit then holds the district as the call alters it;
   pub accepted : refusalOf (u .district) c ≡ 0 → outcomeOf u c .answer ≡ Accepted (returned (u .district) c)
   pub held : refusalOf (u .district) c ≡ 0 → outcomeOf u c .unit .district ≡ altered (u .district) c
   -- any other gives the number of the first condition, and unit and lent bytes stay as they were

@@ -1,4 +1,4 @@
-// The planning unit's calls. A unit goes in by value and comes back by value. Each call settles every input by itself:
+// The planning unit's calls. A call takes a unit and gives one back. It settles every input by itself:
 // its contract is an equality with the rules, refusals included, and has no `requires`.
 ghost use mathlib.Core.Path.{_≡_};
 ghost use Rattle.rules.specs.Calls.{freshUnit, unitOf, answered, loadOf, alterOf, exportOf, showOf};
