@@ -9,7 +9,7 @@ use lib.ListN.{length}
 use mathlib.Core.Bool.{Bool, true, false, _&&_}
 use Rattle.base.specs.Over.{between}
 use Rattle.rules.specs.District.{District}
-use Rattle.rules.specs.Answers.{unless, answerOf, accepting}
+use Rattle.rules.specs.Answers.{noSuchPoints, unless, answerOf, accepting}
 use Rattle.rules.specs.Calls.{unitOf, answered, loadOf, alterOf, exported, exportOf}
 use Rattle.rules.specs.Lists.{Load, Alter, ExportTo, Show, refusalOf, altered, Outcome, outcomeOf, lentTo, replied, written}
 use Rattle.rules.specs.Demands.{returned, EveryAnswer, EveryPoints}
@@ -73,7 +73,7 @@ every-points code degree extent seal =
       refused = λ some. go (leb 1 (blockOf code seal) && (leb degree 3 && between 1 3 extent)) refl some;
     }
   where
-    go : (t : Bool) → (leb 1 (blockOf code seal) && (leb degree 3 && between 1 3 extent)) ≡ t → ¬ (unless t 10 0 ≡ 0)
-        → answerOf (unless t 10 0) (pointsOf (blockOf code seal) degree extent) ≡ Refused 10
+    go : (t : Bool) → (leb 1 (blockOf code seal) && (leb degree 3 && between 1 3 extent)) ≡ t → ¬ (unless t noSuchPoints 0 ≡ 0)
+        → answerOf (unless t noSuchPoints 0) (pointsOf (blockOf code seal) degree extent) ≡ Refused noSuchPoints
     go true e some = absurd (some refl)
     go false e some = refl

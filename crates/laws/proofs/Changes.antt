@@ -14,6 +14,7 @@ use Rattle.base.proofs.Choice.{and-both}
 use Rattle.base.proofs.Sums.{sum-le}
 use Rattle.base.proofs.Search.{only-some, first-some, orElse-some}
 use Rattle.base.proofs.Best.{best-most}
+use Rattle.rules.specs.District.{mostSegments}
 use Rattle.rules.specs.Table.{Table}
 use Rattle.rules.specs.Phases.{strategyAt, give, isCandidate, greater, chosenBenefit, total, within, topCandidate, start, another, counts, single, pair, firstStrategy, singlesOf, firstSingle, pairsWith, pairsOf, pairsFrom, firstPair, change}
 use Rattle.laws.specs.Tables.{Allowed}
@@ -103,7 +104,7 @@ module _ (t : Table) (c : List ℕ) where
 
 -- ---- no programme has a greater total than that of the best candidates, which bounds the changes
 
-module _ (t : Table) (few : t .segments ≤ 64) (nothing : (i : ℕ) → 1 ≤ i → i ≤ t .segments → t .benefit i 0 ≡ 0) where
+module _ (t : Table) (few : t .segments ≤ mostSegments) (nothing : (i : ℕ) → 1 ≤ i → i ≤ t .segments → t .benefit i 0 ≡ 0) where
   top-most : (i j : ℕ) → 1 ≤ i → i ≤ t .segments → j ≤ t .strategies → t .benefit i j ≤ t .benefit i (topCandidate t i)
   unfolding topCandidate isCandidate greater
   top-most i zero l h s = omega (arith, nothing i l h)
@@ -122,5 +123,5 @@ module _ (t : Table) (few : t .segments ≤ 64) (nothing : (i : ℕ) → 1 ≤ i
   total-le c n = sum-le (t .segments) (chosenBenefit t c) (chosenBenefit t (start t)) (chosen-le c n)
 
 -- of a table and a programme that say this of every place
-pub total-most : (t : Table) (nothing : (i : ℕ) → t .benefit i 0 ≡ 0) (c : List ℕ) → t .segments ≤ 64 → ((k : ℕ) → strategyAt c k ≤ t .strategies) → total t c ≤ total t (start t)
+pub total-most : (t : Table) (nothing : (i : ℕ) → t .benefit i 0 ≡ 0) (c : List ℕ) → t .segments ≤ mostSegments → ((k : ℕ) → strategyAt c k ≤ t .strategies) → total t c ≤ total t (start t)
 total-most t nothing c few numbers = total-le t few (λ i l h. nothing i) c (λ i l h. numbers i)

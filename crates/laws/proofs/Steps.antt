@@ -11,6 +11,7 @@ use Rattle.base.specs.Over.{best}
 use Rattle.base.proofs.Choice.{and-both}
 use Rattle.base.proofs.Best.{best-ind, best-le}
 use Rattle.base.proofs.Listed.{listed-at, listed-length}
+use Rattle.rules.specs.District.{mostSegments}
 use Rattle.rules.specs.Table.{Table}
 use Rattle.rules.specs.Phases.{strategyAt, give, isCandidate, greater, topCandidate, start, within, pulls, lesserRatio, weakest, comesAfter, nextCandidate, stepDown, step}
 use Rattle.laws.specs.Tables.{Allowed, OfCandidates}
@@ -36,13 +37,13 @@ module _ (t : Table) where
   unfolding nextCandidate comesAfter
   next-allowed i a = allowed-best i (comesAfter t i a) (greater t i) (λ k e. and-both (isCandidate t i k) _ e .0)
 
-  pub start-at : (i : ℕ) → 1 ≤ i → i ≤ 64 → strategyAt (start t) i ≡ topCandidate t i
+  pub start-at : (i : ℕ) → 1 ≤ i → i ≤ mostSegments → strategyAt (start t) i ≡ topCandidate t i
   unfolding start
-  start-at i l h = let e : 1 + (i - 1) ≡ i = omega arith in listed-at 64 1 (i - 1) (topCandidate t) (omega arith) ∙ ap (topCandidate t) e
+  start-at i l h = let e : 1 + (i - 1) ≡ i = omega arith in listed-at mostSegments 1 (i - 1) (topCandidate t) (omega arith) ∙ ap (topCandidate t) e
 
-  pub start-allowed : t .segments ≤ 64 → OfCandidates t (start t)
+  pub start-allowed : t .segments ≤ mostSegments → OfCandidates t (start t)
   unfolding start
-  start-allowed few = record { places = listed-length (topCandidate t) 64 1; each = λ i l h. rw (start-at i l (omega arith)) (top-allowed i) }
+  start-allowed few = record { places = listed-length (topCandidate t) mostSegments 1; each = λ i l h. rw (start-at i l (omega arith)) (top-allowed i) }
 
   -- ---- what a step is
 

@@ -9,7 +9,7 @@ use lib.ListN.{length, length-append}
 use borrow.Author.Tests.{leb-true}
 use Rattle.base.specs.Text.{text}
 use Rattle.listing.specs.Listing.{failed}
-use Rattle.rules.specs.Answers.{unless, answerOf}
+use Rattle.rules.specs.Answers.{bufferTooShort, unless, answerOf}
 use Rattle.rules.specs.Calls.{Export, exportRefusal, exported, exportOf}
 use Rattle.rules.specs.File.{encode}
 use Rattle.rules.specs.declared.Answer.{Answer}
@@ -23,11 +23,11 @@ use Rattle.panel.specs.Console.{said, after, Says, Leads, other, Puts}
 use Rattle.panel.specs.declared.Said.{Said}
 
 -- an export that is accepted has room
-accepted-fits : (size room n : ℕ) → answerOf (unless (leb size room) 9 0) size ≡ Accepted n → n ≤ room
+accepted-fits : (size room n : ℕ) → answerOf (unless (leb size room) bufferTooShort 0) size ≡ Accepted n → n ≤ room
 unfolding answerOf
 accepted-fits size room n e = go (leb size room) refl e
   where
-    go : (t : Bool) → leb size room ≡ t → answerOf (unless t 9 0) size ≡ Accepted n → n ≤ room
+    go : (t : Bool) → leb size room ≡ t → answerOf (unless t bufferTooShort 0) size ≡ Accepted n → n ≤ room
     go true l e =
         let same : size ≡ n = cc in
         omega (arith, leb-true size room l)

@@ -9,12 +9,13 @@ use lib.IntN.{pos}
 use lib.Signed.{_≤ℤ_}
 use lib.ListN.{getD, length, drop}
 use Rattle.base.specs.Over.{all}
-use Rattle.rules.specs.District.{District, segmentsOf, strategiesOf}
+use Rattle.rules.specs.District.{District, mostSegments, segmentsOf, strategiesOf}
 use Rattle.rules.specs.File.{encode}
 use Rattle.rules.specs.Rating.{permitted, withinLimits, totalOf}
 use Rattle.rules.specs.Table.{Table, tableOf}
 use Rattle.rules.specs.Phases.{strategyAt, within, pickUp, change}
 use Rattle.rules.specs.Plan.{reduced, filled, improved, programmeOf}
+use Rattle.rules.specs.Answers.{noSuchPoints}
 use Rattle.rules.specs.Survey.{blockOf, pointsOf, surveyRefusal, surveyOf}
 use Rattle.rules.specs.Calls.{loadRefusal, loadOf, Export, exportOf, showOf}
 use Rattle.rules.specs.Lists.{Call, Load, Alter, ExportTo, Show, refusalOf, altered, lentTo, outcomeOf, districtAfter, unitAfter}
@@ -41,12 +42,12 @@ pub record Settled (u : Unit) (c : Call) : Type 0 where
       (n : ℕ) → refusalOf (u .district) c ≡ suc n
       → outcomeOf u c ≡ record { answer = Refused (suc n); unit = u; bytes = lentTo c }
 
--- survey points, which takes no unit: the table's entry, or refusal 10
+-- survey points, which takes no unit: the table's entry, or its refusal
 pub record PointsSettled (code degree extent seal : ℕ) : Type 0 where
   pub accepted :
       surveyRefusal code degree extent seal ≡ 0
       → surveyOf code degree extent seal ≡ Accepted (pointsOf (blockOf code seal) degree extent)
-  pub refused : ¬ (surveyRefusal code degree extent seal ≡ 0) → surveyOf code degree extent seal ≡ Refused 10
+  pub refused : ¬ (surveyRefusal code degree extent seal ≡ 0) → surveyOf code degree extent seal ≡ Refused noSuchPoints
 
 abbrev pub EveryAnswer : Type 0
 EveryAnswer = (u : Unit) (c : Call) → Settled u c
@@ -127,7 +128,7 @@ pub record Sound (d : District) (p : Programme) : Type 0 where
 -- what else "The calls" says of a show
 pub record Shown (d : District) (p : Programme) : Type 0 where
   pub total : totalOf d (strategyIn p) ≡ pos (p .total)
-  pub places : length (p .strategies) ≡ 64
+  pub places : length (p .strategies) ≡ mostSegments
   pub past : (i : ℕ) → segmentsOf d < i → strategyIn p i ≡ 0
   pub changes : p .«after_pickups» + p .changes ≤ p .total
 

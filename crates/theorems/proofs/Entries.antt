@@ -9,7 +9,7 @@ use lib.Signed.{ltZ}
 use Rattle.base.specs.Choice.{pick}
 use Rattle.base.proofs.Choice.{and-both, between-yes}
 use Rattle.base.proofs.All.{all-at}
-use Rattle.rules.specs.District.{District, segmentsOf, strategiesOf, resourcesOf}
+use Rattle.rules.specs.District.{District, mostSegments, segmentsOf, strategiesOf, resourcesOf}
 use Rattle.rules.specs.Rating.{benefit, usage, scaledLimit, permitted, fitsLimit, fitsAlone, candidate}
 use Rattle.rules.specs.Table.{has, candidateBenefit, usageIn, limitIn, tableOf}
 use Rattle.laws.specs.Tables.{FitAlone}
@@ -72,7 +72,7 @@ module _ (d : District) where
         above (negsuc n) e = absurd (true≢false (sym e))
 
   -- ---- what the laws of the phases assume
-  pub table-fit : segmentsOf d ≤ 64 → FitAlone (tableOf d)
+  pub table-fit : segmentsOf d ≤ mostSegments → FitAlone (tableOf d)
   unfolding tableOf usage
   table-fit few =
       record {

@@ -16,6 +16,7 @@ use Rattle.base.proofs.Sums.{sum-le, sum-lt, sum-bound, sum-part, sum-mul-right
 use Rattle.base.proofs.Best.{best-ind, best-some}
 use Rattle.base.proofs.All.{all-true}
 use Rattle.base.proofs.Runs.{run-ends, run-count}
+use Rattle.rules.specs.District.{mostSegments}
 use Rattle.rules.specs.Table.{Table}
 use Rattle.rules.specs.Phases.{strategyAt, isCandidate, greater, chosenUsage, used, holds, within, chosenShare, surplus, pullBy, pull, pulls, lesserRatio, weakest, comesAfter, nextCandidate, topCandidate, start, step, phase1}
 use Rattle.laws.specs.Tables.{FitAlone, Allowed, OfCandidates}
@@ -241,11 +242,11 @@ module _ (t : Table) (fit : FitAlone t) where
     none-there i j past (inr w) = absurd (omega (arith, no-benefit i j past))
 
     start-past : PastNothing t (start t)
-    start-past i l past = known (leb i 64) refl
+    start-past i l past = known (leb i mostSegments) refl
       where
-        known : (v : Bool) → leb i 64 ≡ v → strategyAt (start t) i ≡ 0
-        known true e = start-at t i l (leb-true i 64 e) ∙ none-there i (topCandidate t i) past (top-allowed t i)
-        known false e = List·getD-eq-default (start t) 0 (omega (arith, leb-false i 64 e, start-allowed t (fit .segments) .places))
+        known : (v : Bool) → leb i mostSegments ≡ v → strategyAt (start t) i ≡ 0
+        known true e = start-at t i l (leb-true i mostSegments e) ∙ none-there i (topCandidate t i) past (top-allowed t i)
+        known false e = List·getD-eq-default (start t) 0 (omega (arith, leb-false i mostSegments e, start-allowed t (fit .segments) .places))
 
     pub phase1-past : PastNothing t (phase1 t (start t) .last)
     phase1-past = gives-past t (start t) (phase1 t (start t) .last) phase1-gives start-past

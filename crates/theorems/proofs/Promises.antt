@@ -1,12 +1,12 @@
 -- What demand 3 and "The calls" promise of the programme of every district. Of the file's ranges it takes the most segments alone. Assumes
 -- nothing.
-use Prim.Native.Nat.{ℕ, _-_, _≤_}
+use Prim.Native.Nat.{ℕ, _-_, _*_, _≤_}
 use mathlib.Core.Path.{_≡_, _∙_}
 use native.Mathlib.Nat.{mul-le-mul}
 use native.Mathlib.Omega.{arith}
 use lib.IntN.{pos}
 use lib.Signed.{_≤ℤ_}
-use Rattle.rules.specs.District.{District, segmentsOf, strategiesOf}
+use Rattle.rules.specs.District.{District, mostSegments, mostStrategies, segmentsOf, strategiesOf}
 use Rattle.rules.specs.Rating.{totalOf}
 use Rattle.rules.specs.Table.{tableOf}
 use Rattle.rules.specs.Phases.{strategyAt, chosenBenefit, total, within}
@@ -23,7 +23,7 @@ use Rattle.theorems.proofs.Duality.{ceiling-bounds}
 use Rattle.theorems.proofs.Rivals.{neighbour}
 use Rattle.theorems.proofs.Programmes as programmes
 
-module _ (d : District) (few : segmentsOf d ≤ 64) where
+module _ (d : District) (few : segmentsOf d ≤ mostSegments) where
   fit : FitAlone (tableOf d)
   fit = table-fit d few
 
@@ -75,7 +75,7 @@ module _ (d : District) (few : segmentsOf d ≤ 64) where
         changes = omega (arith, programmes.few-changes (tableOf d) fit);
       }
 
-  pub few-steps : strategiesOf d ≤ 11 → programmeOf (tableOf d) .steps ≤ 704
+  pub few-steps : strategiesOf d ≤ mostStrategies → programmeOf (tableOf d) .steps ≤ mostSegments * mostStrategies
   unfolding programmeOf tableOf
   few-steps s = omega (arith, programmes.few-steps (tableOf d) fit, mul-le-mul few s)
 

@@ -4,7 +4,8 @@ use mathlib.Core.Path.{_≡_, refl}
 use mathlib.Core.List.{List, [], _∷_}
 use lib.ListN.{length, replicate}
 use Rattle.rules.specs.District.{freshDistrict}
-use Rattle.rules.specs.File.{encode}
+use Rattle.rules.specs.File.{encode, longestFile}
+use Rattle.rules.specs.Format.{mostCounts}
 use Rattle.rules.specs.Calls.{districtIn, exportOf}
 use Rattle.rules.specs.Lists.{Load, unitAfter}
 use Rattle.rules.specs.Results.{resultOf}
@@ -29,6 +30,6 @@ unfolding resultOf
 given-back = refl
 
 -- the file of the greatest counts; that none is longer is file/specs/Trips
-pub longest : length (encode (64 ∷ 11 ∷ 10 ∷ 9 ∷ 4 ∷ 16 ∷ [])) ≡ 3_788
+pub longest : length (encode mostCounts) ≡ longestFile
 unfolding resultOf
 longest = refl

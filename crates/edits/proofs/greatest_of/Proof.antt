@@ -3,13 +3,13 @@ use borrow.Author.Needs.{needs}
 use Rattle.edits.proofs.Laws.{past}
 use Prim.Native.Nat.{_+_, _-_}
 use native.Mathlib.Omega.{arith}
-use Rattle.rules.specs.District.{greatestOf}
+use Rattle.rules.specs.District.{greatestPlace, greatestOf}
 use Rattle.edits.proofs.greatest_of.Statement.{statement}
 use Rattle.edits.proofs.greatest_of.Tie as tie
 
 returns : tie.Need-returns
 unfolding greatestOf
-returns c = past (c .before .args .d) (22 + (c .before .args .distress - 1)) (omega arith)
+returns c = past (c .before .args .d) (greatestPlace (c .before .args .distress)) (omega arith)
 
 returns-2 : tie.Need-returns-2
 unfolding greatestOf
