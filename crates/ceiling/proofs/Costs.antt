@@ -46,37 +46,36 @@ module _ (t : Table) (p : List ℕ) (r q : ℕ) (l : 1 ≤ r) (h : r ≤ t .reso
 pub prices-next : (p : List ℕ) (r : ℕ) {x : ℕ} → x ≡ sum r (priceAt p) → x + getD p r 0 ≡ sum (r + 1) (priceAt p)
 prices-next p r e = let at : r + 1 - 1 ≡ r = omega arith in omega (arith, sum-next r (priceAt p) e, ap (λ (k : ℕ). getD p k 0) at)
 
-pub prices-small : (p : List ℕ) → Prices p → (n : ℕ) → sum n (priceAt p) ≤ n * 2 ^ 41
-prices-small p prices n = sum-bound n (2 ^ 41) (priceAt p) (λ k l h. omega (arith, prices .small (k - 1)))
+pub prices-small : {p : List ℕ} → Prices p → (n : ℕ) → sum n (priceAt p) ≤ n * 2 ^ 41
+prices-small {p} prices n = sum-bound n (2 ^ 41) (priceAt p) (λ k l h. omega (arith, prices .small (k - 1)))
 
 -- ---- over arrays
 
-module _ (z : Size) (b d : List ℕ) where
-  pub share-is : (i j r : ℕ) → downShare (shown z b d) i j r ≡ getD d (useEntry i j r) 0
-  unfolding downShare
-  share-is i j r = mul-div-cancel (getD d (useEntry i j r) 0) (omega arith)
+pub share-is : (z : Size) (b d : List ℕ) (i j r : ℕ) → downShare (shown z b d) i j r ≡ getD d (useEntry i j r) 0
+unfolding downShare
+share-is z b d i j r = mul-div-cancel (getD d (useEntry i j r) 0) (omega arith)
 
-  module _ (sized : Sized z b d) where
-    -- 16 × 2 ^ 41 × 10,000
-    cost-small : (p : List ℕ) → Prices p → (i j : ℕ) → In z i j → 0 < getD b (entry i j) 0 → cost (shown z b d) p i j ≤ 351_843_720_888_320_000
-    unfolding cost costBy
-    cost-small p prices i j inside worth =
-        let each : (k : ℕ) → 1 ≤ k → k ≤ z .resources → costBy (shown z b d) p i j k ≤ 21_990_232_555_520_000 =
-        λ k l h.
-        let low : priceAt p k ≤ 2 ^ 41 = omega (arith, prices .small (k - 1)) in
-        rw (share-is i j k) (mul-le-mul low (sized .share-small i j k inside worth l h)) in
-        omega (arith, sum-bound (z .resources) 21_990_232_555_520_000 (costBy (shown z b d) p i j) each)
+module _ {z : Size} {b d : List ℕ} (sized : Sized z b d) where
+  -- 16 × 2 ^ 41 × 10,000
+  cost-small : {p : List ℕ} → Prices p → {i j : ℕ} → In z i j → 0 < getD b (entry i j) 0 → cost (shown z b d) p i j ≤ 351_843_720_888_320_000
+  unfolding cost costBy
+  cost-small {p} prices {i} {j} inside worth =
+      let each : (k : ℕ) → 1 ≤ k → k ≤ z .resources → costBy (shown z b d) p i j k ≤ 21_990_232_555_520_000 =
+      λ k l h.
+      let low : priceAt p k ≤ 2 ^ 41 = omega (arith, prices .small (k - 1)) in
+      rw (share-is z b d i j k) (mul-le-mul low (sized .share-small i j k inside worth l h)) in
+      omega (arith, sum-bound (z .resources) 21_990_232_555_520_000 (costBy (shown z b d) p i j) each)
 
-    pub margin-small : (p : List ℕ) (i : ℕ) → margin (shown z b d) p i ≤ 2 ^ 40
-    unfolding margin net
-    margin-small p i =
-        most-bound (z .strategies) (2 ^ 40) (net (shown z b d) p i)
-        (λ j l h. omega (arith, sub-le (getD b (entry i j) 0) (cost (shown z b d) p i j), sized .benefit-small (entry i j)))
+  pub margin-small : (p : List ℕ) (i : ℕ) → margin (shown z b d) p i ≤ 2 ^ 40
+  unfolding margin net
+  margin-small p i =
+      most-bound (z .strategies) (2 ^ 40) (net (shown z b d) p i)
+      (λ j l h. omega (arith, sub-le (getD b (entry i j) 0) (cost (shown z b d) p i j), sized .benefit-small (entry i j)))
 
-    pub ceiling-small : (p : List ℕ) → Prices p → ceilingAt (shown z b d) p < 2 ^ 62
-    unfolding ceilingAt
-    ceiling-small p prices =
-        omega (arith, prices-small p prices (z .resources), sum-bound (z .segments) (2 ^ 40) (margin (shown z b d) p) (λ k l h. margin-small p k))
+  pub ceiling-small : {p : List ℕ} → Prices p → ceilingAt (shown z b d) p < 2 ^ 62
+  unfolding ceilingAt
+  ceiling-small {p} prices =
+      omega (arith, prices-small prices (z .resources), sum-bound (z .segments) (2 ^ 40) (margin (shown z b d) p) (λ k l h. margin-small p k))
 
 -- ---- in a trial
 
@@ -84,14 +83,14 @@ module _ (z : Size) (b d : List ℕ) where
 abbrev pub Summed : Table → List ℕ → ℕ → ℕ → Type 0
 Summed t p i x = x ≡ 10_000 * sum (t .resources) (priceAt p) + sum i (margin t p)
 
-module _ (z : Size) (b d p : List ℕ) (r price : ℕ) (m : Trial z b d p r price) where
+module _ {z : Size} {b d p : List ℕ} {r price : ℕ} (m : Trial z b d p r price) where
   abbrev new : List ℕ
   new = set p (r - 1) price
 
   abbrev t : Table
   t = shown z b d
 
-  module _ (i j : ℕ) (inside : In z i j) (worth : 0 < getD b (entry i j) 0) {c : ℕ} (old : c ≡ cost t p i j) where
+  module _ {i j : ℕ} (inside : In z i j) (worth : 0 < getD b (entry i j) 0) {c : ℕ} (old : c ≡ cost t p i j) where
     abbrev share : ℕ
     share = getD d (useEntry i j r) 0
 
@@ -104,12 +103,12 @@ module _ (z : Size) (b d p : List ℕ) (r price : ℕ) (m : Trial z b d p r pric
     move-fits =
         let low : price ≤ 2 ^ 41 = omega (arith, m .small) in
         let more = mul-le-mul low (m .sized .share-small i j r inside worth (m .resource-from) (m .resource-to)) in
-        (omega (arith, cost-small z b d (m .sized) p (m .prices) i j inside worth), omega (arith, change))
+        (omega (arith, cost-small (m .sized) (m .prices) inside worth), omega (arith, change))
 
     pub move-is : {x : ℕ} → x ≡ c + price * share - priceAt p r * share → x ≡ cost t new i j
     move-is e = omega (arith, change)
 
-  -- a strategy that gains no more than the best so far has left changes nothing
+  -- a strategy whose benefit is no more than what the best so far leaves changes nothing
   pub margin-passes : (i j : ℕ) {best : ℕ} → best ≡ most j (net t new i) → getD b (entry i (j + 1)) 0 ≤ best → best ≡ most (j + 1) (net t new i)
   unfolding net
   margin-passes i j {best} e low =
@@ -122,7 +121,7 @@ module _ (z : Size) (b d p : List ℕ) (r price : ℕ) (m : Trial z b d p r pric
   pub whole-fits : {x : ℕ} → x ≡ 10_000 * sum (z .resources) (priceAt p) → (x + price * 10_000 < 2 ^ 64) × (priceAt p r * 10_000 ≤ x + price * 10_000)
   whole-fits e =
       let room : z .resources ≤ length p = omega (arith, m .prices .places, m .sized .resources-to) in
-      (omega (arith, m .small, m .sized .resources-to, prices-small p (m .prices) (z .resources)), omega (arith, prices-moved t p r price (m .resource-from) (m .resource-to) room))
+      (omega (arith, m .small, m .sized .resources-to, prices-small (m .prices) (z .resources)), omega (arith, prices-moved t p r price (m .resource-from) (m .resource-to) room))
 
   pub summed-none : {x y : ℕ} → x ≡ 10_000 * sum (z .resources) (priceAt p) → y ≡ x + price * 10_000 - priceAt p r * 10_000 → Summed t new 0 y
   unfolding sum
@@ -143,7 +142,7 @@ module _ (z : Size) (b d p : List ℕ) (r price : ℕ) (m : Trial z b d p r pric
 
 -- ---- costs that are brought to new prices one after another
 
-module _ (z : Size) (b d new old c : List ℕ) where
+module _ {z : Size} {b d new old c : List ℕ} where
   pub costs-start : Costs z b d old old 0 c → Costs z b d new old 0 c
   costs-start h = record { places = h .places; costs = λ i j inside worth. h .costs i j inside worth ∙ rw (le-ltb (entry i j) 0 (omega arith)) }
 
@@ -160,10 +159,10 @@ module _ (z : Size) (b d new old c : List ℕ) where
   costs-past {e} {f} h to from =
       record { places = h .places; costs = λ i j inside worth. h .costs i j inside worth ∙ rw (leb-same (suc (entry i j)) e (suc (entry i j)) f (to i j inside) (from i j inside)) }
 
-  pub costs-held : (e : ℕ) → Costs z b d new old e c → (i j : ℕ) → In z i j → 0 < getD b (entry i j) 0 → e ≤ entry i j → getD c (entry i j) 0 ≡ cost (shown z b d) old i j
-  costs-held e h i j inside worth le = h .costs i j inside worth ∙ rw (le-ltb (entry i j) e le)
+  pub costs-held : {e : ℕ} → Costs z b d new old e c → {i j : ℕ} → In z i j → 0 < getD b (entry i j) 0 → e ≤ entry i j → getD c (entry i j) 0 ≡ cost (shown z b d) old i j
+  costs-held {e} h {i} {j} inside worth le = h .costs i j inside worth ∙ rw (le-ltb (entry i j) e le)
 
-  module _ (i j : ℕ) (inside : In z i j) (few : z .strategies ≤ mostStrategies) (h : Costs z b d new old (entry i j) c) where
+  module _ {i j : ℕ} (inside : In z i j) (few : z .strategies ≤ mostStrategies) (h : Costs z b d new old (entry i j) c) where
     costs-next : (e : List ℕ) → length e ≡ entries → (0 < getD b (entry i j) 0 → getD e (entry i j) 0 ≡ cost (shown z b d) new i j) → ((k : ℕ) → (k ≡ entry i j → ⊥) → getD e k 0 ≡ getD c k 0) → Costs z b d new old (entry i (j + 1)) e
     costs-next e long here there = record { places = long; costs = λ k l in' worth. go k l in' worth (eqb (entry k l) (entry i j)) refl }
       where

@@ -9,7 +9,7 @@ use Rattle.tables.specs.declared.Size.{Size}
 use Rattle.ceiling.specs.Prices.{In, Priced, shown}
 use Rattle.ceiling.proofs.Costs.{share-is}
 
-module _ (z : Size) (b d : List ℕ) (t : Table) (h : Priced t z b d) where
+module _ {z : Size} {b d : List ℕ} {t : Table} (h : Priced t z b d) where
   same-cost : (p : List ℕ) (i j : ℕ) → In z i j → cost (shown z b d) p i j ≡ cost t p i j
   unfolding cost costBy
   same-cost p i j inside =

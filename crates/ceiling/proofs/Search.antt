@@ -132,20 +132,20 @@ after-room t n e q h =
 pub after-places : (t : Table) (n : ℕ) {p : List ℕ} → p ≡ pricesAfter t n → n ≤ 41 → length p ≡ mostResources
 after-places t n e h = rw e (after-raisable t n h .places)
 
-pub room-at : (t : Table) (s : ℕ) (p : List ℕ) (k : ℕ) {q : List ℕ} → Headroom s p → q ≡ pricedAll t s k p → Raisable (2 ^ 41 - 1) s k q
-room-at t s p k h e =
+pub room-at : (t : Table) {s : ℕ} {p : List ℕ} {k : ℕ} {q : List ℕ} → Headroom s p → q ≡ pricedAll t s k p → Raisable (2 ^ 41 - 1) s k q
+room-at t {s} {p} {k} h e =
     rw e (all-raisable t (2 ^ 41 - 1) s p (record { places = h .places; small = λ q. omega (arith, h .room q); room = λ q l. omega (arith, h .room q) }) k)
 
 pub raisable-prices : {s k : ℕ} {p : List ℕ} → Raisable (2 ^ 41 - 1) s k p → Prices p
 raisable-prices h = record { places = h .places; small = λ q. omega (arith, h .small q) }
 
-module _ (z : Size) (b d : List ℕ) where
-  pub raisable-trial : (p : List ℕ) (s r : ℕ) → Sized z b d → Raisable (2 ^ 41 - 1) s r p → r < z .resources → Trial z b d p (r + 1) (priceAt p (r + 1) + s)
-  raisable-trial p s r sized h l =
+module _ {z : Size} {b d : List ℕ} where
+  pub raisable-trial : {p : List ℕ} {s r : ℕ} → Sized z b d → Raisable (2 ^ 41 - 1) s r p → r < z .resources → Trial z b d p (r + 1) (priceAt p (r + 1) + s)
+  raisable-trial {p} {s} {r} sized h l =
       record { sized = sized; prices = raisable-prices h; resource-from = omega arith; resource-to = omega arith; small = omega (arith, h .room (r + 1 - 1) (omega arith)) }
 
-  pub trial-lower : {p : List ℕ} {r q : ℕ} (price : ℕ) → Trial z b d p r q → price ≤ q → Trial z b d p r price
-  trial-lower price m l =
+  pub trial-lower : {p : List ℕ} {r q price : ℕ} → Trial z b d p r q → price ≤ q → Trial z b d p r price
+  trial-lower m l =
       record { sized = m .sized; prices = m .prices; resource-from = m .resource-from; resource-to = m .resource-to; small = omega (arith, m .small) }
 
   -- ---- the start: all prices are 0, so nothing costs anything
@@ -173,4 +173,4 @@ module _ (z : Size) (b d : List ℕ) where
 
     pub start-value : {x : ℕ} → x ≡ min (ceilingAt (shown z b d) (set (replicate mostResources 0) 0 0)) (2 ^ 62) → x ≡ ceilingAt (shown z b d) (replicate mostResources 0)
     start-value e =
-        e ∙ min-eq-left (le-of-lt (ceiling-small z b d sized (replicate mostResources 0) (start-trial .prices)))
+        e ∙ min-eq-left (le-of-lt (ceiling-small sized (start-trial .prices)))

@@ -19,12 +19,12 @@ abbrev μ-loop : tie.MeasureT-loop
 trial-requires : tie.Need-trial-requires Inv-loop μ-loop
 trial-requires c κs =
     let a = c .before .before .before .before in
-    (start-trial _ _ _ (a .pre), start-costs _ _ _ (a .pre), omega arith)
+    (start-trial (a .pre), start-costs (a .pre), omega arith)
 
 loop-holds : tie.Need-loop-holds Inv-loop μ-loop
 loop-holds c =
     let a = c .before .before .before .before .before in
-    (omega arith, after-none _, record { costs = start-costs _ _ _ (a .pre); value = start-value _ _ _ (a .pre) (c .trial .ensures) })
+    (omega arith, after-none _, record { costs = start-costs (a .pre); value = start-value (a .pre) (c .trial .ensures) })
 
 slice-aggregate-price-all : tie.Need-slice-aggregate-price-all Inv-loop μ-loop
 slice-aggregate-price-all c =
@@ -46,7 +46,7 @@ unfolding ceiling
 returns c =
     λ t priced.
     let e : c .before .loop .k ≡ 41 = omega arith in
-    c .before .loop .inv .2 .value ∙ ap (ceilingAt _) (c .before .loop .inv .1 ∙ rw e) ∙ same-ceiling _ _ _ t priced
+    c .before .loop .inv .2 .value ∙ ap (ceilingAt _) (c .before .loop .inv .1 ∙ rw e) ∙ same-ceiling priced
 
 pub ceiling-of-spec : {M : Type 1} → statement M
 ceiling-of-spec =

@@ -29,8 +29,8 @@ moved-requires c κs =
     let j = c .before .before .before .before .before .before .loop .j in
     let inside : In (a .args .z) (a .args .i) (j + 1) = record { segment-from = omega arith; segment-to = omega arith; strategy-from = omega arith; strategy-to = omega arith } in
     let worth : 0 < getD (a .args .benefits .now) (entry (a .args .i) (j + 1)) 0 = omega arith in
-    let held = costs-held _ _ _ _ _ _ 0 (a .pre .1) (a .args .i) (j + 1) inside worth (omega arith) in
-    move-fits _ _ _ _ _ _ (a .pre .0) (a .args .i) (j + 1) inside worth held
+    let held = costs-held (a .pre .1) inside worth (omega arith) in
+    move-fits (a .pre .0) inside worth held
 
 loop-again : tie.Need-loop-again Inv-loop μ-loop
 loop-again c =
@@ -41,9 +41,9 @@ loop-again c =
       ⊎-elim
           (λ w.
           let worth : 0 < getD (a .args .benefits .now) (entry (a .args .i) (j + 1)) 0 = omega arith in
-          let held = costs-held _ _ _ _ _ _ 0 (a .pre .1) (a .args .i) (j + 1) inside worth (omega arith) in
-          w .6 ∙ margin-takes _ _ _ _ _ _ (a .pre .0) (a .args .i) j (c .before .before .before .before .loop .inv .1) (move-is _ _ _ _ _ _ (a .pre .0) (a .args .i) (j + 1) inside worth held (w .3 .ensures)) (w .4 .ensures) (w .5 .ensures))
-          (λ w. w .1 ∙ margin-passes _ _ _ _ _ _ (a .pre .0) (a .args .i) j (c .before .before .before .before .loop .inv .1) (w .0 .left))
+          let held = costs-held (a .pre .1) inside worth (omega arith) in
+          w .6 ∙ margin-takes (a .pre .0) (a .args .i) j (c .before .before .before .before .loop .inv .1) (move-is (a .pre .0) inside worth held (w .3 .ensures)) (w .4 .ensures) (w .5 .ensures))
+          (λ w. w .1 ∙ margin-passes (a .pre .0) (a .args .i) j (c .before .before .before .before .loop .inv .1) (w .0 .left))
           (c .if2 .came),
     )
 

@@ -22,7 +22,7 @@ price-one-requires : tie.Need-price-one-requires Inv-loop μ-loop
 price-one-requires c κs =
     let a = c .before .before .before .before .before .before .before .before .before in
     let l = c .before .before .before .before .loop in
-    (raisable-trial _ _ _ _ _ (l .r) (a .pre .0) (room-at _ _ _ (l .r) (a .pre .1) (l .inv .1)) (omega arith), l .inv .2)
+    (raisable-trial (a .pre .0) (room-at _ (a .pre .1) (l .inv .1)) (omega arith), l .inv .2)
 
 loop-again : tie.Need-loop-again Inv-loop μ-loop
 loop-again c =
@@ -33,7 +33,7 @@ same-length : tie.Need-same-length Inv-loop μ-loop
 same-length c =
     let a = c .before .before .before .before .before .before .before in
     let l = c .before .before .loop in
-    room-at _ _ _ (l .r) (a .pre .1) (l .inv .1) .places ∙ sym (a .pre .1 .places)
+    room-at _ (a .pre .1) (l .inv .1) .places ∙ sym (a .pre .1 .places)
 
 same-length-2 : tie.Need-same-length-2 Inv-loop μ-loop
 same-length-2 c = c .before .before .loop .inv .2 .costs .places ∙ sym (c .before .before .before .before .before .before .before .pre .2 .costs .places)

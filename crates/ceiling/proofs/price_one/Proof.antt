@@ -14,7 +14,7 @@ use Rattle.ceiling.proofs.price_one.Tie as tie
 trial-requires : tie.Need-trial-requires
 trial-requires c κs =
     let a = c .before .before .before .before .before .before .before .before in
-    (a .pre .0, a .pre .1 .costs, omega (arith, a .pre .1 .value, ceiling-small _ _ _ (a .pre .0 .sized) (a .args .prices .now) (a .pre .0 .prices)))
+    (a .pre .0, a .pre .1 .costs, omega (arith, a .pre .1 .value, ceiling-small (a .pre .0 .sized) (a .pre .0 .prices)))
 
 reprice-requires : tie.Need-reprice-requires
 reprice-requires c κs =
@@ -43,12 +43,12 @@ returns-2 c =
 trial-requires-2 : tie.Need-trial-requires-2
 trial-requires-2 c κs =
     let a = c .before .before .before .before .before .before .before .before .before .before .before .before .before in
-    (trial-lower _ _ _ _ (a .pre .0) (omega arith), a .pre .1 .costs, omega (arith, a .pre .1 .value, ceiling-small _ _ _ (a .pre .0 .sized) (a .args .prices .now) (a .pre .0 .prices)))
+    (trial-lower (a .pre .0) (omega arith), a .pre .1 .costs, omega (arith, a .pre .1 .value, ceiling-small (a .pre .0 .sized) (a .pre .0 .prices)))
 
 reprice-requires-2 : tie.Need-reprice-requires-2
 reprice-requires-2 c κs =
     let a = c .before .before .before .before .before .before .before .before .before .before .before .before .before .before .before .before .before in
-    (trial-lower _ _ _ _ (a .pre .0) (omega arith), a .pre .1 .costs)
+    (trial-lower (a .pre .0) (omega arith), a .pre .1 .costs)
 
 returns-3 : tie.Need-returns-3
 returns-3 c =

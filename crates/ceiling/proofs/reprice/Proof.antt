@@ -17,10 +17,10 @@ abbrev μ-loop : tie.MeasureT-loop
 μ-loop z benefits downs prices costs₀ r price i₀ costs i = z .segments - i
 
 loop-holds : tie.Need-loop-holds Inv-loop μ-loop
-loop-holds c = (omega arith, costs-start _ _ _ _ _ _ (c .before .before .before .before .pre .1))
+loop-holds c = (omega arith, costs-start (c .before .before .before .before .pre .1))
 
 reprice-segment-requires : tie.Need-reprice-segment-requires Inv-loop μ-loop
-reprice-segment-requires c κs = (c .before .before .before .before .before .before .before .before .before .pre .0, costs-past _ _ _ _ _ _ (c .before .before .before .before .loop .inv .1) (λ k n inside lt. omega arith) (λ k n inside lt. omega arith), omega arith, omega arith)
+reprice-segment-requires c κs = (c .before .before .before .before .before .before .before .before .before .pre .0, costs-past (c .before .before .before .before .loop .inv .1) (λ k n inside lt. omega arith) (λ k n inside lt. omega arith), omega arith, omega arith)
 
 loop-again : tie.Need-loop-again Inv-loop μ-loop
 loop-again c = (omega arith, c .before .before .reprice-segment .ensures)
@@ -34,7 +34,7 @@ same-length-2 c = c .before .before .loop .inv .1 .places ∙ sym (c .before .be
 returns : tie.Need-returns Inv-loop μ-loop
 returns c =
     let e : c .before .before .loop .i ≡ c .before .before .before .before .before .before .before .args .z .segments = omega arith in
-    (refl, costs-end _ _ _ _ _ _ (rw e at (c .before .before .loop .inv .1)) (c .before .before .before .before .before .before .before .pre .0 .sized .strategies))
+    (refl, costs-end (rw e at (c .before .before .loop .inv .1)) (c .before .before .before .before .before .before .before .pre .0 .sized .strategies))
 
 pub reprice-spec : {M : Type 1} → statement M
 reprice-spec =

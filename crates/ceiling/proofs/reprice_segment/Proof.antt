@@ -18,7 +18,7 @@ abbrev μ-loop : tie.MeasureT-loop
 μ-loop z benefits downs prices costs₀ r price i old j₀ costs j = z .strategies - j
 
 loop-holds : tie.Need-loop-holds Inv-loop μ-loop
-loop-holds c = (search needs, costs-past _ _ _ _ _ _ (c .before .before .before .before .before .pre .1) (λ k l inside lt. omega arith) (λ k l inside lt. omega arith))
+loop-holds c = (search needs, costs-past (c .before .before .before .before .before .pre .1) (λ k l inside lt. omega arith) (λ k l inside lt. omega arith))
 
 moved-requires : tie.Need-moved-requires Inv-loop μ-loop
 moved-requires c κs =
@@ -26,8 +26,8 @@ moved-requires c κs =
     let j = c .before .before .before .before .before .before .loop .j in
     let inside : In (a .args .z) (a .args .i) (j + 1) = record { segment-from = omega arith; segment-to = omega arith; strategy-from = omega arith; strategy-to = omega arith } in
     let worth : 0 < getD (a .args .benefits .now) (entry (a .args .i) (j + 1)) 0 = c .before .before .if2 .taken in
-    let held = costs-held _ _ _ _ _ _ (entry (a .args .i) (j + 1)) (c .before .before .before .before .before .before .loop .inv .1) (a .args .i) (j + 1) inside worth (omega arith) in
-    move-fits _ _ _ _ _ _ (a .pre .0) (a .args .i) (j + 1) inside worth held
+    let held = costs-held (c .before .before .before .before .before .before .loop .inv .1) inside worth (omega arith) in
+    move-fits (a .pre .0) inside worth held
 
 loop-again : tie.Need-loop-again Inv-loop μ-loop
 loop-again c =
@@ -38,14 +38,14 @@ loop-again c =
       search needs,
       ⊎-elim
           (λ w.
-          let held = costs-held _ _ _ _ _ _ (entry (a .args .i) (j + 1)) (c .before .before .before .before .loop .inv .1) (a .args .i) (j + 1) inside (w .0 .taken) (omega arith) in
-          rw (w .4) (costs-set _ _ _ _ _ _ (a .args .i) (j + 1) inside few (c .before .before .before .before .loop .inv .1) (omega arith) (move-is _ _ _ _ _ _ (a .pre .0) (a .args .i) (j + 1) inside (w .0 .taken) held (w .3 .ensures))))
-          (λ w. rw (w .1) (costs-skip _ _ _ _ _ _ (a .args .i) (j + 1) inside few (c .before .before .before .before .loop .inv .1) (w .0 .left)))
+          let held = costs-held (c .before .before .before .before .loop .inv .1) inside (w .0 .taken) (omega arith) in
+          rw (w .4) (costs-set inside few (c .before .before .before .before .loop .inv .1) (omega arith) (move-is (a .pre .0) inside (w .0 .taken) held (w .3 .ensures))))
+          (λ w. rw (w .1) (costs-skip inside few (c .before .before .before .before .loop .inv .1) (w .0 .left)))
           (c .if2 .came),
     )
 
 returns : tie.Need-returns Inv-loop μ-loop
-returns c = costs-past _ _ _ _ _ _ (c .before .before .loop .inv .1) (λ k l inside lt. omega arith) (λ k l inside lt. omega arith)
+returns c = costs-past (c .before .before .loop .inv .1) (λ k l inside lt. omega arith) (λ k l inside lt. omega arith)
 
 pub reprice-segment-spec : {M : Type 1} → statement M
 reprice-segment-spec =

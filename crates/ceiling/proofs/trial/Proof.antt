@@ -20,15 +20,15 @@ whole-requires : tie.Need-whole-requires Inv-loop μ-loop
 whole-requires c κs = (omega arith, c .before .before .before .before .pre .0 .prices)
 
 moved-requires : tie.Need-moved-requires Inv-loop μ-loop
-moved-requires c κs = whole-fits _ _ _ _ _ _ (c .before .before .before .before .before .before .pre .0) (c .before .whole .ensures)
+moved-requires c κs = whole-fits (c .before .before .before .before .before .before .pre .0) (c .before .whole .ensures)
 
 loop-holds : tie.Need-loop-holds Inv-loop μ-loop
-loop-holds c = (omega arith, summed-none _ _ _ _ _ _ (c .before .before .before .before .before .before .before .pre .0) (c .before .before .whole .ensures) (c .moved .ensures))
+loop-holds c = (omega arith, summed-none (c .before .before .before .before .before .before .before .pre .0) (c .before .before .whole .ensures) (c .moved .ensures))
 
 returns : tie.Need-returns Inv-loop μ-loop
 returns c =
     let l = c .before .before .before .loop in
-    summed-early _ _ _ _ _ _ (c .before .before .before .before .before .before .before .before .before .before .before .pre .0) (l .i) (l .inv .1) (l .inv .0) (c .if2 .taken)
+    summed-early (c .before .before .before .before .before .before .before .before .before .before .before .pre .0) (l .i) (l .inv .1) (l .inv .0) (c .if2 .taken)
 
 margin-at-requires : tie.Need-margin-at-requires Inv-loop μ-loop
 margin-at-requires c κs =
@@ -38,21 +38,21 @@ margin-at-requires c κs =
 add-total : tie.Need-add-total Inv-loop μ-loop
 add-total c =
     let a = c .before .before .before .before .before .before .before .before .before .before .before .before in
-    omega (arith, c .margin-at .ensures, margin-small _ _ _ (a .pre .0 .sized) (set (a .args .prices .now) (a .args .r - 1) (a .args .price)) (c .before .before .before .before .loop .i + 1))
+    omega (arith, c .margin-at .ensures, margin-small (a .pre .0 .sized) (set (a .args .prices .now) (a .args .r - 1) (a .args .price)) (c .before .before .before .before .loop .i + 1))
 
 loop-again : tie.Need-loop-again Inv-loop μ-loop
 loop-again c =
     let l = c .before .before .before .before .loop in
-    (omega arith, summed-next _ _ _ _ _ _ (c .before .before .before .before .before .before .before .before .before .before .before .before .pre .0) (l .i) (l .inv .1) (c .margin-at .ensures))
+    (omega arith, summed-next (c .before .before .before .before .before .before .before .before .before .before .before .before .pre .0) (l .i) (l .inv .1) (c .margin-at .ensures))
 
 returns-2 : tie.Need-returns-2 Inv-loop μ-loop
 returns-2 c =
-    let all = summed-all _ _ _ _ _ _ (c .before .before .before .before .before .before .before .before .before .before .before .pre .0) (c .before .before .before .loop .i) (c .before .before .before .loop .inv .1) (omega arith) in
+    let all = summed-all (c .before .before .before .before .before .before .before .before .before .before .before .pre .0) (c .before .before .before .loop .i) (c .before .before .before .loop .inv .1) (omega arith) in
     sym (min-eq-right (omega (arith, all)))
 
 returns-3 : tie.Need-returns-3 Inv-loop μ-loop
 returns-3 c =
-    let all = summed-all _ _ _ _ _ _ (c .before .before .before .before .before .before .before .before .before .before .before .pre .0) (c .before .before .before .loop .i) (c .before .before .before .loop .inv .1) (omega arith) in
+    let all = summed-all (c .before .before .before .before .before .before .before .before .before .before .before .pre .0) (c .before .before .before .loop .i) (c .before .before .before .loop .inv .1) (omega arith) in
     all ∙ sym (min-eq-left (omega (arith, all)))
 
 pub trial-spec : {M : Type 1} → statement M

@@ -23,7 +23,7 @@ add-total : tie.Need-add-total Inv-loop μ-loop
 add-total c =
     let a = c .before .before .before .before in
     let l = c .before .before .before .loop in
-    omega (arith, a .pre .1 .small (l .r), prices-small (a .args .prices .now) (a .pre .1) (l .r))
+    omega (arith, a .pre .1 .small (l .r), prices-small (a .pre .1) (l .r))
 
 loop-again : tie.Need-loop-again Inv-loop μ-loop
 loop-again c =
@@ -33,7 +33,7 @@ loop-again c =
 mul-result : tie.Need-mul-result Inv-loop μ-loop
 mul-result c =
     let a = c .before .before .before in
-    omega (arith, prices-small (a .args .prices .now) (a .pre .1) (c .before .before .loop .r))
+    omega (arith, prices-small (a .pre .1) (c .before .before .loop .r))
 
 returns : tie.Need-returns Inv-loop μ-loop
 returns c =
