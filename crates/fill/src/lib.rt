@@ -39,7 +39,7 @@ fn fill_row(d: &District, i: usize, j: usize, row: &mut [u64])
     let a = rating::area_in(d, i, j);
     let mut r = 0;
     while r < MOST_RESOURCES {
-        let u = rating::usage_in(d, i, j, r + 1, a);
+        let u = rating::usage_in(d, j, r + 1, a);
         row[r] = u;
         r += 1;
     }

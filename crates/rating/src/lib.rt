@@ -1,6 +1,6 @@
 // Document 01, "Rating and benefit", of one segment and one strategy of a district. The district is lent.
 ghost use mathlib.Core.Path.{_≡_};
-ghost use Prim.Native.Nat.{_+_, _-_, _*_, _≤_};
+ghost use Prim.Native.Nat.{ℕ, _+_, _-_, _*_, _≤_};
 ghost use lib.IntN.{natAbs};
 ghost use Rattle.base.specs.Choice.{pick};
 ghost use Rattle.base.specs.Over.{sum, sumZ};
@@ -8,7 +8,7 @@ ghost use Rattle.grammar.specs.Ranges.{Ranges};
 ghost use Rattle.rules.specs.District.{mostYears, gainsAt, percentsAt, minimaAt, barsAt, valueAt, limitPlace, greatestPlace, strategyPlace, pavementPlace, segmentPlace, ratingPlace, gainOf, yearsOf, distressesOf, barredIn};
 ghost use Rattle.rules.specs.Rating.{gain, survival, improvements, rating, effect, area, benefit, usage, scaledLimit, reaches, minimumReached, yearsReached, minimaReached, firstRating, overallReached, permitted, fitsAlone, candidate};
 ghost use Rattle.rules.specs.Table.{has, candidateBenefit, usageIn, limitIn};
-ghost use Rattle.rating.specs.Areas.{areaIn};
+ghost use Rattle.rating.specs.Areas.{areaIn, Treats};
 ghost use Rattle.rating.specs.Numbers.{Segment, SegmentOf, Strategy, Distress, Year, Pavement, Resource};
 use rules::District;
 use rules::places::*;
@@ -372,10 +372,10 @@ pub fn area_in(d: &District, i: usize, j: usize) -> u64
     0
 }
 
-// The use of resource r, a being that area: segment i is named in the contract alone.
-pub fn usage_in(d: &District, i: usize, j: usize, r: usize, a: u64) -> u64
-    requires { ⌜ Ranges (now d) × Segment i × Resource r × (a ≡ areaIn (now d) i j) ⌝ }
-    ensures { λ u. ⌜ u ≡ usageIn (now (d .entry)) i j r ⌝ }
+// The use of resource r, where a is the area that strategy j treats.
+pub fn usage_in(d: &District, j: usize, r: usize, a: u64) -> u64
+    requires { ⌜ Ranges (now d) × Resource r × Treats (now d) j a ⌝ }
+    ensures { λ u. ⌜ ((i : ℕ) → a ≡ areaIn (now (d .entry)) i j → u ≡ usageIn (now (d .entry)) i j r) ⌝ }
 {
     if a == 0 {
         return 0;

@@ -27,14 +27,14 @@ loop-holds c = (omega arith, c .before .before .pre .2, fill-none _ _ _)
 usage-in-requires : tie.Need-usage-in-requires Inv-loop μ-loop
 usage-in-requires c κs =
     let p = c .before .before .before .before .pre in
-    (p .0, p .1, (omega arith, omega arith), c .before .before .area-in .ensures)
+    (p .0, (omega arith, omega arith), record { segment = _; there = p .1; treated = c .before .before .area-in .ensures })
 
 loop-again : tie.Need-loop-again Inv-loop μ-loop
 loop-again c =
     let l = c .before .before .loop in (
       omega arith,
       simp length-set (l .inv .1),
-      rw (l .inv .2) (fill-next (usageIn _ _ _) (l .r) 1 _ (omega arith) (c .usage-in .ensures ∙ ap (usageIn _ _ _) (add-comm (l .r) 1))),
+      rw (l .inv .2) (fill-next (usageIn _ _ _) (l .r) 1 _ (omega arith) (c .usage-in .ensures _ (c .before .before .before .area-in .ensures) ∙ ap (usageIn _ _ _) (add-comm (l .r) 1))),
     )
 
 returns : tie.Need-returns Inv-loop μ-loop
