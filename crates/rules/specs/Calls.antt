@@ -33,7 +33,7 @@ exportRefusal d buffer = unless (leb (length (encode d)) (length buffer)) buffer
 unfoldable pub barRefusal : District → ℕ → ℕ → ℕ
 barRefusal d i j = oneTo i (segmentsOf d) noSuchSegment (oneTo j (strategiesOf d) noSuchNumber 0)
 
--- a limit, and below a rating, has the range that the file gives it
+-- the range of a new limit, and of a new rating below, is the file's
 unfoldable pub limitRefusal : District → ℕ → ℕ → ℕ
 limitRefusal d r limit = oneTo r (resourcesOf d) noSuchNumber (unless (inside (limitField d (r - 1)) limit) newOutOfRange 0)
 

@@ -125,6 +125,6 @@ kindField d kind n =
     (pick (eqb kind 6) (segmentField d n)
     absent)))))
 
--- the n-th number of a record that the file may not have
+-- the n-th number of a record; absent where the file does not have the record
 unfoldable pub fieldAt : District → Slot → ℕ → Field
 fieldAt d s n = pick (present d s) (kindField d (s .kind) n) absent
