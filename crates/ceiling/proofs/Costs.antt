@@ -19,7 +19,7 @@ use Rattle.rules.specs.Ceiling.{priceAt, downShare, costBy, cost, net, margin, 
 use Rattle.laws.proofs.Give.{given, kept}
 use Rattle.tables.specs.Arrays.{entry, useEntry, columns, entries}
 use Rattle.tables.specs.declared.Size.{Size}
-use Rattle.ceiling.specs.Prices.{In, Sized, shown, Prices, Costs, Trial}
+use Rattle.ceiling.specs.Prices.{In, Sized, pricedTable, Prices, Costs, Trial}
 
 -- ---- resource r gets the price q
 
@@ -51,31 +51,31 @@ prices-small {p} prices n = sum-bound n (2 ^ 41) (priceAt p) (λ k l h. omega (a
 
 -- ---- over arrays
 
-pub share-is : (z : Size) (b d : List ℕ) (i j r : ℕ) → downShare (shown z b d) i j r ≡ getD d (useEntry i j r) 0
+pub share-is : (z : Size) (b d : List ℕ) (i j r : ℕ) → downShare (pricedTable z b d) i j r ≡ getD d (useEntry i j r) 0
 unfolding downShare
 share-is z b d i j r = mul-div-cancel (getD d (useEntry i j r) 0) (omega arith)
 
 module _ {z : Size} {b d : List ℕ} (sized : Sized z b d) where
   -- 16 × 2 ^ 41 × 10,000
-  cost-small : {p : List ℕ} → Prices p → {i j : ℕ} → In z i j → 0 < getD b (entry i j) 0 → cost (shown z b d) p i j ≤ 351_843_720_888_320_000
+  cost-small : {p : List ℕ} → Prices p → {i j : ℕ} → In z i j → 0 < getD b (entry i j) 0 → cost (pricedTable z b d) p i j ≤ 351_843_720_888_320_000
   unfolding cost costBy
   cost-small {p} prices {i} {j} inside worth =
-      let each : (k : ℕ) → 1 ≤ k → k ≤ z .resources → costBy (shown z b d) p i j k ≤ 21_990_232_555_520_000 =
+      let each : (k : ℕ) → 1 ≤ k → k ≤ z .resources → costBy (pricedTable z b d) p i j k ≤ 21_990_232_555_520_000 =
       λ k l h.
       let low : priceAt p k ≤ 2 ^ 41 = omega (arith, prices .small (k - 1)) in
       rw (share-is z b d i j k) (mul-le-mul low (sized .share-small i j k inside worth l h)) in
-      omega (arith, sum-bound (z .resources) 21_990_232_555_520_000 (costBy (shown z b d) p i j) each)
+      omega (arith, sum-bound (z .resources) 21_990_232_555_520_000 (costBy (pricedTable z b d) p i j) each)
 
-  pub margin-small : (p : List ℕ) (i : ℕ) → margin (shown z b d) p i ≤ 2 ^ 40
+  pub margin-small : (p : List ℕ) (i : ℕ) → margin (pricedTable z b d) p i ≤ 2 ^ 40
   unfolding margin net
   margin-small p i =
-      most-bound (z .strategies) (2 ^ 40) (net (shown z b d) p i)
-      (λ j l h. omega (arith, sub-le (getD b (entry i j) 0) (cost (shown z b d) p i j), sized .benefit-small (entry i j)))
+      most-bound (z .strategies) (2 ^ 40) (net (pricedTable z b d) p i)
+      (λ j l h. omega (arith, sub-le (getD b (entry i j) 0) (cost (pricedTable z b d) p i j), sized .benefit-small (entry i j)))
 
-  pub ceiling-small : {p : List ℕ} → Prices p → ceilingAt (shown z b d) p < 2 ^ 62
+  pub ceiling-small : {p : List ℕ} → Prices p → ceilingAt (pricedTable z b d) p < 2 ^ 62
   unfolding ceilingAt
   ceiling-small {p} prices =
-      omega (arith, prices-small prices (z .resources), sum-bound (z .segments) (2 ^ 40) (margin (shown z b d) p) (λ k l h. margin-small p k))
+      omega (arith, prices-small prices (z .resources), sum-bound (z .segments) (2 ^ 40) (margin (pricedTable z b d) p) (λ k l h. margin-small p k))
 
 -- ---- in a trial
 
@@ -88,7 +88,7 @@ module _ {z : Size} {b d p : List ℕ} {r price : ℕ} (m : Trial z b d p r pric
   new = set p (r - 1) price
 
   abbrev t : Table
-  t = shown z b d
+  t = pricedTable z b d
 
   module _ {i j : ℕ} (inside : In z i j) (worth : 0 < getD b (entry i j) 0) {c : ℕ} (old : c ≡ cost t p i j) where
     abbrev share : ℕ
@@ -159,14 +159,14 @@ module _ {z : Size} {b d new old c : List ℕ} where
   costs-past {e} {f} h to from =
       record { places = h .places; costs = λ i j inside worth. h .costs i j inside worth ∙ rw (leb-same (suc (entry i j)) e (suc (entry i j)) f (to i j inside) (from i j inside)) }
 
-  pub costs-held : {e : ℕ} → Costs z b d new old e c → {i j : ℕ} → In z i j → 0 < getD b (entry i j) 0 → e ≤ entry i j → getD c (entry i j) 0 ≡ cost (shown z b d) old i j
+  pub costs-held : {e : ℕ} → Costs z b d new old e c → {i j : ℕ} → In z i j → 0 < getD b (entry i j) 0 → e ≤ entry i j → getD c (entry i j) 0 ≡ cost (pricedTable z b d) old i j
   costs-held {e} h {i} {j} inside worth le = h .costs i j inside worth ∙ rw (le-ltb (entry i j) e le)
 
   module _ {i j : ℕ} (inside : In z i j) (few : z .strategies ≤ mostStrategies) (h : Costs z b d new old (entry i j) c) where
-    costs-next : (e : List ℕ) → length e ≡ entries → (0 < getD b (entry i j) 0 → getD e (entry i j) 0 ≡ cost (shown z b d) new i j) → ((k : ℕ) → (k ≡ entry i j → ⊥) → getD e k 0 ≡ getD c k 0) → Costs z b d new old (entry i (j + 1)) e
+    costs-next : (e : List ℕ) → length e ≡ entries → (0 < getD b (entry i j) 0 → getD e (entry i j) 0 ≡ cost (pricedTable z b d) new i j) → ((k : ℕ) → (k ≡ entry i j → ⊥) → getD e k 0 ≡ getD c k 0) → Costs z b d new old (entry i (j + 1)) e
     costs-next e long here there = record { places = long; costs = λ k l in' worth. go k l in' worth (eqb (entry k l) (entry i j)) refl }
       where
-        go : (k l : ℕ) → In z k l → 0 < getD b (entry k l) 0 → (x : Bool) → eqb (entry k l) (entry i j) ≡ x → getD e (entry k l) 0 ≡ cost (shown z b d) (pick (ltb (entry k l) (entry i (j + 1))) new old) k l
+        go : (k l : ℕ) → In z k l → 0 < getD b (entry k l) 0 → (x : Bool) → eqb (entry k l) (entry i j) ≡ x → getD e (entry k l) 0 ≡ cost (pricedTable z b d) (pick (ltb (entry k l) (entry i (j + 1))) new old) k l
         go k l in' worth true q =
             let at = eqb-true (entry k l) (entry i j) q in
             let same-i : k ≡ i = omega (arith, inside .segment-from, in' .segment-from, inside .strategy-to, in' .strategy-to, inside .strategy-from, in' .strategy-from) in
@@ -176,7 +176,7 @@ module _ {z : Size} {b d new old c : List ℕ} where
             let ne = eqb-false (entry k l) (entry i j) q in
             there (entry k l) ne ∙ h .costs k l in' worth ∙ rw (leb-same (suc (entry k l)) (entry i j) (suc (entry k l)) (entry i (j + 1)) (λ lt. omega arith) (λ lt. omega (arith, ne)))
 
-    pub costs-set : {x : ℕ} → i ≤ mostSegments → x ≡ cost (shown z b d) new i j → Costs z b d new old (entry i (j + 1)) (set c (entry i j) x)
+    pub costs-set : {x : ℕ} → i ≤ mostSegments → x ≡ cost (pricedTable z b d) new i j → Costs z b d new old (entry i (j + 1)) (set c (entry i j) x)
     costs-set {x} l e =
         costs-next (set c (entry i j) x) (length-set c (entry i j) x ∙ h .places)
         (λ _. getD-set-same c (entry i j) x 0 (omega (arith, h .places, inside .strategy-to)) ∙ e)

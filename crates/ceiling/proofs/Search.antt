@@ -19,7 +19,7 @@ use Rattle.rules.specs.Ceiling.{priceAt, downShare, costBy, cost, raised, lower
 use Rattle.laws.proofs.Give.{set-le}
 use Rattle.tables.specs.Arrays.{entry, entries}
 use Rattle.tables.specs.declared.Size.{Size}
-use Rattle.ceiling.specs.Prices.{Sized, shown, Prices, Costs, Trial, Headroom}
+use Rattle.ceiling.specs.Prices.{Sized, pricedTable, Prices, Costs, Trial, Headroom}
 use Rattle.ceiling.proofs.Costs.{ceiling-small}
 
 -- ---- which case a step takes
@@ -168,9 +168,9 @@ module _ {z : Size} {b d : List ℕ} where
           places = length-replicate {A = ℕ} entries 0;
           costs = λ i j inside worth.
               let e = le-ltb (entry i j) 0 (omega arith) in
-              zeros entries (entry i j) ∙ sym (rw e (sum-cong (z .resources) (costBy (shown z b d) (replicate mostResources 0) i j) (λ _. 0) (λ r l h. rw (zeros mostResources (r - 1)) (zero-mul (downShare (shown z b d) i j r))) ∙ sum-zero (z .resources)));
+              zeros entries (entry i j) ∙ sym (rw e (sum-cong (z .resources) (costBy (pricedTable z b d) (replicate mostResources 0) i j) (λ _. 0) (λ r l h. rw (zeros mostResources (r - 1)) (zero-mul (downShare (pricedTable z b d) i j r))) ∙ sum-zero (z .resources)));
         }
 
-    pub start-value : {x : ℕ} → x ≡ min (ceilingAt (shown z b d) (set (replicate mostResources 0) 0 0)) (2 ^ 62) → x ≡ ceilingAt (shown z b d) (replicate mostResources 0)
+    pub start-value : {x : ℕ} → x ≡ min (ceilingAt (pricedTable z b d) (set (replicate mostResources 0) 0 0)) (2 ^ 62) → x ≡ ceilingAt (pricedTable z b d) (replicate mostResources 0)
     start-value e =
         e ∙ min-eq-left (le-of-lt (ceiling-small sized (start-trial .prices)))

@@ -39,8 +39,8 @@ pub record Sized (z : Size) (b d : List ℕ) : Type 0 where
   pub share-small : (i j r : ℕ) → In z i j → 0 < getD b (entry i j) 0 → 1 ≤ r → r ≤ z .resources → getD d (useEntry i j r) 0 ≤ 10_000
 
 -- a table with the arrays' benefits, whose uses are parts of limits of 10,000: its down-shares are the arrays'
-abbrev pub shown : Size → List ℕ → List ℕ → Table
-shown z b d =
+abbrev pub pricedTable : Size → List ℕ → List ℕ → Table
+pricedTable z b d =
     record {
       segments = z .segments;
       strategies = z .strategies;
@@ -58,7 +58,7 @@ pub record Prices (p : List ℕ) : Type 0 where
 -- of the candidates, those whose entry stands before e have what they cost at the prices new, the others what they cost at old
 pub record Costs (z : Size) (b d new old : List ℕ) (e : ℕ) (c : List ℕ) : Type 0 where
   pub places : length c ≡ entries
-  pub costs : (i j : ℕ) → In z i j → 0 < getD b (entry i j) 0 → getD c (entry i j) 0 ≡ cost (shown z b d) (pick (ltb (entry i j) e) new old) i j
+  pub costs : (i j : ℕ) → In z i j → 0 < getD b (entry i j) 0 → getD c (entry i j) 0 ≡ cost (pricedTable z b d) (pick (ltb (entry i j) e) new old) i j
 
 -- what a trial reads beside the costs: arrays, prices, and a new price for resource r
 pub record Trial (z : Size) (b d p : List ℕ) (r price : ℕ) : Type 0 where
@@ -76,4 +76,4 @@ pub record Headroom (step : ℕ) (p : List ℕ) : Type 0 where
 -- the search stands at the prices p: what each candidate costs at them, and the ceiling
 pub record Standing (z : Size) (b d p c : List ℕ) (x : ℕ) : Type 0 where
   pub costs : Costs z b d p p 0 c
-  pub value : x ≡ ceilingAt (shown z b d) p
+  pub value : x ≡ ceilingAt (pricedTable z b d) p

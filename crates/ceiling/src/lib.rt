@@ -11,7 +11,7 @@ ghost use Rattle.tables.specs.Arrays.{columns};
 ghost use Rattle.rules.specs.District.{mostResources};
 ghost use Rattle.rules.specs.Table.{Table};
 ghost use Rattle.rules.specs.Ceiling.{priceAt, margin, ceilingAt, priced, pricedAll, ceiling};
-ghost use Rattle.ceiling.specs.Prices.{Priced, Sized, shown, Prices, Costs, Trial, Headroom, Standing};
+ghost use Rattle.ceiling.specs.Prices.{Priced, Sized, pricedTable, Prices, Costs, Trial, Headroom, Standing};
 
 // a − b, or 0 where b is greater.
 fn above(a: u64, b: u64) -> u64
@@ -55,7 +55,7 @@ fn margin_at(
     i: usize,
 ) -> u64
     requires { ⌜ (Trial z (now benefits) (now downs) (now prices) r price) × (Costs z (now benefits) (now downs) (now prices) (now prices) 0 (now costs)) × (1 ≤ i) × (i ≤ z .segments) ⌝ }
-    ensures { λ x. ⌜ x ≡ margin (shown z (now (benefits .entry)) (now (downs .entry))) (set (now (prices .entry)) (r - 1) price) i ⌝ }
+    ensures { λ x. ⌜ x ≡ margin (pricedTable z (now (benefits .entry)) (now (downs .entry))) (set (now (prices .entry)) (r - 1) price) i ⌝ }
 {
     let old = prices[r - 1];
     let mut best: u64 = 0;
@@ -84,7 +84,7 @@ fn trial(
     present: u64,
 ) -> u64
     requires { ⌜ (Trial z (now benefits) (now downs) (now prices) r price) × (Costs z (now benefits) (now downs) (now prices) (now prices) 0 (now costs)) × (present < 2 ^ 63) ⌝ }
-    ensures { λ x. ⌜ x ≡ min (ceilingAt (shown z (now (benefits .entry)) (now (downs .entry))) (set (now (prices .entry)) (r - 1) price)) present ⌝ }
+    ensures { λ x. ⌜ x ≡ min (ceilingAt (pricedTable z (now (benefits .entry)) (now (downs .entry))) (set (now (prices .entry)) (r - 1) price)) present ⌝ }
 {
     let mut total = moved(whole(z, prices), 10_000, prices[r - 1], price);
     let mut i: usize = 0;
@@ -157,7 +157,7 @@ fn price_one(
     r: usize,
 ) -> u64
     requires { ⌜ (Trial z (now benefits) (now downs) (now prices) r (priceAt (now prices) r + step)) × (Standing z (now benefits) (now downs) (now prices) (now costs) present) ⌝ }
-    ensures { λ x. ⌜ now (prices .exit) ≡ priced (shown z (now (benefits .entry)) (now (downs .entry))) step (now (prices .entry)) r ⌝ }
+    ensures { λ x. ⌜ now (prices .exit) ≡ priced (pricedTable z (now (benefits .entry)) (now (downs .entry))) step (now (prices .entry)) r ⌝ }
     ensures { λ x. ⌜ Standing z (now (benefits .entry)) (now (downs .entry)) (now (prices .exit)) (now (costs .exit)) x ⌝ }
 {
     let old = prices[r - 1];
@@ -190,7 +190,7 @@ fn price_all(
     step: u64,
 ) -> u64
     requires { ⌜ (Sized z (now benefits) (now downs)) × (Headroom step (now prices)) × (Standing z (now benefits) (now downs) (now prices) (now costs) present) ⌝ }
-    ensures { λ x. ⌜ now (prices .exit) ≡ pricedAll (shown z (now (benefits .entry)) (now (downs .entry))) step (z .resources) (now (prices .entry)) ⌝ }
+    ensures { λ x. ⌜ now (prices .exit) ≡ pricedAll (pricedTable z (now (benefits .entry)) (now (downs .entry))) step (z .resources) (now (prices .entry)) ⌝ }
     ensures { λ x. ⌜ Standing z (now (benefits .entry)) (now (downs .entry)) (now (prices .exit)) (now (costs .exit)) x ⌝ }
 {
     let mut value = present;

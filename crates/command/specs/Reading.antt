@@ -165,9 +165,9 @@ commandIn line =
 
 -- ---- what the answers of the code stand for
 
-unfoldable pub numberOf : Number → Option ℕ
-numberOf (Is v) = some v
-numberOf Not = none
+unfoldable pub readNumber : Number → Option ℕ
+readNumber (Is v) = some v
+readNumber Not = none
 
 unfoldable pub numbersOf : Arguments → Option (ℕ → ℕ)
 numbersOf a = only (a .fit) (at (a .numbers))

@@ -3,7 +3,7 @@ ghost use mathlib.Core.Path.{_≡_};
 ghost use mathlib.Core.List.{_∷_};
 ghost use Prim.Native.Nat.{_+_, _≤_, _<_};
 ghost use lib.ListN.{length, drop};
-ghost use Rattle.command.specs.Reading.{same as Reading·same, every as Reading·every, isSpace, isOf, wordOf, numberIn, firstNumber, afterNumber, arguments, at, placed, pathOf, isPath, rows, made, taken, meant, called as Reading·called, isComment, commandIn, numberOf, numbersOf, countOf};
+ghost use Rattle.command.specs.Reading.{same as Reading·same, every as Reading·every, isSpace, isOf, wordOf, numberIn, firstNumber, afterNumber, arguments, at, placed, pathOf, isPath, rows, made, taken, meant, called as Reading·called, isComment, commandIn, readNumber, numbersOf, countOf};
 use rules::Edit;
 
 // A longer line is no command, unless it is to be passed over.
@@ -139,7 +139,7 @@ fn word_length(bytes: &[u8]) -> usize
 // ---- numbers
 
 fn read_number(word: &[u8]) -> Number
-    ensures { λ r. ⌜ numberOf r ≡ numberIn (now (word .entry)) ⌝ }
+    ensures { λ r. ⌜ readNumber r ≡ numberIn (now (word .entry)) ⌝ }
 {
     if word.len() < 1 {
         return Number::Not;
@@ -169,7 +169,7 @@ fn read_number(word: &[u8]) -> Number
 
 // The number after one blank.
 fn first_number(bytes: &[u8]) -> Number
-    ensures { λ r. ⌜ numberOf r ≡ firstNumber (now (bytes .entry)) ⌝ }
+    ensures { λ r. ⌜ readNumber r ≡ firstNumber (now (bytes .entry)) ⌝ }
 {
     if bytes.len() < 1 {
         return Number::Not;

@@ -126,8 +126,8 @@ fn with_rating(d: District, segment: usize, distress: usize, rating: usize) -> D
 fn bar_refusal(d: District, segment: usize, strategy: usize) -> usize
     ensures { λ r. ⌜ r ≡ barRefusal d segment strategy ⌝ }
 {
-    let number = one_to(strategy, d[STRATEGY_COUNT], NO_SUCH_NUMBER, 0);
-    one_to(segment, d[SEGMENT_COUNT], NO_SUCH_SEGMENT, number)
+    let rest = one_to(strategy, d[STRATEGY_COUNT], NO_SUCH_NUMBER, 0);
+    one_to(segment, d[SEGMENT_COUNT], NO_SUCH_SEGMENT, rest)
 }
 
 // The mask with bit `n` set.

@@ -7,17 +7,17 @@ use Rattle.base.specs.Text.{text, mostDigits, decimal}
 use Rattle.base.proofs.Text.{decimal-few}
 use Rattle.rules.specs.District.{mostSegments}
 use Rattle.rules.specs.declared.Programme.{Programme}
-use Rattle.listing.specs.Listing.{named, line, segmentLine, segmentLines, stepsLine, results, listing, refusal, longestLine, longestRefusal, longestSegmentLine, longestStepsLine, longestListing}
+use Rattle.listing.specs.Listing.{named, line, segmentLine, segmentLines, stepsLine, results, listing, refusal, longestLineOf, longestRefusal, longestSegmentLine, longestStepsLine, longestListing}
 
 pub named-few : (word : List ℕ) (n : ℕ) → length (named word n) ≤ length word + mostDigits
 unfolding named
 named-few word n = omega (arith, length-append word (decimal n), decimal-few n)
 
-line-few : (word : List ℕ) (n : ℕ) → length (line word n) ≤ longestLine (length word)
+line-few : (word : List ℕ) (n : ℕ) → length (line word n) ≤ longestLineOf (length word)
 unfolding line text
 line-few word n = omega (arith, length-append (named word n) (text "\n"), named-few word n)
 
-pub line-fits : (word : List ℕ) (n room : ℕ) → longestLine (length word) ≤ room → length (line word n) ≤ room
+pub line-fits : (word : List ℕ) (n room : ℕ) → longestLineOf (length word) ≤ room → length (line word n) ≤ room
 line-fits word n room h = omega (arith, line-few word n)
 
 pub refusal-few : (n : ℕ) → length (refusal n) ≤ longestRefusal
@@ -43,7 +43,7 @@ steps-few p =
     let c = line (text " ") (p .changes) in
     omega (arith, length-append a (b ++ c), length-append b c, named-few (text "steps ") (p .steps), named-few (text " ") (p .pickups), line-few (text " ") (p .changes))
 
-results-few : (p : Programme) → length (results p) ≤ longestLine 8 + (longestLine 8 + longestStepsLine)
+results-few : (p : Programme) → length (results p) ≤ longestLineOf 8 + (longestLineOf 8 + longestStepsLine)
 unfolding results text
 results-few p =
     let a = line (text "benefit ") (p .total) in

@@ -67,17 +67,17 @@ failed what path = what ++ (path ++ text "\n")
 -- ---- how many bytes they have at most
 
 -- a line with a word of n bytes
-abbrev pub longestLine : ℕ → ℕ
-longestLine n = n + mostDigits + 1
+abbrev pub longestLineOf : ℕ → ℕ
+longestLineOf n = n + mostDigits + 1
 
 abbrev pub longestRefusal : ℕ
-longestRefusal = longestLine 8
+longestRefusal = longestLineOf 8
 
 abbrev pub longestSegmentLine : ℕ
-longestSegmentLine = mostDigits + longestLine 1
+longestSegmentLine = mostDigits + longestLineOf 1
 
 abbrev pub longestStepsLine : ℕ
-longestStepsLine = 6 + mostDigits + (1 + mostDigits + longestLine 1)
+longestStepsLine = 6 + mostDigits + (1 + mostDigits + longestLineOf 1)
 
 abbrev pub longestListing : ℕ
-longestListing = longestSegmentLine * mostSegments + (longestLine 8 + (longestLine 8 + longestStepsLine))
+longestListing = longestSegmentLine * mostSegments + (longestLineOf 8 + (longestLineOf 8 + longestStepsLine))

@@ -1,6 +1,6 @@
 // Phase 3: changes of one segment or two that raise the total and keep the limits, until none is left.
 ghost use mathlib.Core.Path.{_≡_};
-ghost use Prim.Native.Nat.{ℕ, _-_, _^_, _<_, _≤_, max};
+ghost use Prim.Native.Nat.{ℕ, _-_, _^_, _<_, _≤_};
 ghost use mathlib.Core.Bool.{true};
 ghost use mathlib.Core.List.{List};
 ghost use lib.ListN.{getD, length};

@@ -1,4 +1,4 @@
--- Document 01, "Where a call is refused": how a refusal's number and a result become an answer, for every call alike.
+-- Document 01, "Where a call is refused": the refusals by name, and how a refusal and a result become an answer, for every call alike.
 -- A refusal is its number in document 01's table, and 0 where there is none.
 use Prim.Native.Nat.{ℕ, zero, suc}
 use mathlib.Core.Bool.{Bool, true, false}

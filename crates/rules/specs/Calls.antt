@@ -3,8 +3,8 @@ use Prim.Native.Nat.{ℕ, _+_, _-_}
 use mathlib.Core.List.{List, [], _++_}
 use lib.Dec.{leb}
 use lib.ListN.{length, drop}
-use Rattle.rules.specs.District.{District, ratingsAt, segmentsOf, strategiesOf, distressesOf, resourcesOf, withLimit, withBar, withoutBar, withRating, freshDistrict}
-use Rattle.rules.specs.Format.{inside, limitField, segmentField}
+use Rattle.rules.specs.District.{District, segmentsOf, strategiesOf, distressesOf, resourcesOf, withLimit, withBar, withoutBar, withRating, freshDistrict}
+use Rattle.rules.specs.Format.{inside, limitRange, ratingRange}
 use Rattle.rules.specs.File.{Read, refused, found, decode, encode}
 use Rattle.rules.specs.Plan.{planOf}
 use Rattle.rules.specs.Answers.{noSuchSegment, noSuchNumber, newOutOfRange, bufferTooShort, unless, oneTo, answerOf, accepting}
@@ -33,14 +33,14 @@ exportRefusal d buffer = unless (leb (length (encode d)) (length buffer)) buffer
 unfoldable pub barRefusal : District → ℕ → ℕ → ℕ
 barRefusal d i j = oneTo i (segmentsOf d) noSuchSegment (oneTo j (strategiesOf d) noSuchNumber 0)
 
--- a limit, and below a rating, has the range that the file gives it
+-- the range of a new limit, and of a new rating below, is the file's
 unfoldable pub limitRefusal : District → ℕ → ℕ → ℕ
-limitRefusal d r limit = oneTo r (resourcesOf d) noSuchNumber (unless (inside (limitField d (r - 1)) limit) newOutOfRange 0)
+limitRefusal d r limit = oneTo r (resourcesOf d) noSuchNumber (unless (inside (limitRange d r) limit) newOutOfRange 0)
 
 unfoldable pub ratingRefusal : District → ℕ → ℕ → ℕ → ℕ
 ratingRefusal d i k rating =
     oneTo i (segmentsOf d) noSuchSegment
-    (oneTo k (distressesOf d) noSuchNumber (unless (inside (segmentField d (ratingsAt + (k - 1))) rating) newOutOfRange 0))
+    (oneTo k (distressesOf d) noSuchNumber (unless (inside (ratingRange d k) rating) newOutOfRange 0))
 
 abbrev pub editRefusal : District → Edit → ℕ
 editRefusal d (Bar i j) = barRefusal d i j

@@ -115,6 +115,13 @@ segmentField d n =
     (pick (eqb n barsAt) (number 2 0 (2 ^ min (strategiesOf d) 16 - 1))
     (pick (ltb (n - ratingsAt) (distressesOf d)) (number 1 0 (greatestOf d (n - (ratingsAt - 1)))) absent)))))
 
+-- the range of a limit of resource r, and of a rating of distress k
+abbrev pub limitRange : District → ℕ → Field
+limitRange d r = limitField d (r - 1)
+
+abbrev pub ratingRange : District → ℕ → Field
+ratingRange d k = segmentField d (ratingsAt + (k - 1))
+
 abbrev pub kindField : District → ℕ → ℕ → Field
 kindField d kind n =
     pick (eqb kind 1) (countField n)
@@ -125,6 +132,6 @@ kindField d kind n =
     (pick (eqb kind 6) (segmentField d n)
     absent)))))
 
--- the n-th number of a record that the file may not have
+-- the n-th number of a record; absent where the file does not have the record
 unfoldable pub fieldAt : District → Slot → ℕ → Field
 fieldAt d s n = pick (present d s) (kindField d (s .kind) n) absent

@@ -53,16 +53,16 @@ resultIn (ratings cs) u = Over.listed (District.yearsOf (u .district)) (Rating.r
 resultIn (survivals cs) u = Over.listed (District.yearsOf (u .district)) (λ t. pos (Rating.survival (u .district) 1 1 1 t))
 resultIn (effects cs) u = Rating.effect (u .district) 1 1 ∷ []
 
-unfoldable pub callsOf : Case → List Lists.Call
-callsOf (shown cs) = cs
-callsOf (initialRating cs) = cs
-callsOf (ratings cs) = cs
-callsOf (survivals cs) = cs
-callsOf (effects cs) = cs
+unfoldable pub callsBefore : Case → List Lists.Call
+callsBefore (shown cs) = cs
+callsBefore (initialRating cs) = cs
+callsBefore (ratings cs) = cs
+callsBefore (survivals cs) = cs
+callsBefore (effects cs) = cs
 
 unfoldable pub resultOf : Case → List ℤ
 unfolding
-    shownBy resultIn callsOf
+    shownBy resultIn callsBefore
     Writer.fileOf
     Bits.setBit Bits.clearBit
     Over.sum Over.sumZ Over.all Over.most Over.betterOf Over.best Over.minZ Over.listedFrom
@@ -93,7 +93,7 @@ unfolding
     Calls.exported Calls.exportOf Calls.showOf
     Survey.deductPoints Survey.blockOf Survey.pointsOf Survey.surveyRefusal Survey.surveyOf
     Lists.refusalOf Lists.altered Lists.districtFrom Lists.districtAfter Lists.lentTo Lists.outcomeOf Lists.unitFrom Lists.unitAfter
-resultOf c = resultIn c (Lists.unitAfter (callsOf c))
+resultOf c = resultIn c (Lists.unitAfter (callsBefore c))
 
 infix 70 _⇒_
 -- a case, and what it comes to as worked elsewhere

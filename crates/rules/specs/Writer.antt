@@ -5,7 +5,7 @@ use mathlib.Core.List.{List, [], _∷_, _++_, foldr}
 use lib.ListN.{length, take, replicate}
 use lib.IntN.{ℤ, pos, negsuc}
 
--- In all of these, numbers at the end of a row that are 0 need not be written.
+-- Of a strategy, a pavement type and a segment, numbers at the end of a row that are 0 need not be written.
 
 pub record Strategy : Type 0 where
   -- of each resource, in thousandths of a unit

@@ -4,14 +4,14 @@ use mathlib.Core.Path.{_≡_, ap, sym, _∙_}
 use native.Mathlib.Omega.{arith}
 use borrow.Author.Needs.{needs}
 use Rattle.rules.specs.Ceiling.{pricesAfter, ceilingAt, ceiling}
-use Rattle.ceiling.specs.Prices.{shown, Standing}
+use Rattle.ceiling.specs.Prices.{pricedTable, Standing}
 use Rattle.ceiling.proofs.Same.{same-ceiling}
 use Rattle.ceiling.proofs.Search.{start-trial, start-costs, start-value, after-none, after-next, after-room, after-places}
 use Rattle.ceiling.proofs.ceiling_of.Statement.{statement}
 use Rattle.ceiling.proofs.ceiling_of.Tie as tie
 
 abbrev Inv-loop : tie.InvT-loop
-Inv-loop z benefits downs prices₀ costs₀ value₀ k₀ prices costs value k = (k ≤ 41) × (prices ≡ pricesAfter (shown z benefits downs) k) × (Standing z benefits downs prices costs value)
+Inv-loop z benefits downs prices₀ costs₀ value₀ k₀ prices costs value k = (k ≤ 41) × (prices ≡ pricesAfter (pricedTable z benefits downs) k) × (Standing z benefits downs prices costs value)
 
 abbrev μ-loop : tie.MeasureT-loop
 μ-loop z benefits downs prices₀ costs₀ value₀ k₀ prices costs value k = 41 - k

@@ -9,13 +9,13 @@ use Rattle.base.proofs.Sums.{most-none}
 use Rattle.base.specs.Over.{most}
 use Rattle.rules.specs.Ceiling.{net, margin}
 use Rattle.tables.specs.Arrays.{entry}
-use Rattle.ceiling.specs.Prices.{In, shown}
+use Rattle.ceiling.specs.Prices.{In, pricedTable}
 use Rattle.ceiling.proofs.Costs.{costs-held, move-fits, move-is, margin-takes, margin-passes}
 use Rattle.ceiling.proofs.margin_at.Statement.{statement}
 use Rattle.ceiling.proofs.margin_at.Tie as tie
 
 abbrev Inv-loop : tie.InvT-loop
-Inv-loop z benefits downs prices costs r price i old best₀ j₀ best j = (j ≤ z .strategies) × (best ≡ most j (net (shown z benefits downs) (set prices (r - 1) price) i))
+Inv-loop z benefits downs prices costs r price i old best₀ j₀ best j = (j ≤ z .strategies) × (best ≡ most j (net (pricedTable z benefits downs) (set prices (r - 1) price) i))
 
 abbrev μ-loop : tie.MeasureT-loop
 μ-loop z benefits downs prices costs r price i old best₀ j₀ best j = z .strategies - j

@@ -4,13 +4,13 @@ use mathlib.Core.Path.{_≡_, sym, _∙_}
 use native.Mathlib.Omega.{arith}
 use borrow.Author.Needs.{needs}
 use Rattle.rules.specs.Ceiling.{pricedAll}
-use Rattle.ceiling.specs.Prices.{shown, Standing}
+use Rattle.ceiling.specs.Prices.{pricedTable, Standing}
 use Rattle.ceiling.proofs.Search.{all-none, all-next, room-at, raisable-trial}
 use Rattle.ceiling.proofs.price_all.Statement.{statement}
 use Rattle.ceiling.proofs.price_all.Tie as tie
 
 abbrev Inv-loop : tie.InvT-loop
-Inv-loop z benefits downs prices₀ costs₀ present step value₀ r₀ prices costs value r = (r ≤ z .resources) × (prices ≡ pricedAll (shown z benefits downs) step r prices₀) × (Standing z benefits downs prices costs value)
+Inv-loop z benefits downs prices₀ costs₀ present step value₀ r₀ prices costs value r = (r ≤ z .resources) × (prices ≡ pricedAll (pricedTable z benefits downs) step r prices₀) × (Standing z benefits downs prices costs value)
 
 abbrev μ-loop : tie.MeasureT-loop
 μ-loop z benefits downs prices₀ costs₀ present step value₀ r₀ prices costs value r = z .resources - r

@@ -5,7 +5,7 @@ use native.Mathlib.Omega.{arith}
 use borrow.Author.Needs.{needs}
 use lib.ListN.{set}
 use Rattle.rules.specs.Ceiling.{ceilingAt, lowered}
-use Rattle.ceiling.specs.Prices.{shown}
+use Rattle.ceiling.specs.Prices.{pricedTable}
 use Rattle.ceiling.proofs.Search.{priced-up, priced-low, priced-down, priced-same, min-lower, min-higher, trial-lower}
 use Rattle.ceiling.proofs.Costs.{ceiling-small}
 use Rattle.ceiling.proofs.price_one.Statement.{statement}
@@ -25,7 +25,7 @@ returns : tie.Need-returns
 returns c =
     let a = c .before .before .before .before .before .before .before .before .before .before .before .before .before .before .before .before .before in
     let p = a .args .prices .now in
-    let t = shown (a .args .z) (a .args .benefits .now) (a .args .downs .now) in
+    let t = pricedTable (a .args .z) (a .args .benefits .now) (a .args .downs .now) in
     let present = a .pre .1 .value in
     let new = c .before .before .before .before .reprice .ensures in
     let low = min-lower (c .before .before .before .before .before .before .before .before .trial .ensures) (c .before .before .before .before .before .before .before .if1 .taken) in
@@ -35,7 +35,7 @@ returns-2 : tie.Need-returns-2
 returns-2 c =
     let a = c .before .before .before .before .before .before .before .before .before .before .before in
     let p = a .args .prices .now in
-    let t = shown (a .args .z) (a .args .benefits .now) (a .args .downs .now) in
+    let t = pricedTable (a .args .z) (a .args .benefits .now) (a .args .downs .now) in
     let present = a .pre .1 .value in
     let high = min-higher (c .before .before .trial .ensures) (c .before .if1 .left) in
     (priced-low t (a .args .step) p (a .args .r) (omega (arith, present)) (c .if2 .taken), a .pre .1)
@@ -54,7 +54,7 @@ returns-3 : tie.Need-returns-3
 returns-3 c =
     let a = c .before .before .before .before .before .before .before .before .before .before .before .before .before .before .before .before .before .before .before .before .before .before in
     let p = a .args .prices .now in
-    let t = shown (a .args .z) (a .args .benefits .now) (a .args .downs .now) in
+    let t = pricedTable (a .args .z) (a .args .benefits .now) (a .args .downs .now) in
     let present = a .pre .1 .value in
     let down : set p (a .args .r - 1) (c .before .before .before .before .before .before .before .before .before .before .before .before .before .before .before .before .above .result) ≡ lowered p (a .args .r) (a .args .step) = ap (set p (a .args .r - 1)) (c .before .before .before .before .before .before .before .before .before .before .before .before .before .before .before .before .above .ensures) in
     let at-down = ap (ceilingAt t) down in
@@ -67,7 +67,7 @@ returns-4 : tie.Need-returns-4
 returns-4 c =
     let a = c .before .before .before .before .before .before .before .before .before .before .before .before .before .before .before in
     let p = a .args .prices .now in
-    let t = shown (a .args .z) (a .args .benefits .now) (a .args .downs .now) in
+    let t = pricedTable (a .args .z) (a .args .benefits .now) (a .args .downs .now) in
     let present = a .pre .1 .value in
     let down : set p (a .args .r - 1) (c .before .before .before .before .before .before .before .before .before .above .result) ≡ lowered p (a .args .r) (a .args .step) = ap (set p (a .args .r - 1)) (c .before .before .before .before .before .before .before .before .before .above .ensures) in
     let at-down = ap (ceilingAt t) down in

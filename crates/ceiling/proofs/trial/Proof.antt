@@ -5,13 +5,13 @@ use native.Mathlib.Omega.{arith}
 use native.Mathlib.Nat.{min-eq-left, min-eq-right}
 use borrow.Author.Needs.{needs}
 use lib.ListN.{set}
-use Rattle.ceiling.specs.Prices.{shown}
+use Rattle.ceiling.specs.Prices.{pricedTable}
 use Rattle.ceiling.proofs.Costs.{Summed, whole-fits, summed-none, summed-next, summed-early, summed-all, margin-small}
 use Rattle.ceiling.proofs.trial.Statement.{statement}
 use Rattle.ceiling.proofs.trial.Tie as tie
 
 abbrev Inv-loop : tie.InvT-loop
-Inv-loop z benefits downs prices costs r price present total₀ i₀ total i = (i ≤ z .segments) × Summed (shown z benefits downs) (set prices (r - 1) price) i total
+Inv-loop z benefits downs prices costs r price present total₀ i₀ total i = (i ≤ z .segments) × Summed (pricedTable z benefits downs) (set prices (r - 1) price) i total
 
 abbrev μ-loop : tie.MeasureT-loop
 μ-loop z benefits downs prices costs r price present total₀ i₀ total i = z .segments - i

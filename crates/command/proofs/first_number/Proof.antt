@@ -2,18 +2,18 @@
 use mathlib.Core.Path.{sym, ap, _∙_}
 use native.Mathlib.Omega.{arith}
 use Rattle.base.proofs.Buffers.{whole-tail}
-use Rattle.command.specs.Reading.{wordOf, numberIn, numberOf}
+use Rattle.command.specs.Reading.{wordOf, numberIn, readNumber}
 use Rattle.command.proofs.Reading.{first-none, first-other, first-blank, word-taken, word-size}
 use borrow.Author.Needs.{needs}
 use Rattle.command.proofs.first_number.Statement.{statement}
 use Rattle.command.proofs.first_number.Tie as tie
 
 returns : tie.Need-returns
-unfolding numberOf
+unfolding readNumber
 returns c = sym (first-none _ (c .if1 .taken))
 
 returns-2 : tie.Need-returns-2
-unfolding numberOf
+unfolding readNumber
 returns-2 c = sym (first-other _ (omega arith) (c .if2 .taken))
 
 slice-aggregate-read-number : tie.Need-slice-aggregate-read-number

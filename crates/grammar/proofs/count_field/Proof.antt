@@ -1,3 +1,4 @@
+-- `grammar::count_field` meets its contract.
 use Prim.Native.Nat.{ℕ, _≤_}
 use mathlib.Core.Path.{_∙_}
 use native.Mathlib.Omega.{arith}

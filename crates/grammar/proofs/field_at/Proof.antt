@@ -1,3 +1,4 @@
+-- `grammar::field_at` meets its contract.
 use mathlib.Core.Path.{sym, _∙_}
 use Rattle.rules.specs.Format.{fieldAt}
 use Rattle.base.proofs.Choice.{pick-yes, pick-no}

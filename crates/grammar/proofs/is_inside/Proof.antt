@@ -1,3 +1,4 @@
+-- `grammar::is_inside` meets its contract.
 use Rattle.rules.specs.Format.{ranged}
 use Rattle.base.proofs.Choice.{picks}
 use Rattle.grammar.proofs.is_inside.Statement.{statement}

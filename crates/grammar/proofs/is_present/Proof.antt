@@ -1,3 +1,4 @@
+-- `grammar::is_present` meets its contract.
 use Rattle.base.proofs.Choice.{picks}
 use borrow.Author.Needs.{needs}
 use Rattle.grammar.proofs.is_present.Statement.{statement}

@@ -1,3 +1,4 @@
+-- `grammar::kind_field` meets its contract.
 use Rattle.base.proofs.Choice.{picks}
 use borrow.Author.Needs.{needs}
 use Rattle.grammar.proofs.kind_field.Statement.{statement}

@@ -1,3 +1,4 @@
+-- `grammar::largest_mask` meets its contract.
 use Prim.Native.Nat.{ℕ, _-_, _*_, _^_, _%_, _≤_, _<_}
 use mathlib.Core.Path.{_≡_, sym, ap, _∙_}
 use native.Mathlib.Nat.{one-mul, min-eq-left, min-eq-right}

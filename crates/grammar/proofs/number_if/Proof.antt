@@ -1,3 +1,4 @@
+-- `grammar::number_if` meets its contract.
 use Rattle.base.proofs.Choice.{picks}
 use borrow.Author.Needs.{needs}
 use Rattle.grammar.proofs.number_if.Statement.{statement}

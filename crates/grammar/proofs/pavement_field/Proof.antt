@@ -1,3 +1,4 @@
+-- `grammar::pavement_field` meets its contract.
 use Rattle.base.proofs.Choice.{picks}
 use borrow.Author.Needs.{needs}
 use Rattle.grammar.proofs.pavement_field.Statement.{statement}

@@ -1,3 +1,4 @@
+-- `grammar::rows_field` meets its contract.
 use Rattle.base.proofs.Choice.{picks}
 use borrow.Author.Needs.{needs}
 use Rattle.grammar.proofs.rows_field.Statement.{statement}

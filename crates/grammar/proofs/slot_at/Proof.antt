@@ -1,3 +1,4 @@
+-- `grammar::slot_at` meets its contract.
 use Rattle.base.proofs.Choice.{picks}
 use borrow.Author.Needs.{needs}
 use Rattle.grammar.proofs.slot_at.Statement.{statement}

@@ -1,3 +1,4 @@
+-- `grammar::strategy_field` meets its contract.
 use Rattle.base.proofs.Choice.{picks}
 use borrow.Author.Needs.{needs}
 use Rattle.grammar.proofs.strategy_field.Statement.{statement}
