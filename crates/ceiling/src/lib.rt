@@ -4,7 +4,7 @@ use tables::COLUMNS;
 use tables::ENTRIES;
 use tables::Size;
 ghost use mathlib.Core.Path.{_≡_};
-ghost use Prim.Native.Nat.{_+_, _*_, _-_, _≤_, _<_, _^_, max, min};
+ghost use Prim.Native.Nat.{_+_, _*_, _-_, _≤_, _<_, _^_, min};
 ghost use lib.ListN.{set};
 ghost use Rattle.base.specs.Over.{sum};
 ghost use Rattle.tables.specs.Arrays.{columns};
