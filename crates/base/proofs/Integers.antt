@@ -9,16 +9,17 @@ use native.Mathlib.Omega.{arith}
 use borrow.Author.Tests.{le-ltb, lt-ltb, leb-true, leb-false}
 use lib.Dec.{T, ltb, ltb→lt, lit<}
 use lib.IntN.{ℤ, pos, negsuc, negℤ, natAbs, subℕ, _+ℤ_, _-ℤ_, _*ℤ_, negℤ-+ℤ, *ℤ-zero}
-use lib.Signed.{mag, quotZ, leZ, ltZ, nonNeg}
+use lib.Signed.{mag, quotZ, leZ, ltZ, nonNeg, _≤ℤ_, leZ-yes, ≤ℤ-refl}
 use mir.Syntax.{Width}
 use mir.Val.{Fits, SFits, bits, hbits, toZ, ofZ}
 use mir.ValLaws.{toZ-ofZ}
-use Rattle.base.specs.Over.{sum, sumZ, minZ}
+use Rattle.base.specs.Over.{sum, sumZ, minZ, maxZ}
+use Rattle.base.specs.Choice.{pick}
 use Rattle.base.proofs.Choice.{pick-all}
 
 -- ---- bounds
 
-abs-neg : (z : ℤ) → natAbs (negℤ z) ≡ natAbs z
+pub abs-neg : (z : ℤ) → natAbs (negℤ z) ≡ natAbs z
 abs-neg (pos zero) = refl
 abs-neg (pos (suc n)) = refl
 abs-neg (negsuc n) = refl
@@ -61,6 +62,40 @@ min-first x y e = rw e
 pub min-second : (x y : ℤ) → leZ x y ≡ false → minZ x y ≡ y
 unfolding minZ
 min-second x y e = rw e
+
+pub abs-max : (x y : ℤ) {n : ℕ} → natAbs x ≤ n → natAbs y ≤ n → natAbs (maxZ x y) ≤ n
+unfolding maxZ
+abs-max x y {n} p q = pick-all (λ (z : ℤ). natAbs z ≤ n) (leZ x y) y x q p
+
+pub max-second : (x y : ℤ) → leZ x y ≡ true → maxZ x y ≡ y
+unfolding maxZ
+max-second x y e = rw e
+
+pub max-first : (x y : ℤ) → leZ x y ≡ false → maxZ x y ≡ x
+unfolding maxZ
+max-first x y e = rw e
+
+-- the smaller of two is at most the second, the greater at least the first,
+pub min-le : (x y : ℤ) → minZ x y ≤ℤ y
+unfolding minZ
+min-le x y = go (leZ x y) refl
+  where
+    go : (t : Bool) → leZ x y ≡ t → pick t x y ≤ℤ y
+    go true e = leZ-yes (rw e tt)
+    go false e = ≤ℤ-refl y
+
+pub max-ge : (x y : ℤ) → x ≤ℤ maxZ x y
+unfolding maxZ
+max-ge x y = go (leZ x y) refl
+  where
+    go : (t : Bool) → leZ x y ≡ t → x ≤ℤ pick t y x
+    go true e = leZ-yes (rw e tt)
+    go false e = ≤ℤ-refl x
+
+-- and at most what both are at most
+pub max-le : (x y z : ℤ) → x ≤ℤ z → y ≤ℤ z → maxZ x y ≤ℤ z
+unfolding maxZ
+max-le x y z p q = pick-all (λ (v : ℤ). v ≤ℤ z) (leZ x y) y x q p
 
 -- a difference that is not below 0
 pub pos-minus : (a b : ℕ) → b ≤ a → pos a -ℤ pos b ≡ pos (a - b)

@@ -3,3 +3,4 @@ pub mod EveryAnswer
 pub mod EveryFile
 pub mod TheRules
 pub mod OneClaim
+pub mod RatingsOnScale

@@ -1,3 +1,4 @@
+pub mod Survival
 pub mod Give
 pub mod Gives
 pub mod Steps

@@ -7,13 +7,14 @@ use native.Mathlib.Nat.{mul-le-mul}
 use native.Mathlib.Omega.{arith}
 use borrow.Author.Tests.{ltb-true}
 use lib.Dec.{ltb}
-use lib.IntN.{pos, natAbs, _-ℤ_}
+use lib.IntN.{pos, natAbs, negℤ, _-ℤ_}
 use Rattle.base.specs.Bytes.{signed}
 use Rattle.base.specs.Over.{sumZ}
-use Rattle.base.proofs.Integers.{abs-add, abs-min, abs-mul-le, abs-quot, pos-minus, sumZ-abs}
+use Rattle.base.proofs.Integers.{abs-add, abs-neg, abs-min, abs-max, abs-mul-le, abs-quot, pos-minus, sumZ-abs}
+use Rattle.laws.proofs.Survival.{survival-le}
 use Rattle.grammar.specs.Ranges.{Ranges}
 use Rattle.rules.specs.District.{District, mostStrategies, gainsAt, valueAt, strategyPlace, segmentPlace, distressesOf, yearsOf, greatestOf, gainOf, pavementOf, ratingOf}
-use Rattle.rules.specs.Rating.{gain, survival, improvement, improvements, rating, effect, area, benefit, usage, scaledLimit}
+use Rattle.rules.specs.Rating.{cappedGain, gain, survival, improvement, improvements, rating, effect, area, benefit, usage, scaledLimit}
 use Rattle.rating.specs.Numbers.{Segment, SegmentOf, Pavement, Strategy, Distress, Resource}
 
 -- a byte whose signed number is small
@@ -25,11 +26,6 @@ byte-small b h = go (ltb b 128) refl (ltb b 256) refl
     go false e true f = omega (arith, ltb-true b 256 f)
     go false e false f = let z : natAbs (pos b -ℤ pos 256) ≤ 50 = rw e at h in omega (arith, rw f at z)
 
-pub survival-le : (d : District) (i j k t : ℕ) → survival d i j k t ≤ 1_000_000
-unfolding survival
-survival-le d i j k zero = omega arith
-survival-le d i j k (suc t) = omega arith
-
 module _ (d : District) (ok : Ranges d) where
   pub byte-le : (j k : ℕ) → Strategy j → Distress k → valueAt d (strategyPlace j + gainsAt + (k - 1)) ≤ 306
   unfolding gainOf
@@ -39,13 +35,17 @@ module _ (d : District) (ok : Ranges d) where
   unfolding pavementOf
   pavement-in i p = let n = ok .segments in (ok .some-type i (p .0) (p .1), ok .pavement i (p .0) (omega arith))
 
+  pub current-le : (i k : ℕ) → Segment i → Distress k → ratingOf d i k ≤ 50
+  current-le i k p s = omega (arith, ok .rating i k (p .0) (p .1) (s .0) (s .1), ok .greatest k (s .0) (s .1))
+
   pub gain-abs : (i j k : ℕ) → Segment i → Strategy j → Distress k → natAbs (gain d i j k) ≤ 50
-  unfolding gain
+  unfolding gain cappedGain
   gain-abs i j k p q s =
       let g = ok .greatest k (s .0) (s .1) in
       let r = ok .rating i k (p .0) (p .1) (s .0) (s .1) in
-      abs-min (gainOf d j k) (pos (greatestOf d k) -ℤ pos (ratingOf d i k)) (ok .gain j k (q .0) (q .1) (s .0) (s .1))
-      (rw (pos-minus (greatestOf d k) (ratingOf d i k) r) (omega arith))
+      abs-max (negℤ (pos (ratingOf d i k))) (cappedGain d i j k) (rw (abs-neg (pos (ratingOf d i k))) (current-le i k p s))
+      (abs-min (gainOf d j k) (pos (greatestOf d k) -ℤ pos (ratingOf d i k)) (ok .gain j k (q .0) (q .1) (s .0) (s .1))
+      (rw (pos-minus (greatestOf d k) (ratingOf d i k) r) (omega arith)))
 
   pub improvement-abs : (i j k t : ℕ) → Segment i → Strategy j → Distress k → natAbs (improvement d i j k t) ≤ 50_000_000
   unfolding improvement
@@ -54,9 +54,7 @@ module _ (d : District) (ok : Ranges d) where
   pub rating-abs : (i j k t : ℕ) → Segment i → Strategy j → Distress k → natAbs (rating d i j k t) ≤ 100_000_000
   unfolding rating
   rating-abs i j k t p q s =
-      let g = ok .greatest k (s .0) (s .1) in
-      let r = ok .rating i k (p .0) (p .1) (s .0) (s .1) in
-      omega (arith, improvement-abs i j k t p q s, abs-add (pos (1_000_000 * ratingOf d i k)) (improvement d i j k t))
+      omega (arith, current-le i k p s, improvement-abs i j k t p q s, abs-add (pos (1_000_000 * ratingOf d i k)) (improvement d i j k t))
 
   pub improvements-abs : (i j k : ℕ) → Segment i → Strategy j → Distress k → natAbs (improvements d i j k) ≤ 500_000_000
   unfolding improvements

@@ -6,7 +6,7 @@ ghost use Rattle.base.specs.Choice.{pick};
 ghost use Rattle.base.specs.Over.{sum, sumZ};
 ghost use Rattle.grammar.specs.Ranges.{Ranges};
 ghost use Rattle.rules.specs.District.{mostYears, gainsAt, percentsAt, minimaAt, barsAt, valueAt, limitPlace, greatestPlace, strategyPlace, pavementPlace, segmentPlace, ratingPlace, gainOf, yearsOf, distressesOf, barredIn};
-ghost use Rattle.rules.specs.Rating.{gain, survival, improvements, rating, effect, area, benefit, usage, scaledLimit, reaches, minimumReached, yearsReached, minimaReached, firstRating, overallReached, permitted, fitsAlone, candidate};
+ghost use Rattle.rules.specs.Rating.{cappedGain, gain, survival, improvements, rating, effect, area, benefit, usage, scaledLimit, reaches, minimumReached, yearsReached, minimaReached, firstRating, overallReached, permitted, fitsAlone, candidate};
 ghost use Rattle.rules.specs.Table.{has, candidateBenefit, usageIn, limitIn};
 ghost use Rattle.rating.specs.Areas.{areaIn, Treats};
 ghost use Rattle.rating.specs.Numbers.{Segment, SegmentOf, Strategy, Distress, Year, Pavement, Resource};
@@ -102,13 +102,23 @@ fn own_gain(d: &District, j: usize, k: usize) -> i64
 }
 
 // The same on segment i, cut to what is left up to the greatest rating.
-fn gain(d: &District, i: usize, j: usize, k: usize) -> i64
+fn capped_gain(d: &District, i: usize, j: usize, k: usize) -> i64
     requires { ⌜ Ranges (now d) × Segment i × Strategy j × Distress k ⌝ }
-    ensures { λ g. ⌜ g ≡ gain (now (d .entry)) i j k ⌝ }
+    ensures { λ g. ⌜ g ≡ cappedGain (now (d .entry)) i j k ⌝ }
 {
     let own = own_gain(d, j, k);
     let left = (greatest_at(d, k) - rating_at(d, i, k)) as i64;
     if own <= left { own } else { left }
+}
+
+// And cut to the loss of the whole current rating.
+fn gain(d: &District, i: usize, j: usize, k: usize) -> i64
+    requires { ⌜ Ranges (now d) × Segment i × Strategy j × Distress k ⌝ }
+    ensures { λ g. ⌜ g ≡ gain (now (d .entry)) i j k ⌝ }
+{
+    let capped = capped_gain(d, i, j, k);
+    let lowest = -(rating_at(d, i, k) as i64);
+    if lowest <= capped { capped } else { lowest }
 }
 
 // What is left of it in year t, in millionths.

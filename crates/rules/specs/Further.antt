@@ -1,15 +1,17 @@
 -- Further districts, worked out by an independent program (reference/) and computed from these rules.
 -- Two of the plausible mistakes pass M1 to M9: the effect divided term by term (each effect there has one term or divides evenly), and the
 -- smallest benefit dropped instead of the smallest ratio. And the marked cases have no pick-up, no change, no requirement that a strategy
--- misses, no second distress type and no second limit that does not hold. These districts have them. The last four tell apart readings that
+-- misses, no second distress type and no second limit that does not hold. These districts have them. Four tell apart readings that
 -- come to the same everywhere else: how a ratio is rounded, what a surplus is taken from, how single changes are ordered, when a price stays.
+-- Those of gains that are cut at 0 were worked by hand.
+use Prim.Native.Nat.{ℕ}
 use mathlib.Core.Path.{refl}
 use mathlib.Core.List.{List, [], _∷_}
 use lib.IntN.{pos}
 use Rattle.rules.specs.Lists.{Load, Alter}
 use Rattle.rules.specs.declared.Edit.the-variants.{SetRating}
 use Rattle.rules.specs.Writer.{Roads, minus, strategy, nothingDemanded, segment, barring, fileOf}
-use Rattle.rules.specs.Results.{shown, initialRating, effects, planned, shows, resultOf, WorkedCase, _⇒_, Agree}
+use Rattle.rules.specs.Results.{shown, initialRating, ratings, effects, planned, shows, resultOf, WorkedCase, _⇒_, Agree}
 use Rattle.rules.specs.Marked.{card, oneSegment}
 
 -- steps, a pick-up and changes, with a strategy barred
@@ -217,6 +219,44 @@ equalCeilings =
           ∷ [];
     }
 
+-- a loss that is less in each year
+abbrev pub fogSeal : List ℕ
+fogSeal = fileOf (oneSegment 100 (minus 6) (100 ∷ 50 ∷ 0 ∷ []))
+
+-- one gain cut at the greatest rating, 9 to 5, and one at 0, −6 to −2; without the second cut the strategy does harm, and nothing is taken
+abbrev pub bothCuts : Roads
+bothCuts =
+    record {
+      years = 1;
+      limits = 1000 ∷ [];
+      greatest = 20 ∷ 20 ∷ [];
+      strategies = record { requirements = 1000 ∷ []; gains = pos 9 ∷ minus 6 ∷ []; percents = (100 ∷ []) ∷ (90 ∷ []) ∷ [] } ∷ [];
+      pavements = nothingDemanded ∷ [];
+      segments = segment 100 20 (15 ∷ 2 ∷ []) ∷ [];
+    }
+
+-- Strategy 2 is the better one for segment 1, and the one that meets the overall requirement of segment 2, only because of the cut at 0:
+-- without it segment 1 gets strategy 1 and segment 2 nothing, for a total of 800,000.
+abbrev pub bledOut : Roads
+bledOut =
+    record {
+      years = 1;
+      limits = 1000 ∷ [];
+      greatest = 20 ∷ 20 ∷ [];
+      strategies =
+          record { requirements = 1000 ∷ []; gains = pos 4 ∷ []; percents = (100 ∷ []) ∷ (100 ∷ []) ∷ [] }
+          ∷ record { requirements = 1000 ∷ []; gains = pos 9 ∷ minus 6 ∷ []; percents = (100 ∷ []) ∷ (90 ∷ []) ∷ [] }
+          ∷ [];
+      pavements =
+          nothingDemanded
+          ∷ record { overall = 17; minima = [] }
+          ∷ [];
+      segments =
+          segment 100 20 (8 ∷ 2 ∷ [])
+          ∷ record { pavement = 2; traffic = 100; environment = 100; length = 100; width = 20; barred = []; ratings = 8 ∷ 2 ∷ [] }
+          ∷ [];
+    }
+
 abbrev pub furtherCases : List WorkedCase
 furtherCases =
     -- M9 with a second year
@@ -236,6 +276,12 @@ furtherCases =
     ∷ planned roundedShares ⇒ shows (1 ∷ 0 ∷ 1 ∷ []) 9_000 9_000 17_001 2 1 0
     ∷ planned singleChanges ⇒ shows (1 ∷ 0 ∷ 1 ∷ []) 15_600 10_400 20_000 5 0 2
     ∷ planned equalCeilings ⇒ shows (2 ∷ 0 ∷ []) 27_000 6_000 30_000 1 0 1
+    -- document 02, request 1: rating 2 and gain −6, of which the whole rating is lost and no more; half of that in year 2, and nothing in year 3.
+    -- Without the cut it is −4, and −4, −1 and 2.
+    ∷ initialRating (Load fogSeal ∷ Alter (SetRating 1 1 2) ∷ []) ⇒ (pos 0 ∷ [])
+    ∷ ratings (Load fogSeal ∷ Alter (SetRating 1 1 2) ∷ []) ⇒ (pos 0 ∷ pos 1_000_000 ∷ pos 2_000_000 ∷ [])
+    ∷ planned bothCuts ⇒ shows (1 ∷ []) 640_000 640_000 640_000 0 0 0
+    ∷ planned bledOut ⇒ shows (2 ∷ 2 ∷ []) 2_880_000 2_880_000 2_880_000 0 0 0
     ∷ []
 
 pub further : Agree furtherCases

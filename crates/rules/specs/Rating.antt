@@ -3,14 +3,18 @@
 use Prim.Native.Nat.{ℕ, zero, suc, _-_, _*_}
 use mathlib.Core.Bool.{Bool, not, _&&_, _||_}
 use lib.Dec.{leb, eqb}
-use lib.IntN.{ℤ, pos, _+ℤ_, _-ℤ_, _*ℤ_}
+use lib.IntN.{ℤ, pos, negℤ, _+ℤ_, _-ℤ_, _*ℤ_}
 use lib.Signed.{leZ, ltZ, quotZ}
-use Rattle.base.specs.Over.{sum, sumZ, all, minZ}
+use Rattle.base.specs.Over.{sum, sumZ, all, minZ, maxZ}
 use Rattle.rules.specs.District.{District, segmentsOf, yearsOf, distressesOf, resourcesOf, limitOf, greatestOf, requirementOf, gainOf, percentOf, overallOf, minimumOf, pavementOf, trafficOf, environmentOf, lengthOf, widthOf, barredIn, ratingOf}
 
 -- A strategy cannot lift a rating above the greatest: its gain, cut to what is left up there.
+unfoldable pub cappedGain : District → ℕ → ℕ → ℕ → ℤ
+cappedGain d i j k = minZ (gainOf d j k) (pos (greatestOf d k) -ℤ pos (ratingOf d i k))
+
+-- Nor can it take one below 0 (document 02, request 1): no more than the current rating is lost.
 unfoldable pub gain : District → ℕ → ℕ → ℕ → ℤ
-gain d i j k = minZ (gainOf d j k) (pos (greatestOf d k) -ℤ pos (ratingOf d i k))
+gain d i j k = maxZ (negℤ (pos (ratingOf d i k))) (cappedGain d i j k)
 
 -- How much of the gain is left in year t, in millionths: all of it in year 0, and no less than none in any year (_-_ stops at 0).
 unfoldable pub survival : District → ℕ → ℕ → ℕ → ℕ → ℕ

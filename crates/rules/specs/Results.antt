@@ -65,7 +65,7 @@ unfolding
     shownBy resultIn callsBefore
     Writer.fileOf
     Bits.setBit Bits.clearBit
-    Over.sum Over.sumZ Over.all Over.most Over.betterOf Over.best Over.minZ Over.listedFrom
+    Over.sum Over.sumZ Over.all Over.most Over.betterOf Over.best Over.minZ Over.maxZ Over.listedFrom
     Search.first Search.run
     District.limitOf District.greatestOf District.requirementOf District.gainOf District.percentOf District.overallOf District.minimumOf
     District.pavementOf District.trafficOf District.environmentOf District.lengthOf District.widthOf District.barsOf District.barredIn
@@ -73,7 +73,7 @@ unfolding
     Format.ranged Format.fieldAt
     File.readNumbers File.readRecord File.readRecords File.decode File.numberBytes File.recordsBytes File.encode File.numbersInRange
     File.recordsInRange File.inRange
-    Rating.gain Rating.survival Rating.improvement Rating.rating Rating.improvements Rating.effect Rating.area Rating.benefit Rating.usage
+    Rating.cappedGain Rating.gain Rating.survival Rating.improvement Rating.rating Rating.improvements Rating.effect Rating.area Rating.benefit Rating.usage
     Rating.scaledLimit Rating.reaches Rating.minimumReached Rating.yearsReached Rating.minimaReached Rating.firstRating
     Rating.overallReached Rating.permitted Rating.fitsLimit Rating.fitsAlone Rating.candidate Rating.usageBy Rating.withinLimit
     Rating.withinLimits Rating.benefitBy Rating.totalOf

@@ -13,3 +13,4 @@ pub mod Covers
 pub mod Totals
 pub mod Feasible
 pub mod Promises
+pub mod Scale

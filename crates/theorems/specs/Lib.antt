@@ -1,1 +1,2 @@
 pub mod Rivals
+pub mod Scale

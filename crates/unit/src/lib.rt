@@ -3,6 +3,7 @@
 ghost use mathlib.Core.Path.{_≡_};
 ghost use Rattle.rules.specs.Calls.{freshUnit, unitOf, answered, loadOf, alterOf, exportOf, showOf};
 ghost use Rattle.rules.specs.Demands.{EveryAnswer, EveryPoints, TheRules, EveryFile, OneClaim};
+ghost use Rattle.theorems.specs.Scale.{RatingsOnScale};
 use rules::Answer;
 use rules::District;
 use rules::Edit;
@@ -46,6 +47,7 @@ pub fn fresh() -> Unit
     ensures exact { λ _. ⌜ TheRules ⌝ }
     ensures files { λ _. ⌜ EveryFile ⌝ }
     ensures claim { λ _. ⌜ OneClaim ⌝ }
+    ensures scale { λ _. ⌜ RatingsOnScale ⌝ }
 {
     hold(edits::fresh_district())
 }

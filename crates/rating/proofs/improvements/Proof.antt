@@ -10,7 +10,8 @@ use Rattle.base.proofs.Integers.{told, sfits-abs, sumZ-times}
 use Rattle.base.proofs.Sums.{sum-bound}
 use Rattle.rules.specs.District.{yearsOf}
 use Rattle.rules.specs.Rating.{gain, survival, improvement, improvements}
-use Rattle.rating.proofs.Bounds.{survival-le, improvements-abs}
+use Rattle.laws.proofs.Survival.{survival-le}
+use Rattle.rating.proofs.Bounds.{improvements-abs}
 use borrow.Author.Needs.{needs}
 use Rattle.rating.proofs.improvements.Statement.{statement}
 use Rattle.rating.proofs.improvements.Tie as tie

@@ -9,7 +9,8 @@ use mir.Facts.{toZ-ofZ, toZ-pos}
 use Rattle.base.proofs.Integers.{sfits-abs}
 use Rattle.rules.specs.District.{ratingOf}
 use Rattle.rules.specs.Rating.{improvement, rating}
-use Rattle.rating.proofs.Bounds.{survival-le, improvement-abs, rating-abs}
+use Rattle.laws.proofs.Survival.{survival-le}
+use Rattle.rating.proofs.Bounds.{current-le, improvement-abs, rating-abs}
 use borrow.Author.Needs.{needs}
 use Rattle.rating.proofs.rating.Statement.{statement}
 use Rattle.rating.proofs.rating.Tie as tie
@@ -17,9 +18,8 @@ use Rattle.rating.proofs.rating.Tie as tie
 standing-le : (c : tie.After-rating-at) → c .rating-at .result ≤ 50
 unfolding ratingOf
 standing-le c =
-    let s = c .before in
-    let p = s .pre in
-    rw (c .rating-at .ensures) (omega (arith, p .0 .rating (s .args .i) (s .args .k) (p .1 .0) (p .1 .1) (p .3 .0) (p .3 .1), p .0 .greatest (s .args .k) (p .3 .0) (p .3 .1)))
+    let p = c .before .pre in
+    rw (c .rating-at .ensures) (current-le _ (p .0) _ _ (p .1) (p .3))
 
 left-le : (c : tie.After-survival) → c .survival .result ≤ 1_000_000
 left-le c = rw (c .survival .ensures) (survival-le _ _ _ _ _)

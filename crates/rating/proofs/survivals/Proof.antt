@@ -5,7 +5,7 @@ use native.Mathlib.Omega.{arith}
 use Rattle.base.specs.Over.{sum}
 use Rattle.base.proofs.Sums.{sum-none, sum-next, sum-bound, sum-end}
 use Rattle.rules.specs.Rating.{survival}
-use Rattle.rating.proofs.Bounds.{survival-le}
+use Rattle.laws.proofs.Survival.{survival-le}
 use Rattle.rating.proofs.survivals.Statement.{statement}
 use Rattle.rating.proofs.survivals.Tie as tie
 
