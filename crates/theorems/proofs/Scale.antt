@@ -21,7 +21,7 @@ loss-le : (c n : ℕ) → negℤ (pos c) ≤ℤ negsuc n → suc n ≤ c
 loss-le zero n h = absurd (h .le)
 loss-le (suc m) n h = omega (arith, leb→le n m (h .le))
 
--- c points, of which a loss leaves a part s of a million
+-- c points less what survives of a loss of n + 1, a part s of a million
 lost : (c s n : ℕ) → suc n ≤ c → s ≤ 1_000_000 → pos (1_000_000 * c) +ℤ negsuc n *ℤ pos s ≡ pos (1_000_000 * c - suc n * s)
 lost c s n h p = let q : suc n * s ≤ c * 1_000_000 = mul-le-mul h p in pos-minus (1_000_000 * c) (suc n * s) (omega arith)
 
