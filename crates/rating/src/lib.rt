@@ -3,10 +3,10 @@ ghost use mathlib.Core.Path.{_≡_};
 ghost use Prim.Native.Nat.{ℕ, _+_, _-_, _*_, _≤_};
 ghost use lib.IntN.{natAbs};
 ghost use Rattle.base.specs.Choice.{pick};
-ghost use Rattle.base.specs.Over.{sum, sumZ};
+ghost use Rattle.base.specs.Over.{sum, sumZ, minZ, maxZ};
 ghost use Rattle.grammar.specs.Ranges.{Ranges};
 ghost use Rattle.rules.specs.District.{mostYears, gainsAt, percentsAt, minimaAt, barsAt, valueAt, limitPlace, greatestPlace, strategyPlace, pavementPlace, segmentPlace, ratingPlace, gainOf, yearsOf, distressesOf, barredIn};
-ghost use Rattle.rules.specs.Rating.{cappedGain, gain, survival, improvements, rating, effect, area, benefit, usage, scaledLimit, reaches, minimumReached, yearsReached, minimaReached, firstRating, overallReached, permitted, fitsAlone, candidate};
+ghost use Rattle.rules.specs.Rating.{gain, survival, improvements, rating, effect, area, benefit, usage, scaledLimit, reaches, minimumReached, yearsReached, minimaReached, firstRating, overallReached, permitted, fitsAlone, candidate};
 ghost use Rattle.rules.specs.Table.{has, candidateBenefit, usageIn, limitIn};
 ghost use Rattle.rating.specs.Areas.{areaIn, Treats};
 ghost use Rattle.rating.specs.Numbers.{Segment, SegmentOf, Strategy, Distress, Year, Pavement, Resource};
@@ -101,24 +101,28 @@ fn own_gain(d: &District, j: usize, k: usize) -> i64
     byte as i64 - 256
 }
 
-// The same on segment i, cut to what is left up to the greatest rating.
-fn capped_gain(d: &District, i: usize, j: usize, k: usize) -> i64
-    requires { ⌜ Ranges (now d) × Segment i × Strategy j × Distress k ⌝ }
-    ensures { λ g. ⌜ g ≡ cappedGain (now (d .entry)) i j k ⌝ }
+fn smaller(a: i64, b: i64) -> i64
+    ensures { λ r. ⌜ r ≡ minZ a b ⌝ }
 {
-    let own = own_gain(d, j, k);
-    let left = (greatest_at(d, k) - rating_at(d, i, k)) as i64;
-    if own <= left { own } else { left }
+    if a <= b { a } else { b }
 }
 
-// And cut to the loss of the whole current rating.
+fn greater(a: i64, b: i64) -> i64
+    ensures { λ r. ⌜ r ≡ maxZ a b ⌝ }
+{
+    if a <= b { b } else { a }
+}
+
+// The same on segment i, cut to what is left up to the greatest rating, and to the loss of the whole current one.
 fn gain(d: &District, i: usize, j: usize, k: usize) -> i64
     requires { ⌜ Ranges (now d) × Segment i × Strategy j × Distress k ⌝ }
     ensures { λ g. ⌜ g ≡ gain (now (d .entry)) i j k ⌝ }
 {
-    let capped = capped_gain(d, i, j, k);
-    let lowest = -(rating_at(d, i, k) as i64);
-    if lowest <= capped { capped } else { lowest }
+    let own = own_gain(d, j, k);
+    let greatest = greatest_at(d, k);
+    let current = rating_at(d, i, k);
+    let capped = smaller(own, (greatest - current) as i64);
+    greater(-(current as i64), capped)
 }
 
 // What is left of it in year t, in millionths.

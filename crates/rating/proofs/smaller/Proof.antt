@@ -1,0 +1,19 @@
+-- `rating::smaller` meets its contract.
+use mathlib.Core.Path.{_∙_, sym}
+use mir.Facts.{toZ-ofZ}
+use Rattle.base.proofs.Integers.{min-first, min-second}
+use Rattle.rating.proofs.smaller.Statement.{statement}
+use Rattle.rating.proofs.smaller.Tie as tie
+
+returns : tie.Need-returns
+returns c =
+    let fits = c .before .fits in
+    toZ-ofZ (fits .a) ∙ sym (min-first _ _ (rw (toZ-ofZ (fits .a), toZ-ofZ (fits .b)) at (c .if1 .taken)))
+
+returns-2 : tie.Need-returns-2
+returns-2 c =
+    let fits = c .before .fits in
+    toZ-ofZ (fits .b) ∙ sym (min-second _ _ (rw (toZ-ofZ (fits .a), toZ-ofZ (fits .b)) at (c .if1 .left)))
+
+pub smaller-spec : {M : Type 1} → statement M
+smaller-spec = tie.close (tie.spec returns returns-2)
