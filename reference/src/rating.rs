@@ -7,10 +7,13 @@ use crate::district::*;
 
 pub const MILLION: i64 = 1_000_000;
 
-/// The gain that remains possible: a rating can't pass its greatest.
+/// The gain that remains possible: right after the work a rating is neither
+/// above its greatest nor below 0. A strategy that takes more than there is,
+/// like a fog seal on a road already bled out, takes just what there is.
 pub fn gain(district: &District, segment: &Segment, strategy: &Strategy, k: usize) -> i64 {
-    let missing = i64::from(district.greatest[k]) - i64::from(segment.ratings[k]);
-    i64::from(strategy.gains[k]).min(missing)
+    let current = i64::from(segment.ratings[k]);
+    let missing = i64::from(district.greatest[k]) - current;
+    i64::from(strategy.gains[k]).min(missing).max(-current)
 }
 
 /// Survival under the segment's traffic and environment, never below 0.
@@ -72,7 +75,6 @@ pub fn permitted(district: &District, i: usize, j: usize) -> bool {
     let demands = &district.types[usize::from(segment.pavement) - 1];
     for (k, row) in demands.minimum.chunks_exact(district.years).enumerate() {
         for (t, &minimum) in (1..).zip(row) {
-            // A negative rating still meets a minimum of 0.
             if minimum > 0 && rating(district, segment, strategy, k, t) < MILLION * i64::from(minimum) {
                 return false;
             }

@@ -23,7 +23,14 @@ impl Rules<'_> {
 
     fn gain(&self, i: usize, j: usize, k: usize) -> i128 {
         let current = i128::from(self.d.segments[i].ratings[k]);
-        i128::from(self.d.strategies[j - 1].gains[k]).min(i128::from(self.d.greatest[k]) - current)
+        let gain = i128::from(self.d.strategies[j - 1].gains[k]);
+        let room = i128::from(self.d.greatest[k]) - current;
+        let cut = if gain < room { gain } else { room };
+        if cut > -current {
+            cut
+        } else {
+            -current
+        }
     }
 
     fn survival(&self, i: usize, j: usize, k: usize, t: usize) -> i128 {

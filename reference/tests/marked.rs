@@ -1,4 +1,4 @@
-//! The marked cases M1 to M9.
+//! The marked cases M1 to M9, and a loss deeper than the rating.
 
 mod common;
 
@@ -97,5 +97,24 @@ fn m9_effect_is_cut_toward_zero() {
     for (gain, effect) in [(-1, -89), (1, 89)] {
         let district = one(101, gain, &[90]);
         assert_eq!(rating::effect(&district, &district.segments[0], &district.strategies[0]), effect);
+    }
+}
+
+/// A flushing rating of 2 and a fog seal that would take 6: it takes 2.
+#[test]
+fn a_fog_seal_on_a_road_already_bled_out() {
+    let mut district = one(100, -6, &[90, 50, 0]);
+    for (rating, ratings, effect) in [
+        (2, [0, 200_000, 1_000_000, 2_000_000], -280),
+        // From 6 on nothing is cut; at 0 there is nothing to take.
+        (6, [0, 600_000, 3_000_000, 6_000_000], -840),
+        (7, [1_000_000, 1_600_000, 4_000_000, 7_000_000], -840),
+        (0, [0; 4], 0),
+    ] {
+        district.segments[0].ratings[0] = rating;
+        let (segment, strategy) = (&district.segments[0], &district.strategies[0]);
+        let worked: Vec<i64> = (0..=3).map(|t| rating::rating(&district, segment, strategy, 0, t)).collect();
+        assert_eq!(worked, ratings);
+        assert_eq!(rating::effect(&district, segment, strategy), effect);
     }
 }
