@@ -4,6 +4,7 @@ use crate::district::*;
 use crate::file;
 use crate::random::Random;
 use crate::rating;
+use crate::unit::Plan;
 use std::path::Path;
 use std::{fs, io};
 
@@ -76,14 +77,18 @@ enum Family {
     /// Round sizes and requirements: uses are whole units, and much ties.
     Round,
     /// Large gains and losses that last or vanish at once, from rating 0, with
-    /// nothing demanded: ratings below 0 come up.
+    /// nothing demanded.
     Sharp,
+    /// Losses deeper than the low ratings they are taken from, beside gains:
+    /// what a loss is cut to decides benefits and what is permitted.
+    Bled,
 }
 
 fn any_district(random: &mut Random, shape: Shape) -> District {
     let family = match random.below(100) {
         0..=14 => Family::Round,
         15..=20 => Family::Sharp,
+        21..=32 => Family::Bled,
         _ => Family::Mixed,
     };
     let greatest = greatest(random, shape);
@@ -117,6 +122,7 @@ fn greatest(random: &mut Random, shape: Shape) -> Vec<u8> {
 fn strategies(random: &mut Random, shape: Shape, family: Family, greatest: &[u8]) -> Vec<Strategy> {
     let (gain_manner, survival_manner) = match family {
         Family::Sharp => (2, 2),
+        Family::Bled => (16, random.below(8)),
         _ => (random.below(16), random.below(8)),
     };
     let requirement_manner = if family == Family::Round { 11 } else { random.below(16) };
@@ -141,6 +147,7 @@ fn strategies(random: &mut Random, shape: Shape, family: Family, greatest: &[u8]
                 3 | 4 => random.within(0, 100) as i8 - 50,
                 5 => random.within(0, 60) as i8 - 10,
                 6..=11 => (u64::from(most) * random.within(weight / 2, weight) / 100) as i8,
+                16 if random.chance(50) => -(random.within(1, 50) as i8),
                 _ => random.within(0, u64::from(most)) as i8,
             })
             .collect();
@@ -218,7 +225,11 @@ fn segments(random: &mut Random, shape: Shape, family: Family, greatest: &[u8]) 
         _ => (random.below(9), random.below(6)),
     };
     let bar_manner = random.below(30);
-    let rating_manner = if family == Family::Sharp { 0 } else { random.below(10) };
+    let rating_manner = match family {
+        Family::Sharp => 0,
+        Family::Bled => 10,
+        _ => random.below(10),
+    };
     let (one_length, one_width) = (random.within(1, 9_999) as u16, random.within(1, 200) as u8);
     let all = (1u16 << shape.strategies) - 1;
     let mut made: Vec<Segment> = Vec::new();
@@ -274,6 +285,7 @@ fn segments(random: &mut Random, shape: Shape, family: Family, greatest: &[u8]) 
                             0
                         }
                     }
+                    10 => random.within(0, u64::from(most.min(8))) as u8,
                     _ => random.within(0, u64::from(most)) as u8,
                 })
                 .collect(),
@@ -314,6 +326,14 @@ pub fn set_limits(random: &mut Random, district: &mut District) {
         };
         district.limits[r] = limit.min(LIMIT_MOST.into()) as u32;
     }
+}
+
+/// Some strategy of the plan would take more from a rating than there is.
+pub fn takes_a_cut_loss(district: &District, plan: &Plan) -> bool {
+    district.segments.iter().zip(plan.strategies).any(|(segment, j)| {
+        let gains = district.strategies.get(usize::from(j).wrapping_sub(1)).map_or(&[][..], |taken| &taken.gains);
+        segment.ratings.iter().zip(gains).any(|(&rating, &gain)| i16::from(gain) < -i16::from(rating))
+    })
 }
 
 /// What each resource would be used by every segment's best candidate.

@@ -40,6 +40,7 @@ fn scripts() -> Vec<Vec<u8>> {
     ends_of_fields(&mut cases);
     files_cut(&mut cases);
     losses(&mut cases);
+    losses_cut(&mut cases);
     readings(&mut cases);
     cases.scripts
 }
@@ -187,7 +188,7 @@ fn negative_gains(cases: &mut Cases) {
     district.strategies.iter_mut().for_each(|strategy| strategy.survival[0] = 90);
     cases.district(&district);
     cases.after(&district, &[Call::Bar(1, 2)]);
-    // Ratings below 0 and minimums that they do not reach.
+    // Losses among other gains, and minimums that are not reached.
     let lossy = |_: &District, plan: &Plan| plan.total > 0;
     for district in found(300, 20, |random| make::small_shape(random, 4, 4), lossy) {
         if district.strategies.iter().any(|strategy| strategy.gains.iter().any(|&gain| gain < -20)) {
@@ -410,32 +411,62 @@ fn files_cut(cases: &mut Cases) {
     }
 }
 
-/// What is lost at once and what is gained late: ratings below 0, and ratings
-/// that are lowest right after the work.
+/// What is lost at once and what is gained late: ratings that are lowest right
+/// after the work.
 fn losses(cases: &mut Cases) {
-    let lossy = |years: usize, percents: [u8; 4], ratings: [u8; 2]| {
-        let mut district = plain(&[100], &[(-4, &[1_000])], &[(1, 0)]);
-        district.years = years;
-        district.greatest = vec![50; 2];
-        district.strategies[0].gains = vec![-4, 42];
-        district.strategies[0].survival = percents[..2 * years].to_vec();
-        district.types[0].minimum = vec![0; 2 * years];
-        district.segments[0].ratings = ratings.to_vec();
-        district
-    };
     // A minimum that holds in year 1 and would not in year 0.
-    let mut district = lossy(1, [0, 100, 0, 0], [4, 0]);
+    let mut district = losing(&[[-4, 42]], [0, 0, 100, 0], [4, 0]);
     district.types[0].minimum[0] = 4;
     cases.district(&district);
-    // Ratings of less than 0 together in year 1, where nothing is demanded.
+    // Nothing to lose, and the gain comes late.
     let late = [100, 0, 0, 100];
-    cases.district(&lossy(2, late, [0, 0]));
-    // A rating below 0 counts as what it is beside the others.
-    for overall in [1, 2, 5] {
-        let mut district = lossy(2, late, [0, 5]);
+    cases.district(&losing(&[[-4, 42]], late, [0, 0]));
+    for overall in [1, 2, 5, 6] {
+        let mut district = losing(&[[-4, 42]], late, [0, 5]);
         district.types[0].overall = overall;
         cases.district(&district);
     }
+}
+
+/// A loss deeper than the rating that it is taken from takes what is there.
+fn losses_cut(cases: &mut Cases) {
+    // The first distress type loses all in year 1 and half of it in year 2.
+    let percents = [100, 50, 100, 100];
+    let bled = |rating: u8| losing(&[[-6, 42]], percents, [rating, 5]);
+    for rating in [0, 1, 2, 5, 6, 7] {
+        cases.district(&bled(rating));
+    }
+    cases.after(&bled(6), &[Call::SetRating(1, 1, 2)]);
+    cases.after(&bled(2), &[Call::SetRating(1, 1, 6)]);
+    // What is left in year 2 reaches a minimum of 1, and not of 2.
+    for minimum in [1, 2] {
+        let mut district = bled(2);
+        district.types[0].minimum[1] = minimum;
+        cases.district(&district);
+    }
+    // Together with what is gained there are 47 in year 1.
+    for overall in [47, 48] {
+        let mut district = bled(2);
+        district.types[0].overall = overall;
+        cases.district(&district);
+    }
+    // The other distress type loses; both do, and nothing is left to gain from.
+    for (gains, ratings) in [([42, -6], [5, 2]), ([-6, -6], [2, 2]), ([-6, -1], [2, 50]), ([1, -50], [49, 0])] {
+        cases.district(&losing(&[gains], percents, ratings));
+    }
+    // Of two strategies the one that loses is the better where there is little to lose.
+    for rating in [0, 9, 10, 11, 40] {
+        cases.district(&losing(&[[-40, 30], [0, 20]], [100; 4], [rating, 5]));
+    }
+    // Plans with a strategy whose loss is cut.
+    let cut = make::takes_a_cut_loss;
+    let small = |random: &mut Random| make::small_shape(random, 6, 4);
+    let kept = [
+        found(800, 6, small, cut),
+        found(801, 3, small, |district, plan| cut(district, plan) && plan.steps > 0),
+        found(802, 3, small, |district, plan| cut(district, plan) && demanding(district)),
+    ];
+    kept.iter().flatten().for_each(|district| cases.district(district));
 }
 
 /// Small districts that a wrong reading of one rule plans otherwise: see `wrong/`.
@@ -557,6 +588,21 @@ fn plain(limits: &[u32], strategies: &[(i8, &[u32])], segments: &[(u16, u8)]) ->
             })
             .collect(),
     }
+}
+
+/// A mile with ratings of two distress types of at most 50 over two years, and
+/// strategies with gains and losses that last by the same percents.
+fn losing(gains: &[[i8; 2]], percents: [u8; 4], ratings: [u8; 2]) -> District {
+    let strategies: Vec<(i8, &[u32])> = gains.iter().map(|_| (0, &[1_000][..])).collect();
+    let mut district = plain(&[100], &strategies, &[(1, 0)]);
+    district.years = 2;
+    district.greatest = vec![50; 2];
+    for (made, gains) in district.strategies.iter_mut().zip(gains) {
+        (made.gains, made.survival) = (gains.to_vec(), percents.to_vec());
+    }
+    district.types[0].minimum = vec![0; 4];
+    district.segments[0].ratings = ratings.to_vec();
+    district
 }
 
 /// One year, one distress type of at most 50 and rating 0 everywhere, indexes of

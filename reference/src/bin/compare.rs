@@ -351,6 +351,7 @@ fn features(tally: &mut Tally, district: &District, plan: &Plan) {
     tally.see_if("total>0", plan.total > 0);
     tally.see_if("total<ceiling", plan.total < plan.ceiling);
     tally.see_if("negative gains", district.strategies.iter().any(|s| s.gains.iter().any(|&gain| gain < 0)));
+    tally.see_if("losses cut", make::takes_a_cut_loss(district, plan));
     tally.see_if("zero limits", district.limits.contains(&0));
     let all = (1u16 << district.strategies.len()) - 1;
     tally.see_if("all strategies barred", n > 0 && district.segments.iter().all(|s| s.bars == all));
