@@ -450,7 +450,7 @@ fn losses_cut(cases: &mut Cases) {
         district.types[0].overall = overall;
         cases.district(&district);
     }
-    // The other distress type loses; both do, and nothing is left to gain from.
+    // The other distress type loses; both do; a loss where there is nothing, beside the least gain.
     for (gains, ratings) in [([42, -6], [5, 2]), ([-6, -6], [2, 2]), ([-6, -1], [2, 50]), ([1, -50], [49, 0])] {
         cases.district(&losing(&[gains], percents, ratings));
     }
