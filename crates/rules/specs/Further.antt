@@ -221,7 +221,7 @@ equalCeilings =
 
 -- a loss that is less in each year
 abbrev pub fogSeal : List ℕ
-fogSeal = fileOf (oneSegment 100 (minus 6) (100 ∷ 50 ∷ 0 ∷ []))
+fogSeal = fileOf (oneSegment 100 (minus 6) (90 ∷ 50 ∷ 0 ∷ []))
 
 -- one gain cut at the greatest rating, 9 to 5, and one at 0, −6 to −2; without the second cut the strategy does harm, and nothing is taken
 abbrev pub bothCuts : Roads
@@ -276,10 +276,11 @@ furtherCases =
     ∷ planned roundedShares ⇒ shows (1 ∷ 0 ∷ 1 ∷ []) 9_000 9_000 17_001 2 1 0
     ∷ planned singleChanges ⇒ shows (1 ∷ 0 ∷ 1 ∷ []) 15_600 10_400 20_000 5 0 2
     ∷ planned equalCeilings ⇒ shows (2 ∷ 0 ∷ []) 27_000 6_000 30_000 1 0 1
-    -- document 02, request 1: rating 2 and gain −6, of which the whole rating is lost and no more; half of that in year 2, and nothing in year 3.
-    -- Without the cut it is −4, and −4, −1 and 2.
+    -- document 02, request 1: rating 2 and gain −6. The whole rating is lost at first and no more, nine tenths of it in year 1, half in year 2 and
+    -- nothing in year 3. Without the cut it comes to −4, and −3.4, −1 and 2.
     ∷ initialRating (Load fogSeal ∷ Alter (SetRating 1 1 2) ∷ []) ⇒ (pos 0 ∷ [])
-    ∷ ratings (Load fogSeal ∷ Alter (SetRating 1 1 2) ∷ []) ⇒ (pos 0 ∷ pos 1_000_000 ∷ pos 2_000_000 ∷ [])
+    ∷ ratings (Load fogSeal ∷ Alter (SetRating 1 1 2) ∷ []) ⇒ (pos 200_000 ∷ pos 1_000_000 ∷ pos 2_000_000 ∷ [])
+    ∷ effects (Load fogSeal ∷ Alter (SetRating 1 1 2) ∷ []) ⇒ (minus 280 ∷ [])
     ∷ planned bothCuts ⇒ shows (1 ∷ []) 640_000 640_000 640_000 0 0 0
     ∷ planned bledOut ⇒ shows (2 ∷ 2 ∷ []) 2_880_000 2_880_000 2_880_000 0 0 0
     ∷ []
