@@ -81,14 +81,14 @@ enum Family {
     Sharp,
     /// Losses deeper than the low ratings they are taken from, beside gains:
     /// what a loss is cut to decides benefits and what is permitted.
-    Bled,
+    DeepLosses,
 }
 
 fn any_district(random: &mut Random, shape: Shape) -> District {
     let family = match random.below(100) {
         0..=14 => Family::Round,
         15..=20 => Family::Sharp,
-        21..=32 => Family::Bled,
+        21..=32 => Family::DeepLosses,
         _ => Family::Mixed,
     };
     let greatest = greatest(random, shape);
@@ -122,7 +122,7 @@ fn greatest(random: &mut Random, shape: Shape) -> Vec<u8> {
 fn strategies(random: &mut Random, shape: Shape, family: Family, greatest: &[u8]) -> Vec<Strategy> {
     let (gain_manner, survival_manner) = match family {
         Family::Sharp => (2, 2),
-        Family::Bled => (16, random.below(8)),
+        Family::DeepLosses => (16, random.below(8)),
         _ => (random.below(16), random.below(8)),
     };
     let requirement_manner = if family == Family::Round { 11 } else { random.below(16) };
@@ -227,7 +227,7 @@ fn segments(random: &mut Random, shape: Shape, family: Family, greatest: &[u8]) 
     let bar_manner = random.below(30);
     let rating_manner = match family {
         Family::Sharp => 0,
-        Family::Bled => 10,
+        Family::DeepLosses => 10,
         _ => random.below(10),
     };
     let (one_length, one_width) = (random.within(1, 9_999) as u16, random.within(1, 200) as u8);

@@ -9,7 +9,7 @@ pub const MILLION: i64 = 1_000_000;
 
 /// The gain that remains possible: right after the work a rating is neither
 /// above its greatest nor below 0. A strategy that takes more than there is,
-/// like a fog seal on a road already bled out, takes just what there is.
+/// like a seal on a surface that has nothing left to lose, takes just what there is.
 pub fn gain(district: &District, segment: &Segment, strategy: &Strategy, k: usize) -> i64 {
     let current = i64::from(segment.ratings[k]);
     let missing = i64::from(district.greatest[k]) - current;

@@ -432,21 +432,21 @@ fn losses(cases: &mut Cases) {
 fn losses_cut(cases: &mut Cases) {
     // The first distress type loses all in year 1 and half of it in year 2.
     let percents = [100, 50, 100, 100];
-    let bled = |rating: u8| losing(&[[-6, 42]], percents, [rating, 5]);
+    let deep = |rating: u8| losing(&[[-6, 42]], percents, [rating, 5]);
     for rating in [0, 1, 2, 5, 6, 7] {
-        cases.district(&bled(rating));
+        cases.district(&deep(rating));
     }
-    cases.after(&bled(6), &[Call::SetRating(1, 1, 2)]);
-    cases.after(&bled(2), &[Call::SetRating(1, 1, 6)]);
+    cases.after(&deep(6), &[Call::SetRating(1, 1, 2)]);
+    cases.after(&deep(2), &[Call::SetRating(1, 1, 6)]);
     // What is left in year 2 reaches a minimum of 1, and not of 2.
     for minimum in [1, 2] {
-        let mut district = bled(2);
+        let mut district = deep(2);
         district.types[0].minimum[1] = minimum;
         cases.district(&district);
     }
     // Together with what is gained there are 47 in year 1.
     for overall in [47, 48] {
-        let mut district = bled(2);
+        let mut district = deep(2);
         district.types[0].overall = overall;
         cases.district(&district);
     }

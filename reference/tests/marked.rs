@@ -100,9 +100,9 @@ fn m9_effect_is_cut_toward_zero() {
     }
 }
 
-/// A flushing rating of 2 and a fog seal that would take 6: it takes 2.
+/// Rating 2 and a strategy that would take 6: it takes 2.
 #[test]
-fn a_fog_seal_on_a_road_already_bled_out() {
+fn a_loss_is_at_most_the_rating() {
     let mut district = one(100, -6, &[90, 50, 0]);
     for (rating, ratings, effect) in [
         (2, [0, 200_000, 1_000_000, 2_000_000], -280),

@@ -237,8 +237,8 @@ bothCuts =
 
 -- Strategy 2 is the better one for segment 1, and the one that meets the overall requirement of segment 2, only because of the cut at 0:
 -- without it segment 1 gets strategy 1 and segment 2 nothing, for a total of 800,000.
-abbrev pub bledOut : Roads
-bledOut =
+abbrev pub cutDecides : Roads
+cutDecides =
     record {
       years = 1;
       limits = 1000 ∷ [];
@@ -282,7 +282,7 @@ furtherCases =
     ∷ ratings (Load fogSeal ∷ Alter (SetRating 1 1 2) ∷ []) ⇒ (pos 200_000 ∷ pos 1_000_000 ∷ pos 2_000_000 ∷ [])
     ∷ effects (Load fogSeal ∷ Alter (SetRating 1 1 2) ∷ []) ⇒ (minus 280 ∷ [])
     ∷ planned bothCuts ⇒ shows (1 ∷ []) 640_000 640_000 640_000 0 0 0
-    ∷ planned bledOut ⇒ shows (2 ∷ 2 ∷ []) 2_880_000 2_880_000 2_880_000 0 0 0
+    ∷ planned cutDecides ⇒ shows (2 ∷ 2 ∷ []) 2_880_000 2_880_000 2_880_000 0 0 0
     ∷ []
 
 pub further : Agree furtherCases
