@@ -112,7 +112,7 @@ impl Tree {
             let stem = parts.last().and_then(|file| file.split('.').next()).unwrap_or_default().to_string();
             match parts[..] {
                 ["crates", _] => tree.crates.insert(stem),
-                ["crates", name, "must-fail", _] => tree.edits.insert(format!("{name}/{stem}")),
+                ["crates", name, "must-fail", _] | ["tried", name, _] => tree.edits.insert(format!("{name}/{stem}")),
                 ["reference", "src", "bin", _] | ["scripts", _] => tree.words.insert(stem),
                 ["crates", _, .., _] => tree.stems.insert(stem),
                 _ => false,
