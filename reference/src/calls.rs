@@ -1,11 +1,14 @@
 //! Lists of calls as bytes, and what the last of them gives.
 //!
 //! A call is 13 bytes: its kind, and three numbers of 4 bytes, low byte first.
-//! Kind 1 is a load, whose file follows and whose first number is the file's
-//! length. 2 is bar, 3 unbar, 4 set limit, 5 set rating, 6 an export into
-//! 4,096 bytes, 7 an export into one byte, and any other a show. The list ends
-//! where no whole call is left.
+//! The kinds are the words of the console, counted from 0: 0 is a load, whose
+//! file follows and whose first number is the file's length; 1 an export, whose
+//! first number is its room, cut to that of the longest file; 2 bar, 3 unbar,
+//! 4 set limit, 5 set rating, 6 a show. Survey points, 7, change nothing and
+//! count as a show, as does any other kind. The list ends where no whole call
+//! is left.
 
+use crate::file;
 use crate::listing::listing;
 use crate::refusal::Refusal;
 use crate::unit::Unit;
@@ -15,12 +18,11 @@ const HEAD: usize = 13;
 #[derive(Clone, Debug, PartialEq, Eq)]
 pub enum Call {
     Load(Vec<u8>),
+    Export(u32),
     Bar(u32, u32),
     Unbar(u32, u32),
     SetLimit(u32, u32),
     SetRating(u32, u32, u32),
-    Export,
-    ExportShort,
     Show,
 }
 
@@ -32,16 +34,15 @@ impl Call {
         };
         match self {
             Call::Load(file) => {
-                head(1, [file.len() as u32, 0, 0]);
+                head(0, [file.len() as u32, 0, 0]);
                 out.extend(file);
             }
+            Call::Export(room) => head(1, [*room, 0, 0]),
             Call::Bar(i, j) => head(2, [*i, *j, 0]),
             Call::Unbar(i, j) => head(3, [*i, *j, 0]),
             Call::SetLimit(r, limit) => head(4, [*r, *limit, 0]),
             Call::SetRating(i, k, rating) => head(5, [*i, *k, *rating]),
-            Call::Export => head(6, [0; 3]),
-            Call::ExportShort => head(7, [0; 3]),
-            Call::Show => head(8, [0; 3]),
+            Call::Show => head(6, [0; 3]),
         }
     }
 
@@ -50,16 +51,15 @@ impl Call {
         let (head, rest) = (bytes.get(..HEAD)?, &bytes[HEAD..]);
         let [a, b, c] = [1, 5, 9].map(|at| u32::from_le_bytes([head[at], head[at + 1], head[at + 2], head[at + 3]]));
         let call = match head[0] {
-            1 => {
+            0 => {
                 let file = rest.get(..a as usize)?;
                 return Some((Call::Load(file.to_vec()), &rest[file.len()..]));
             }
+            1 => Call::Export(a),
             2 => Call::Bar(a, b),
             3 => Call::Unbar(a, b),
             4 => Call::SetLimit(a, b),
             5 => Call::SetRating(a, b, c),
-            6 => Call::Export,
-            7 => Call::ExportShort,
             _ => Call::Show,
         };
         Some((call, rest))
@@ -68,12 +68,11 @@ impl Call {
     pub fn make(&self, unit: &mut Unit) -> Result<(), Refusal> {
         match self {
             Call::Load(file) => unit.load(file),
+            Call::Export(room) => unit.export(&mut vec![0; file::LONGEST.min(*room as usize)]).map(|_| ()),
             Call::Bar(i, j) => unit.bar((*i).into(), (*j).into()),
             Call::Unbar(i, j) => unit.unbar((*i).into(), (*j).into()),
             Call::SetLimit(r, limit) => unit.set_limit((*r).into(), (*limit).into()),
             Call::SetRating(i, k, rating) => unit.set_rating((*i).into(), (*k).into(), (*rating).into()),
-            Call::Export => unit.export(&mut [0; 4_096]).map(|_| ()),
-            Call::ExportShort => unit.export(&mut [0]).map(|_| ()),
             Call::Show => Ok(()),
         }
     }

@@ -55,8 +55,7 @@ fn call(random: &mut Random, held: &District) -> Call {
             let most = held.greatest.get(distress.wrapping_sub(1) as usize).copied().unwrap_or(RATING_MOST);
             Call::SetRating(number(random, n), distress, rating(random, most.into()))
         }
-        89..=91 => Call::Export,
-        92..=94 => Call::ExportShort,
+        89..=94 => Call::Export(room(random, held)),
         _ => Call::Show,
     }
 }
@@ -78,6 +77,12 @@ fn rating(random: &mut Random, most: u32) -> u32 {
         1 => *random.pick(&[51, 255, 256, u32::MAX]),
         _ => random.within(0, most.into()) as u32,
     }
+}
+
+/// Just enough for the file, a byte less, none, one, and more than any file needs.
+fn room(random: &mut Random, held: &District) -> u32 {
+    let length = file::encode(held).len() as u32;
+    *random.pick(&[length, length - 1, 0, 1, file::LONGEST as u32, u32::MAX])
 }
 
 /// Around a limit that was there, or at the ends of the range.

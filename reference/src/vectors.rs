@@ -10,6 +10,9 @@ use crate::random::Random;
 use crate::unit::{plan, Plan};
 use crate::{example, file, frames, lists};
 
+/// Room for every file.
+const ROOM: u32 = file::LONGEST as u32;
+
 /// All frames, one after another.
 pub fn frames() -> Vec<u8> {
     let mut out = Vec::new();
@@ -84,13 +87,13 @@ fn beginnings(cases: &mut Cases) {
         cases.scripts.push(bytes[..length].to_vec());
     }
     // A file that claims more bytes than follow, and far more.
-    cases.scripts.push([&whole[..], &[1, 1, 0, 0, 0, 0, 0, 0, 0, 0, 0, 0, 0]].concat());
-    cases.scripts.push([&whole[..], &[1, 255, 255, 255, 255, 0, 0, 0, 0, 0, 0, 0, 0, 9]].concat());
-    for kind in [0, 8, 255] {
+    cases.scripts.push([&whole[..], &[0, 1, 0, 0, 0, 0, 0, 0, 0, 0, 0, 0, 0]].concat());
+    cases.scripts.push([&whole[..], &[0, 255, 255, 255, 255, 0, 0, 0, 0, 0, 0, 0, 0, 9]].concat());
+    for kind in [6, 7, 8, 255] {
         cases.scripts.push([&whole[..], &[kind, 9, 9, 9, 9, 9, 9, 9, 9, 9, 9, 9, 9]].concat());
     }
     cases.list(&[Call::Show]);
-    cases.list(&[Call::Export]);
+    cases.list(&[Call::Export(ROOM)]);
 }
 
 /// The district on the test card, and what is marked with it.
@@ -344,13 +347,22 @@ fn ends_of_ranges(cases: &mut Cases) {
     }
 }
 
-/// Refusal 9, and room enough.
+/// Refusal 9, and room enough: none, one, a byte less than the file has, as many, more.
 fn refused_exports(cases: &mut Cases) {
-    cases.list(&[Call::ExportShort]);
-    cases.list(&[Call::ExportShort, Call::Show]);
-    cases.after(&two_of_each(), &[Call::Export]);
-    cases.after(&two_of_each(), &[Call::ExportShort]);
-    cases.after(&two_of_each(), &[Call::ExportShort, Call::Export]);
+    cases.list(&[Call::Export(1)]);
+    cases.list(&[Call::Export(1), Call::Show]);
+    for district in [District::fresh(), two_of_each()] {
+        let length = file::encode(&district).len() as u32;
+        for room in [0, 1, length - 1, length, length + 1, ROOM, u32::MAX] {
+            cases.after(&district, &[Call::Export(room)]);
+        }
+    }
+    cases.after(&two_of_each(), &[Call::Export(1), Call::Export(ROOM)]);
+    // The longest file.
+    let widest = make::busy_district(&mut Random::new(7), WIDEST);
+    for room in [ROOM - 1, ROOM, ROOM + 1] {
+        cases.after(&widest, &[Call::Export(room)]);
+    }
 }
 
 /// Refused calls of every kind leave district and programme as they were.
@@ -363,7 +375,7 @@ fn what_a_refusal_leaves(cases: &mut Cases) {
         Call::Unbar(3, 1),
         Call::SetLimit(1, LIMIT_MOST + 1),
         Call::SetRating(1, 1, 51),
-        Call::ExportShort,
+        Call::Export(1),
     ];
     for call in &refused {
         cases.after(&district, &[call.clone(), Call::Show]);

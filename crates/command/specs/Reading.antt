@@ -132,6 +132,15 @@ made Name.Rating v = Command.Alter (SetRating (v 0) (v 1) (v 2))
 made Name.Show v = Command.Show
 made Name.Points v = Command.Points (v 0) (v 1) (v 2) (v 3)
 
+-- the command of the first of some rows, where there is one
+unfoldable pub firstMade : List Row → (ℕ → ℕ) → Command
+firstMade [] v = Command.Unknown
+firstMade (r ∷ rs) v = made (r .1) v
+
+-- the command of a row, counted from 0; past the last there is none
+unfoldable pub numbered : ℕ → (ℕ → ℕ) → Command
+numbered n v = firstMade (drop n rows) v
+
 -- the numbers that stand behind the first word, where what stands there is what the word takes; a path has none
 unfoldable pub taken : Takes → List ℕ → Option (ℕ → ℕ)
 taken (Numbers n) line = placed (arguments n (restOf line))

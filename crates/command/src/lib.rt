@@ -3,7 +3,7 @@ ghost use mathlib.Core.Path.{_≡_};
 ghost use mathlib.Core.List.{_∷_};
 ghost use Prim.Native.Nat.{_+_, _≤_, _<_};
 ghost use lib.ListN.{length, drop};
-ghost use Rattle.command.specs.Reading.{same as Reading·same, every as Reading·every, isSpace, isOf, wordOf, numberIn, firstNumber, afterNumber, arguments, at, placed, pathOf, isPath, rows, made, taken, meant, called as Reading·called, isComment, commandIn, readNumber, numbersOf, countOf};
+ghost use Rattle.command.specs.Reading.{same as Reading·same, every as Reading·every, isSpace, isOf, wordOf, numberIn, firstNumber, afterNumber, arguments, at, placed, pathOf, isPath, rows, made, numbered as Reading·numbered, taken, meant, called as Reading·called, isComment, commandIn, readNumber, numbersOf, countOf};
 use rules::Edit;
 
 // A longer line is no command, unless it is to be passed over.
@@ -284,6 +284,17 @@ fn make(name: Name, numbers: [usize; 4]) -> Command
         Name::Show => Command::Show,
         Name::Points => Command::Points(a, b, c, d),
     }
+}
+
+// The command of a row of the table, counted from 0, with its numbers; past the last row there is none.
+pub fn numbered(row: usize, numbers: [usize; 4]) -> Command
+    ensures { λ r. ⌜ r ≡ Reading·numbered row (at numbers) ⌝ }
+{
+    if WORDS <= row {
+        return Command::Unknown;
+    }
+    let name = nth(row).1;
+    make(name, numbers)
 }
 
 // The numbers behind the first word; a path has none.

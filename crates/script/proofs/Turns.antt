@@ -11,8 +11,9 @@ use Rattle.rules.specs.Calls.{showOf}
 use Rattle.rules.specs.Demands.{Sound}
 use Rattle.rules.specs.Lists.{Call, outcomeOf, unitFrom, unitAfter, districtAfter}
 use Rattle.rules.specs.declared.Reply.{Reply}
+use Rattle.command.specs.declared.Command.{Command}
 use Rattle.demands.proofs.OneClaim.{one-claim}
-use Rattle.script.specs.Script.{kindIn, numberAt, bodyIn, callOf, callIn, callsIn, callsOf, replyOf, replyFrom, replyAfter, lastAnswer}
+use Rattle.script.specs.Script.{numberAt, commandIn, bodyIn, callOf, callIn, callsIn, callsOf, replyOf, replyFrom, replyAfter, lastAnswer}
 
 none-left : (n : ℕ) (s : List ℕ) → length s < 13 + bodyIn s → callsIn n s ≡ []
 unfolding callsIn
@@ -52,14 +53,14 @@ module _ (s : List ℕ) (at : ℕ) where
     pub stops : (r : Reply) (left : ℕ) → length s - at < 13 + n → replyFrom r (callsIn left (drop at s)) ≡ r
     stops r left h = ended s at r left (rw length-drop (omega (arith, body-here)))
 
-    pub turned : (r next : Reply) (left a b c : ℕ) → 0 < left → 13 + n ≤ length s - at → a ≡ numberAt 1 rest → b ≡ numberAt 5 rest → c ≡ numberAt 9 rest
-        → next ≡ replyOf (outcomeOf (r .unit) (callOf (kindIn rest) a b c (take (13 + n - 13) (drop 13 rest))))
+    pub turned : (r next : Reply) (left a : ℕ) (command : Command) → 0 < left → 13 + n ≤ length s - at → a ≡ numberAt 1 rest → command ≡ commandIn rest
+        → next ≡ replyOf (outcomeOf (r .unit) (callOf command a (take (13 + n - 13) (drop 13 rest))))
         → replyFrom next (callsIn (left - 1) (drop (at + 13 + n) s)) ≡ replyFrom r (callsIn left (drop at s))
-    turned r next left a b c some fits ea eb ec made =
+    turned r next left a command some fits ea read made =
         let len : 13 + n - 13 ≡ n = omega arith in
         let place : at + 13 + n ≡ at + (13 + n) = omega arith in
         let room : 13 + bodyIn (drop at s) ≤ length (drop at s) = rw length-drop (omega (arith, body-here)) in
-        let same : next ≡ replyOf (outcomeOf (r .unit) (callIn (drop at s))) = made ∙ rw (len, ea, eb, ec, whole-tail s at, body-here) in
+        let same : next ≡ replyOf (outcomeOf (r .unit) (callIn (drop at s))) = made ∙ rw (len, ea, read, whole-tail s at, body-here) in
         rw (place, body-here) (turn s at r next left some room same)
 
 -- ---- what the contract says of the reply after the list

@@ -1,6 +1,7 @@
--- The list of calls that a row of bytes stands for, and what the last of them answers. A call is 13 bytes: its kind, and three numbers of four bytes each, low byte first.
--- A load is followed by its file, whose length is its first number.
-use Prim.Native.Nat.{ℕ, zero, suc, _+_}
+-- The list of calls that a row of bytes stands for, and what the last of them answers. A call is 13 bytes: its kind, which is a row of the
+-- console's table of words (command/specs/Reading), and three numbers of four bytes each, low byte first.
+-- A load is followed by its file, whose length is its first number. An export's first number is its room.
+use Prim.Native.Nat.{ℕ, zero, suc, _+_, min}
 use mathlib.Core.List.{List, [], _∷_}
 use lib.Dec.{leb, eqb}
 use lib.ListN.{length, getD, take, drop, replicate}
@@ -9,10 +10,12 @@ use Rattle.base.specs.Choice.{pick}
 use Rattle.rules.specs.Calls.{freshUnit}
 use Rattle.rules.specs.File.{longestFile}
 use Rattle.rules.specs.Lists.{Call, Load, Alter, ExportTo, Show, Outcome, outcomeOf}
-use Rattle.rules.specs.declared.Edit.the-variants.{Bar, Unbar, SetLimit, SetRating}
 use Rattle.rules.specs.declared.Reply.{Reply}
 use Rattle.rules.specs.declared.Answer.{Answer}
 use Rattle.rules.specs.declared.Answer.the-variants.{Accepted}
+use Rattle.command.specs.Reading.{at, numbered}
+use Rattle.command.specs.declared.Command as Command
+use Rattle.command.specs.declared.Command.{Command}
 
 -- what stands at the front of the bytes
 abbrev pub kindIn : List ℕ → ℕ
@@ -22,24 +25,27 @@ kindIn bs = getD bs 0 0
 abbrev pub numberAt : ℕ → List ℕ → ℕ
 numberAt at bs = numberOf (take 4 (drop at bs))
 
--- how many bytes follow the 13
-unfoldable pub bodyIn : List ℕ → ℕ
-bodyIn bs = pick (eqb (kindIn bs) 1) (numberAt 1 bs) 0
+-- the command of the row, with the numbers
+unfoldable pub commandIn : List ℕ → Command
+commandIn bs = numbered (kindIn bs) (at (numberAt 1 bs ∷ numberAt 5 bs ∷ numberAt 9 bs ∷ 0 ∷ []))
 
--- kinds: 1 load, 2 bar, 3 unbar, 4 set limit, 5 set rating, 6 and 7 export into zeros, as many as the longest file has and one, any other show
-unfoldable pub callOf : ℕ → ℕ → ℕ → ℕ → List ℕ → Call
-callOf kind a b c file =
-    pick (eqb kind 1) (Load file)
-    (pick (eqb kind 2) (Alter (Bar a b))
-    (pick (eqb kind 3) (Alter (Unbar a b))
-    (pick (eqb kind 4) (Alter (SetLimit a b))
-    (pick (eqb kind 5) (Alter (SetRating a b c))
-    (pick (eqb kind 6) (ExportTo (replicate longestFile 0))
-    (pick (eqb kind 7) (ExportTo (replicate 1 0))
-    Show))))))
+-- how many bytes follow the 13: kind 0 is a load
+unfoldable pub bodyIn : List ℕ → ℕ
+bodyIn bs = pick (eqb (kindIn bs) 0) (numberAt 1 bs) 0
+
+-- the call of a command, with its first number and its file; an export goes into so many zeros, at most as many as the longest file has;
+-- what is no call of the unit is a show
+unfoldable pub callOf : Command → ℕ → List ℕ → Call
+callOf Command.Load n file = Load file
+callOf Command.Export n file = ExportTo (replicate (min n longestFile) 0)
+callOf (Command.Alter e) n file = Alter e
+callOf Command.Show n file = Show
+callOf (Command.Points code degree extent seal) n file = Show
+callOf Command.Nothing n file = Show
+callOf Command.Unknown n file = Show
 
 abbrev pub callIn : List ℕ → Call
-callIn bs = callOf (kindIn bs) (numberAt 1 bs) (numberAt 5 bs) (numberAt 9 bs) (take (bodyIn bs) (drop 13 bs))
+callIn bs = callOf (commandIn bs) (numberAt 1 bs) (take (bodyIn bs) (drop 13 bs))
 
 -- the calls that stand whole at the front of the bytes, at most n
 unfoldable pub callsIn : ℕ → List ℕ → List Call

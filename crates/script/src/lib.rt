@@ -1,63 +1,66 @@
 // A list of calls, read from bytes and made one after the other from the fresh unit (specs/Script.antt).
 ghost use mathlib.Core.Path.{_≡_};
-ghost use Prim.Native.Nat.{_+_, _≤_};
+ghost use Prim.Native.Nat.{_+_, _≤_, min};
 ghost use lib.ListN.{length, replicate};
 ghost use Rattle.rules.specs.Calls.{showOf, exportOf};
 ghost use Rattle.rules.specs.Demands.{Sound};
 ghost use Rattle.rules.specs.File.{longestFile};
 ghost use Rattle.rules.specs.Lists.{outcomeOf, districtAfter, unitAfter};
-ghost use Rattle.script.specs.Script.{bodyIn, callOf, callsOf, replyOf, lastAnswer};
+ghost use Rattle.script.specs.Script.{commandIn, bodyIn, callOf, callsOf, replyOf, lastAnswer};
+use command::Command;
 use rules::Answer;
-use rules::Edit;
 use rules::Reply;
 use rules::Unit;
 use rules::records::LONGEST_FILE;
+
+// The command of a call, from its kind and its numbers.
+fn read(call: &[u8]) -> Command
+    requires { ⌜ 13 ≤ length (now call) ⌝ }
+    ensures { λ r. ⌜ r ≡ commandIn (now (call .entry)) ⌝ }
+{
+    let a = file::bytes::number(call, 1, 4);
+    let b = file::bytes::number(call, 5, 4);
+    let c = file::bytes::number(call, 9, 4);
+    command::numbered(call[0] as usize, [a, b, c, 0])
+}
 
 // How many bytes follow the 13 of a call.
 fn body_of(call: &[u8]) -> usize
     requires { ⌜ 13 ≤ length (now call) ⌝ }
     ensures { λ r. ⌜ r ≡ bodyIn (now (call .entry)) ⌝ }
 {
-    if call[0] != 1 {
+    if call[0] != 0 {
         return 0;
     }
     file::bytes::number(call, 1, 4)
 }
 
-// What an export answers into a buffer of zeros with room for every file.
-fn exported(u: Unit) -> Answer
-    ensures { λ r. ⌜ r ≡ exportOf u (replicate longestFile 0) .answer ⌝ }
+fn room_of(n: usize) -> usize
+    ensures { λ r. ⌜ r ≡ min n longestFile ⌝ }
 {
-    let mut buffer = [0u8; LONGEST_FILE];
-    unit::export(u, &mut buffer)
+    if n < LONGEST_FILE { n } else { LONGEST_FILE }
 }
 
-// What it answers into one byte, which no file fits.
-fn refused(u: Unit) -> Answer
-    ensures { λ r. ⌜ r ≡ exportOf u (replicate 1 0) .answer ⌝ }
+// What an export answers into as many zeros.
+fn exported(u: Unit, n: usize) -> Answer
+    ensures { λ r. ⌜ r ≡ exportOf u (replicate (min n longestFile) 0) .answer ⌝ }
 {
-    let mut buffer = [0u8; 1];
-    unit::export(u, &mut buffer)
+    let mut buffer = [0u8; LONGEST_FILE];
+    let room = room_of(n);
+    unit::export(u, &mut buffer[..room])
 }
 
 // One call: its answer, and the unit after it.
-fn make(u: Unit, kind: u8, a: usize, b: usize, c: usize, bytes: &[u8]) -> Reply
-    ensures { λ r. ⌜ r ≡ replyOf (outcomeOf u (callOf kind a b c (now (bytes .entry)))) ⌝ }
+fn make(u: Unit, command: Command, n: usize, bytes: &[u8]) -> Reply
+    ensures { λ r. ⌜ r ≡ replyOf (outcomeOf u (callOf command n (now (bytes .entry)))) ⌝ }
 {
-    match kind {
-        1 => unit::load(u, bytes),
-        2 => unit::alter(u, Edit::Bar(a, b)),
-        3 => unit::alter(u, Edit::Unbar(a, b)),
-        4 => unit::alter(u, Edit::SetLimit(a, b)),
-        5 => unit::alter(u, Edit::SetRating(a, b, c)),
-        6 => Reply {
-            answer: exported(u),
+    match command {
+        Command::Load => unit::load(u, bytes),
+        Command::Export => Reply {
+            answer: exported(u, n),
             unit: u,
         },
-        7 => Reply {
-            answer: refused(u),
-            unit: u,
-        },
+        Command::Alter(e) => unit::alter(u, e),
         _ => Reply {
             answer: Answer::Accepted(0),
             unit: u,
@@ -87,11 +90,8 @@ pub fn run(script: &[u8]) -> Reply
             return last;
         }
         let u = last.unit;
-        let kind = rest[0];
-        let a = file::bytes::number(rest, 1, 4);
-        let b = file::bytes::number(rest, 5, 4);
-        let c = file::bytes::number(rest, 9, 4);
-        last = make(u, kind, a, b, c, &rest[13..13 + n]);
+        let first = file::bytes::number(rest, 1, 4);
+        last = make(u, read(rest), first, &rest[13..13 + n]);
         at = at + 13 + n;
         left = left - 1;
     }

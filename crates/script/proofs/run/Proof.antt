@@ -37,12 +37,12 @@ returns-2 c =
 loop-again : tie.Need-loop-again Inv-loop μ-loop
 loop-again c =
     let read = c .before .before in
-    let body = read .before .before .before .before .before .before in
+    let body = read .before .before .before .before in
     let again = body .before .before .before in
     let l = again .before .loop in
     let s = again .before .before .before .before .args .script .now in (
       omega arith,
-      turned s (l .at) _ (body .body-of .ensures) (l .last) (c .make .result) (l .left) _ _ _ (again .loop-test .taken) (omega arith) (read .before .before .number .ensures) (read .before .number2 .ensures) (read .number3 .ensures) (c .make .ensures)
+      turned s (l .at) _ (body .body-of .ensures) (l .last) (c .make .result) (l .left) _ _ (again .loop-test .taken) (omega arith) (read .before .number .ensures) (read .read .ensures) (c .make .ensures)
           ∙ l .inv .1,
     )
 
@@ -70,8 +70,6 @@ run-spec =
     (λ c κs. search needs)
     (λ c. search needs)
     returns-2
-    (λ c. search needs)
-    (λ c κs. search needs)
     (λ c κs. search needs)
     (λ c κs. search needs)
     (λ c. search needs)

@@ -1,0 +1,31 @@
+-- One call: what its command comes to, and the zeros that an export goes into.
+use Prim.Native.Nat.{ℕ, zero, suc, _≤_}
+use mathlib.Core.Path.{_≡_, refl, sym, ap, _∙_}
+use mathlib.Core.List.{List, _∷_}
+use native.Mathlib.Omega.{arith}
+use lib.ListN.{length, take, replicate, length-replicate}
+use Rattle.rules.specs.Lists.{Call, Show}
+use Rattle.rules.specs.declared.Edit.{Edit}
+use Rattle.command.specs.declared.Command as Command
+use Rattle.command.specs.declared.Command.{Command}
+use Rattle.script.specs.Script.{callOf}
+
+-- a command without a call of its own
+pub shown-else : (c : Command) (n : ℕ) (file : List ℕ) → ¬ (c ≡ Command.Load) → ¬ (c ≡ Command.Export) → ((e : Edit) → ¬ (c ≡ Command.Alter e)) → callOf c n file ≡ Show
+unfolding callOf
+shown-else Command.Load n file l x a = absurd (l refl)
+shown-else Command.Export n file l x a = absurd (x refl)
+shown-else (Command.Alter e) n file l x a = absurd (a e refl)
+shown-else Command.Show n file l x a = refl
+shown-else (Command.Points code degree extent seal) n file l x a = refl
+shown-else Command.Nothing n file l x a = refl
+shown-else Command.Unknown n file l x a = refl
+
+-- the front of bytes that are all the same
+pub same-front : (x n m : ℕ) → n ≤ m → take n (replicate m x) ≡ replicate n x
+same-front x zero m h = refl
+same-front x (suc n) zero h = absurd (omega arith)
+same-front x (suc n) (suc m) h = ap (λ (l : List ℕ). x ∷ l) (same-front x n m (omega arith))
+
+pub same-length : (x n m : ℕ) → n ≤ m → n ≡ length (take n (replicate m x))
+same-length x n m h = sym (ap length (same-front x n m h) ∙ length-replicate n x)
