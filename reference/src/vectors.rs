@@ -89,7 +89,7 @@ fn beginnings(cases: &mut Cases) {
     // A file that claims more bytes than follow, and far more.
     cases.scripts.push([&whole[..], &[0, 1, 0, 0, 0, 0, 0, 0, 0, 0, 0, 0, 0]].concat());
     cases.scripts.push([&whole[..], &[0, 255, 255, 255, 255, 0, 0, 0, 0, 0, 0, 0, 0, 9]].concat());
-    for kind in [6, 7, 8, 255] {
+    for kind in [6, 7, 128, 255] {
         cases.scripts.push([&whole[..], &[kind, 9, 9, 9, 9, 9, 9, 9, 9, 9, 9, 9, 9]].concat());
     }
     cases.list(&[Call::Show]);
