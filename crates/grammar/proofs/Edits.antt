@@ -69,7 +69,7 @@ one-to x count n rest h e =
 -- ---- limits
 
 limit-kept : (d : District) (r limit : ℕ) → inRange d ≡ true → limitRefusal d r limit ≡ 0 → inRange (withLimit d r limit) ≡ true
-unfolding limitRefusal withLimit fieldAt
+unfolding fieldAt
 limit-kept d r limit ok e =
     let o = one-to r (resourcesOf d) noSuchNumber (unless (inside (limitField d (r - 1)) limit) newOutOfRange 0) (omega arith) e in
     let u = unless-passes (inside (limitField d (r - 1)) limit) newOutOfRange 0 (omega arith) (o .2) in
@@ -88,7 +88,6 @@ segment-kept d i n x q ok a b l e good =
     (rw (z, lt-ltb (i - 1) (segmentsOf d) (omega arith)) good)
 
 rating-kept : (d : District) (i k rating : ℕ) → inRange d ≡ true → ratingRefusal d i k rating ≡ 0 → inRange (withRating d i k rating) ≡ true
-unfolding ratingRefusal withRating
 rating-kept d i k rating ok e =
     let f = segmentField d (ratingsAt + (k - 1)) in
     let o = one-to i (segmentsOf d) noSuchSegment (oneTo k (distressesOf d) noSuchNumber (unless (inside f rating) newOutOfRange 0)) (omega arith) e in
@@ -119,7 +118,6 @@ clear-below mask s n l = pick-all (λ (m : ℕ). m < 2 ^ s) (ltb n 16) (mask - b
 -- the bars of a segment are below 2 ^ S, and any number below is one that they may be
 module _ (d : District) (ok : inRange d ≡ true) (i j : ℕ) (e : barRefusal d i j ≡ 0) where
   numbers : (1 ≤ i) × (i ≤ segmentsOf d) × (1 ≤ j) × (j ≤ strategiesOf d)
-  unfolding barRefusal
   numbers =
       let o = one-to i (segmentsOf d) noSuchSegment (oneTo j (strategiesOf d) noSuchNumber 0) (omega arith) e in
       let p = one-to j (strategiesOf d) noSuchNumber 0 (omega arith) (o .2) in
@@ -138,11 +136,9 @@ module _ (d : District) (ok : inRange d ≡ true) (i j : ℕ) (e : barRefusal d 
       segment-kept d i barsAt mask (barsPlace i) ok (numbers .0) (numbers .1) (omega arith) refl (rw as-many (inside-number 2 0 (2 ^ strategiesOf d - 1) mask (omega arith) (omega arith)))
 
   bar-kept : inRange (withBar d i j) ≡ true
-  unfolding withBar
   bar-kept = bars-kept (setBit (barsOf d i) (j - 1)) (set-below (barsOf d i) (strategiesOf d) (j - 1) (omega (arith, numbers .2, numbers .3)) bars-below)
 
   unbar-kept : inRange (withoutBar d i j) ≡ true
-  unfolding withoutBar
   unbar-kept = bars-kept (clearBit (barsOf d i) (j - 1)) (clear-below (barsOf d i) (strategiesOf d) (j - 1) bars-below)
 
 pub edit-kept : (d : District) (e : Edit) → inRange d ≡ true → editRefusal d e ≡ 0 → inRange (edited d e) ≡ true

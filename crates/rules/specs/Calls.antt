@@ -30,14 +30,14 @@ exportRefusal d buffer = unless (leb (length (encode d)) (length buffer)) buffer
 -- ---- edits: bar, unbar, set limit, set rating
 
 -- of bar and unbar
-unfoldable pub barRefusal : District → ℕ → ℕ → ℕ
+abbrev pub barRefusal : District → ℕ → ℕ → ℕ
 barRefusal d i j = oneTo i (segmentsOf d) noSuchSegment (oneTo j (strategiesOf d) noSuchNumber 0)
 
 -- the range of a new limit, and of a new rating below, is the file's
-unfoldable pub limitRefusal : District → ℕ → ℕ → ℕ
+abbrev pub limitRefusal : District → ℕ → ℕ → ℕ
 limitRefusal d r limit = oneTo r (resourcesOf d) noSuchNumber (unless (inside (limitRange d r) limit) newOutOfRange 0)
 
-unfoldable pub ratingRefusal : District → ℕ → ℕ → ℕ → ℕ
+abbrev pub ratingRefusal : District → ℕ → ℕ → ℕ → ℕ
 ratingRefusal d i k rating =
     oneTo i (segmentsOf d) noSuchSegment
     (oneTo k (distressesOf d) noSuchNumber (unless (inside (ratingRange d k) rating) newOutOfRange 0))

@@ -203,16 +203,16 @@ ratingOf d i k = valueAt d (ratingPlace i k)
 
 -- ---- the district with one value changed
 
-unfoldable pub withLimit : District → ℕ → ℕ → District
+abbrev pub withLimit : District → ℕ → ℕ → District
 withLimit d r limit = set d (limitPlace r) limit
 
-unfoldable pub withBar : District → ℕ → ℕ → District
+abbrev pub withBar : District → ℕ → ℕ → District
 withBar d i j = set d (barsPlace i) (setBit (barsOf d i) (j - 1))
 
-unfoldable pub withoutBar : District → ℕ → ℕ → District
+abbrev pub withoutBar : District → ℕ → ℕ → District
 withoutBar d i j = set d (barsPlace i) (clearBit (barsOf d i) (j - 1))
 
-unfoldable pub withRating : District → ℕ → ℕ → ℕ → District
+abbrev pub withRating : District → ℕ → ℕ → ℕ → District
 withRating d i k rating = set d (ratingPlace i k) rating
 
 -- ---- what a fresh unit holds: no segment, one of everything else, greatest rating 1, and 0 in every other place

@@ -69,7 +69,7 @@ unfolding
     Search.first Search.run
     District.limitOf District.greatestOf District.requirementOf District.gainOf District.percentOf District.overallOf District.minimumOf
     District.pavementOf District.trafficOf District.environmentOf District.lengthOf District.widthOf District.barsOf District.barredIn
-    District.ratingOf District.withLimit District.withBar District.withoutBar District.withRating District.freshDistrict
+    District.ratingOf District.freshDistrict
     Format.ranged Format.fieldAt
     File.readNumbers File.readRecord File.readRecords File.decode File.numberBytes File.recordsBytes File.encode File.numbersInRange
     File.recordsInRange File.inRange
@@ -88,7 +88,7 @@ unfolding
     Ceiling.pricesAfter Ceiling.ceiling
     Plan.reduced Plan.filled Plan.improved Plan.programmeOf Plan.noProgramme Plan.planOf
     Answers.answerOf Answers.accepting
-    Calls.loadRefusalOf Calls.loadRefusal Calls.barRefusal Calls.limitRefusal Calls.ratingRefusal Calls.exportRefusal Calls.loadedOf
+    Calls.loadRefusalOf Calls.loadRefusal Calls.exportRefusal Calls.loadedOf
     Calls.districtIn Calls.unitOf Calls.freshUnit Calls.answered Calls.loadOf Calls.alterOf
     Calls.exported Calls.exportOf Calls.showOf
     Survey.deductPoints Survey.blockOf Survey.pointsOf Survey.surveyRefusal Survey.surveyOf

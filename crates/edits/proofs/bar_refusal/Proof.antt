@@ -1,11 +1,9 @@
 -- `edits::bar_refusal` meets its contract.
 use borrow.Author.Needs.{needs}
-use Rattle.rules.specs.Calls.{barRefusal}
 use Rattle.edits.proofs.bar_refusal.Statement.{statement}
 use Rattle.edits.proofs.bar_refusal.Tie as tie
 
 returns : tie.Need-returns
-unfolding barRefusal
 returns c = cc
 
 pub bar-refusal-spec : {M : Type 1} → statement M

@@ -1,11 +1,9 @@
 -- `edits::limit_refusal` meets its contract.
 use borrow.Author.Needs.{needs}
-use Rattle.rules.specs.Calls.{limitRefusal}
 use Rattle.edits.proofs.limit_refusal.Statement.{statement}
 use Rattle.edits.proofs.limit_refusal.Tie as tie
 
 returns : tie.Need-returns
-unfolding limitRefusal
 returns c = cc
 
 pub limit-refusal-spec : {M : Type 1} → statement M

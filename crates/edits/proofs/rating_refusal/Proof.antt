@@ -1,12 +1,10 @@
 -- `edits::rating_refusal` meets its contract.
 use borrow.Author.Needs.{needs}
-use Rattle.rules.specs.Calls.{ratingRefusal}
 use Rattle.edits.proofs.Places.{rating-range}
 use Rattle.edits.proofs.rating_refusal.Statement.{statement}
 use Rattle.edits.proofs.rating_refusal.Tie as tie
 
 returns : tie.Need-returns
-unfolding ratingRefusal
 returns c = cc (rating-range (c .before .before .before .before .args .t1) (c .before .before .before .before .args .distress) (c .before .before .before .before .args .rating))
 
 pub rating-refusal-spec : {M : Type 1} → statement M

@@ -1,11 +1,9 @@
 -- `edits::with_bar` meets its contract.
 use borrow.Author.Needs.{needs}
-use Rattle.rules.specs.District.{withBar}
 use Rattle.edits.proofs.with_bar.Statement.{statement}
 use Rattle.edits.proofs.with_bar.Tie as tie
 
 returns : tie.Need-returns
-unfolding withBar
 returns c = cc
 
 pub with-bar-spec : {M : Type 1} → statement M

@@ -3,16 +3,13 @@ use borrow.Author.Needs.{needs}
 use mathlib.Core.Path.{sym}
 use lib.Seq.{set-out}
 use native.Mathlib.Omega.{arith}
-use Rattle.rules.specs.District.{withLimit}
 use Rattle.edits.proofs.with_limit.Statement.{statement}
 use Rattle.edits.proofs.with_limit.Tie as tie
 
 returns : tie.Need-returns
-unfolding withLimit
 returns c = sym (set-out _ _ _ (omega arith))
 
 returns-2 : tie.Need-returns-2
-unfolding withLimit
 returns-2 c = cc
 
 pub with-limit-spec : {M : Type 1} → statement M

@@ -3,20 +3,16 @@ use borrow.Author.Needs.{needs}
 use mathlib.Core.Path.{sym}
 use lib.Seq.{set-out}
 use native.Mathlib.Omega.{arith}
-use Rattle.rules.specs.District.{withRating}
 use Rattle.edits.proofs.with_rating.Statement.{statement}
 use Rattle.edits.proofs.with_rating.Tie as tie
 
 returns : tie.Need-returns
-unfolding withRating
 returns c = sym (set-out _ _ _ (omega arith))
 
 returns-2 : tie.Need-returns-2
-unfolding withRating
 returns-2 c = sym (set-out _ _ _ (omega arith))
 
 returns-3 : tie.Need-returns-3
-unfolding withRating
 returns-3 c = cc
 
 pub with-rating-spec : {M : Type 1} → statement M

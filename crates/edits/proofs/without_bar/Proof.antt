@@ -1,11 +1,9 @@
 -- `edits::without_bar` meets its contract.
 use borrow.Author.Needs.{needs}
-use Rattle.rules.specs.District.{withoutBar}
 use Rattle.edits.proofs.without_bar.Statement.{statement}
 use Rattle.edits.proofs.without_bar.Tie as tie
 
 returns : tie.Need-returns
-unfolding withoutBar
 returns c = cc
 
 pub without-bar-spec : {M : Type 1} → statement M
