@@ -41,6 +41,10 @@ bufferTooShort = 9
 abbrev pub noSuchPoints : ℕ
 noSuchPoints = 10
 
+-- of document 02's request 2
+abbrev pub pageTooShort : ℕ
+pageTooShort = 11
+
 -- ---- how one comes about
 
 -- refusal n where the test fails, else what the later tests say

@@ -7,7 +7,8 @@ use Rattle.rules.specs.District.{District, segmentsOf, strategiesOf, dis
 use Rattle.rules.specs.Format.{inside, limitRange, ratingRange}
 use Rattle.rules.specs.File.{Read, refused, found, decode, encode}
 use Rattle.rules.specs.Plan.{planOf}
-use Rattle.rules.specs.Answers.{noSuchSegment, noSuchNumber, newOutOfRange, bufferTooShort, unless, oneTo, answerOf, accepting}
+use Rattle.rules.specs.Page.{page, pageLength}
+use Rattle.rules.specs.Answers.{noSuchSegment, noSuchNumber, newOutOfRange, bufferTooShort, pageTooShort, unless, oneTo, answerOf, accepting}
 use Rattle.rules.specs.declared.Edit.{Edit}
 use Rattle.rules.specs.declared.Edit.the-variants.{Bar, Unbar, SetLimit, SetRating}
 use Rattle.rules.specs.declared.Programme.{Programme}
@@ -26,6 +27,9 @@ loadRefusal file = loadRefusalOf (decode file)
 
 unfoldable pub exportRefusal : District → List ℕ → ℕ
 exportRefusal d buffer = unless (leb (length (encode d)) (length buffer)) bufferTooShort 0
+
+unfoldable pub pageRefusal : District → List ℕ → ℕ
+pageRefusal d buffer = unless (leb (pageLength d) (length buffer)) pageTooShort 0
 
 -- ---- edits: bar, unbar, set limit, set rating
 
@@ -82,20 +86,23 @@ loadOf u file = answered u (loadRefusal file) (districtIn file)
 unfoldable pub alterOf : Unit → Edit → Reply
 alterOf u e = answered u (editRefusal (u .district) e) (edited (u .district) e)
 
--- ---- export and show, which leave the unit as it is
+-- ---- export, page and show, which leave the unit as it is
 
--- an export's answer, and what the buffer then holds
+-- the answer of a call that writes into a buffer, and what that then holds
 pub record Export : Type 0 where
   pub answer : Answer
   pub buffer : List ℕ
 
--- accepted, it returns the file's length and writes the file over the front of the buffer
+-- accepted, it returns how many bytes it writes, and writes them over the front of the buffer
 unfoldable pub exported : ℕ → List ℕ → List ℕ → Export
-exported n file buffer =
-    record { answer = answerOf n (length file); buffer = accepting n (file ++ drop (length file) buffer) buffer }
+exported n bytes buffer =
+    record { answer = answerOf n (length bytes); buffer = accepting n (bytes ++ drop (length bytes) buffer) buffer }
 
 unfoldable pub exportOf : Unit → List ℕ → Export
 exportOf u buffer = exported (exportRefusal (u .district) buffer) (encode (u .district)) buffer
+
+unfoldable pub pageOf : Unit → List ℕ → Export
+pageOf u buffer = exported (pageRefusal (u .district) buffer) (page (u .district) (u .programme)) buffer
 
 unfoldable pub showOf : Unit → Programme
 showOf u = u .programme

@@ -15,22 +15,24 @@ use Rattle.rules.specs.File.{encode}
 use Rattle.rules.specs.Rating.{permitted, withinLimits, totalOf}
 use Rattle.rules.specs.Table.{Table, tableOf}
 use Rattle.rules.specs.Phases.{strategyAt, within, pickUp, change}
+use Rattle.rules.specs.Page.{pageLength}
 use Rattle.rules.specs.Plan.{reduced, filled, improved, programmeOf}
 use Rattle.rules.specs.Answers.{noSuchPoints}
 use Rattle.rules.specs.Survey.{blockOf, pointsOf, surveyRefusal, surveyOf}
 use Rattle.rules.specs.Calls.{loadRefusal, loadOf, Export, exportOf, showOf}
-use Rattle.rules.specs.Lists.{Call, Load, Alter, ExportTo, Show, refusalOf, altered, lentTo, outcomeOf, districtAfter, unitAfter}
+use Rattle.rules.specs.Lists.{Call, Load, Alter, ExportTo, PageTo, Show, refusalOf, altered, lentTo, outcomeOf, districtAfter, unitAfter}
 use Rattle.rules.specs.declared.Programme.{Programme}
 use Rattle.rules.specs.declared.Unit.{Unit}
 use Rattle.rules.specs.declared.Answer.the-variants.{Accepted, Refused}
 
 -- ---- Demand 1, every answer is settled
 
--- what an accepted call returns: the length for an export, else 0
+-- what an accepted call returns: the length for an export and a page, else 0
 unfoldable pub returned : District → Call → ℕ
 returned d (Load file) = 0
 returned d (Alter e) = 0
 returned d (ExportTo buffer) = length (encode d)
+returned d (PageTo buffer) = pageLength d
 returned d Show = 0
 
 -- of a unit in any state and any call; the programme that goes with the district held is Calls.unitOf's, and Demand 2 has it after any list

@@ -6,6 +6,7 @@ pub mod Table
 pub mod Phases
 pub mod Ceiling
 pub mod Plan
+pub mod Page
 pub mod Answers
 pub mod Survey
 pub mod Calls

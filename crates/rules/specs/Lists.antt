@@ -3,7 +3,7 @@ use Prim.Native.Nat.{ℕ}
 use mathlib.Core.List.{List, [], _∷_}
 use Rattle.rules.specs.District.{District, freshDistrict}
 use Rattle.rules.specs.Answers.{accepting}
-use Rattle.rules.specs.Calls.{loadRefusal, exportRefusal, editRefusal, edited, districtIn, freshUnit, loadOf, alterOf, Export, exportOf}
+use Rattle.rules.specs.Calls.{loadRefusal, exportRefusal, pageRefusal, editRefusal, edited, districtIn, freshUnit, loadOf, alterOf, Export, exportOf, pageOf}
 use Rattle.rules.specs.declared.Edit.{Edit}
 use Rattle.rules.specs.declared.Unit.{Unit}
 use Rattle.rules.specs.declared.Reply.{Reply}
@@ -15,6 +15,7 @@ pub data Call : Type 0 where
   Load : List ℕ → Call
   Alter : Edit → Call
   ExportTo : List ℕ → Call
+  PageTo : List ℕ → Call
   Show : Call
 
 -- the number of the first condition for a refusal that the call meets; 0 where it meets none
@@ -22,6 +23,7 @@ unfoldable pub refusalOf : District → Call → ℕ
 refusalOf d (Load file) = loadRefusal file
 refusalOf d (Alter e) = editRefusal d e
 refusalOf d (ExportTo buffer) = exportRefusal d buffer
+refusalOf d (PageTo buffer) = pageRefusal d buffer
 refusalOf d Show = 0
 
 -- ---- what the calls make of the fresh district
@@ -31,6 +33,7 @@ unfoldable pub altered : District → Call → District
 altered d (Load file) = districtIn file
 altered d (Alter e) = edited d e
 altered d (ExportTo buffer) = d
+altered d (PageTo buffer) = d
 altered d Show = d
 
 unfoldable pub districtFrom : District → List Call → District
@@ -48,11 +51,12 @@ pub record Outcome : Type 0 where
   pub unit : Unit
   pub bytes : List ℕ
 
--- the bytes that a call is lent: a load's file, an export's buffer
+-- the bytes that a call is lent: a load's file, the buffer of an export or a page
 unfoldable pub lentTo : Call → List ℕ
 lentTo (Load file) = file
 lentTo (Alter e) = []
 lentTo (ExportTo buffer) = buffer
+lentTo (PageTo buffer) = buffer
 lentTo Show = []
 
 abbrev pub replied : Reply → List ℕ → Outcome
@@ -66,6 +70,7 @@ unfoldable pub outcomeOf : Unit → Call → Outcome
 outcomeOf u (Load file) = replied (loadOf u file) file
 outcomeOf u (Alter e) = replied (alterOf u e) []
 outcomeOf u (ExportTo buffer) = written (exportOf u buffer) u
+outcomeOf u (PageTo buffer) = written (pageOf u buffer) u
 outcomeOf u Show = record { answer = Accepted 0; unit = u; bytes = [] }
 
 -- one call after another
