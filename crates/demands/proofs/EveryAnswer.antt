@@ -2,7 +2,7 @@
 -- nothing.
 use Prim.Native.Nat.{ℕ, zero, suc}
 use mathlib.Core.List.{List, []}
-use mathlib.Core.Path.{_≡_, refl}
+use mathlib.Core.Path.{_≡_, refl, ap, _∙_}
 use native.Mathlib.Omega.{arith}
 use lib.Dec.{leb}
 use lib.ListN.{length}
@@ -10,10 +10,11 @@ use mathlib.Core.Bool.{Bool, true, false, _&&_}
 use Rattle.base.specs.Over.{between}
 use Rattle.rules.specs.District.{District}
 use Rattle.rules.specs.Answers.{noSuchPoints, unless, answerOf, accepting}
-use Rattle.rules.specs.Calls.{unitOf, answered, loadOf, alterOf, exported, exportOf}
-use Rattle.rules.specs.Lists.{Load, Alter, ExportTo, Show, refusalOf, altered, Outcome, outcomeOf, lentTo, replied, written}
+use Rattle.rules.specs.Calls.{unitOf, answered, loadOf, alterOf, exported, exportOf, pageOf}
+use Rattle.rules.specs.Lists.{Load, Alter, ExportTo, PageTo, Show, refusalOf, altered, Outcome, outcomeOf, lentTo, replied, written}
 use Rattle.rules.specs.Demands.{returned, EveryAnswer, EveryPoints}
 use Rattle.rules.specs.Survey.{blockOf, pointsOf, surveyRefusal, surveyOf}
+use Rattle.laws.proofs.Page.{page-length}
 use Rattle.rules.specs.declared.Unit.{Unit}
 use Rattle.rules.specs.declared.Answer.the-variants.{Accepted, Refused}
 
@@ -43,7 +44,7 @@ module _ (u : Unit) (bytes : List ℕ) where
   reply-refused zero d m e = absurd (omega arith)
   reply-refused (suc n) d m e = rw e
 
-  -- an export into these bytes
+  -- an export, or a page, into these bytes
   export-accepted : (n : ℕ) (file : List ℕ) → n ≡ 0 → written (exported n file bytes) u .answer ≡ Accepted (length file)
   unfolding exported
   export-accepted n file e = accepted-answer n (length file) e
@@ -54,13 +55,19 @@ module _ (u : Unit) (bytes : List ℕ) where
   export-refused (suc n) file m e = rw e
 
 pub every-answer : EveryAnswer
-unfolding refusalOf altered outcomeOf lentTo returned loadOf alterOf exportOf
+unfolding refusalOf altered outcomeOf lentTo returned loadOf alterOf exportOf pageOf
 every-answer u (Load file) =
     record { accepted = reply-accepted u file _ _; held = reply-held u file _ _; refused = reply-refused u file _ _ }
 every-answer u (Alter e) =
     record { accepted = reply-accepted u [] _ _; held = reply-held u [] _ _; refused = reply-refused u [] _ _ }
 every-answer u (ExportTo buffer) =
     record { accepted = export-accepted u buffer _ _; held = λ e. refl; refused = export-refused u buffer _ _ }
+every-answer u (PageTo buffer) =
+    record {
+      accepted = λ e. export-accepted u buffer _ _ e ∙ ap (λ (n : ℕ). Accepted n) (page-length (u .district) (u .programme));
+      held = λ e. refl;
+      refused = export-refused u buffer _ _;
+    }
 every-answer u Show = record { accepted = λ e. refl; held = λ e. refl; refused = λ n e. absurd (omega arith) }
 
 -- survey points

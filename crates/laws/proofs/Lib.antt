@@ -5,3 +5,4 @@ pub mod Steps
 pub mod Shares
 pub mod PickUps
 pub mod Changes
+pub mod Page
