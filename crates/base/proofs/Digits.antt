@@ -1,4 +1,4 @@
--- The digits of a number read back are the number, with no 0 in front.
+-- How many digits a number has, and what each is; read back they are the number, with no 0 in front.
 use Prim.Native.Nat.{ℕ, zero, suc, _+_, _-_, _*_, _/_, _%_, _^_, _≤_, _<_}
 use mathlib.Core.Bool.{Bool, true, false}
 use mathlib.Core.Path.{_≡_, refl, ap}
@@ -7,13 +7,14 @@ use mathlib.Core.Option.{Option, none, some}
 use native.Mathlib.Nat.{pow-succ'}
 use native.Mathlib.Omega.{arith}
 use lib.Dec.{ltb}
-use lib.ListN.{length, take, drop, getD}
+use lib.ListN.{length, take, drop, getD, length-append}
 use lib.Seq.{take-append-seam}
 use borrow.Author.Tests.{ltb-true, ltb-false}
 use Rattle.base.specs.Choice.{pick}
 use Rattle.base.specs.Over.{between}
 use Rattle.base.specs.Text.{digitsOf, decimal, valueFrom, Writes, Put}
 use Rattle.base.proofs.Choice.{between-yes}
+use Rattle.base.proofs.Each.{Each, each-none, each-cons, each-append}
 use Rattle.base.proofs.Text.{decimal-small}
 
 -- ---- reading
@@ -51,6 +52,38 @@ digits-by P k n small large = known (ltb n 10) refl
 
 tenth : (k n : ℕ) → n < 10 ^ suc k → n / 10 < 10 ^ k
 tenth k n l = let e = pow-succ' 10 k in omega arith
+
+-- a tenth has one digit fewer
+digits-within : (f k n : ℕ) → n < 10 ^ suc k → length (digitsOf f n) ≤ suc k
+unfolding digitsOf
+digits-within zero k n l = omega arith
+digits-within (suc f) zero n l = digits-by (λ (bs : List ℕ). length bs ≤ 1) f n (λ h. omega arith) (λ h. absurd (omega arith))
+digits-within (suc f) (suc k) n l =
+    digits-by (λ (bs : List ℕ). length bs ≤ suc (suc k)) f n
+    (λ h. omega arith)
+    (λ h. omega (arith, digits-within f k (n / 10) (tenth (suc k) n l), length-append (digitsOf f (n / 10)) ((48 + n % 10) ∷ [])))
+
+-- a number below 10 ^ k has at most k digits
+pub decimal-within : (k n : ℕ) → 1 ≤ k → n < 10 ^ k → length (decimal n) ≤ k
+unfolding decimal
+decimal-within zero n one l = absurd (omega arith)
+decimal-within (suc k) n one l = digits-within 20 k n l
+
+-- what holds of each digit
+module _ (P : ℕ → Type 0) (z : ℕ) (none : P z) (digit : (x : ℕ) → x < 10 → P (48 + x)) where
+  one-each : (x : ℕ) → x < 10 → Each P z ((48 + x) ∷ [])
+  one-each x h = each-cons P z (48 + x) [] (digit x h) (each-none P z none)
+
+  digits-each : (k n : ℕ) → Each P z (digitsOf k n)
+  unfolding digitsOf
+  digits-each zero n = each-none P z none
+  digits-each (suc k) n =
+      digits-by (λ (bs : List ℕ). Each P z bs) k n (one-each n)
+      (λ h. each-append P z (digitsOf k (n / 10)) ((48 + n % 10) ∷ []) (digits-each k (n / 10)) (one-each (n % 10) (omega arith)))
+
+  pub decimal-each : (n : ℕ) → Each P z (decimal n)
+  unfolding decimal
+  decimal-each n = digits-each 20 n
 
 digits-value : (k n : ℕ) → n < 10 ^ k → valueFrom 0 (digitsOf k n) ≡ some n
 unfolding digitsOf valueFrom

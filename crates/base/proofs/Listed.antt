@@ -67,15 +67,9 @@ listed-cong (suc n) m k f g h =
         let q : k + suc x ≡ suc k + x = omega arith in
         sym (ap f p) ∙ h (suc x) (omega arith) ∙ ap g q
 
--- what holds of 0 and of each that is listed holds at every place
+-- the entry at each place
 pub listed-at : (n m k : ℕ) (f : ℕ → ℕ) → k < n → getD (listedFrom n m f) k 0 ≡ f (m + k)
 unfolding listedFrom
 listed-at zero m k f h = absurd (omega arith)
 listed-at (suc n) m zero f h = let e : m ≡ m + 0 = omega arith in ap f e
 listed-at (suc n) m (suc k) f h = let e : suc m + k ≡ m + suc k = omega arith in listed-at n (suc m) k f (omega arith) ∙ ap f e
-
-pub listed-each : (P : ℕ → Type 0) (n m : ℕ) (f : ℕ → ℕ) → P 0 → ((x : ℕ) → P (f x)) → (k : ℕ) → P (getD (listedFrom n m f) k 0)
-unfolding listedFrom
-listed-each P zero m f z h k = z
-listed-each P (suc n) m f z h zero = h m
-listed-each P (suc n) m f z h (suc k) = listed-each P n (suc m) f z h k

@@ -4,3 +4,4 @@ pub mod EveryFile
 pub mod TheRules
 pub mod OneClaim
 pub mod RatingsOnScale
+pub mod EveryPage

@@ -8,7 +8,8 @@ use lib.ListN.{getD}
 use Rattle.base.specs.Choice.{pick}
 use Rattle.base.specs.Over.{between}
 use Rattle.base.proofs.Choice.{and-both, between-yes}
-use Rattle.base.proofs.Listed.{listed-at, listed-length, listed-each}
+use Rattle.base.proofs.Each.{each-listed}
+use Rattle.base.proofs.Listed.{listed-at, listed-length}
 use Rattle.grammar.specs.Ranges.{Ranges}
 use Rattle.rules.specs.District.{District, resourcesOf, mostSegments, mostStrategies, mostResources}
 use Rattle.rules.specs.Rating.{candidate}
@@ -106,17 +107,17 @@ module _ (d : District) (ok : Ranges d) where
         bounded = record { segments = ok .segments; strategies = ok .strategies; resources = ok .resources };
         benefits = record {
           places = listed-length (benefitEntry d) entries 0;
-          small = listed-each (λ v. v < 2 ^ 40) entries 0 (benefitEntry d) (lit< tt) (λ n. omega (arith, candidate-benefit-le d ok (n / columns + 1) (n % columns)));
+          small = each-listed (λ v. v < 2 ^ 40) 0 entries 0 (benefitEntry d) (lit< tt) (λ n _ _. omega (arith, candidate-benefit-le d ok (n / columns + 1) (n % columns)));
           nothing = λ i l h. benefit-entry d i 0 (l, h) (omega arith) ∙ simp and-false;
         };
         uses = record {
           places = listed-length (usageEntry d) useEntries 0;
-          small = listed-each (λ v. v < 2 ^ 41) useEntries 0 (usageEntry d) (lit< tt) (λ n. omega (arith, usage-in-le d ok (n / (mostResources * columns) + 1) (n / mostResources % columns) (n % mostResources + 1)));
+          small = each-listed (λ v. v < 2 ^ 41) 0 useEntries 0 (usageEntry d) (lit< tt) (λ n _ _. omega (arith, usage-in-le d ok (n / (mostResources * columns) + 1) (n / mostResources % columns) (n % mostResources + 1)));
           nothing = λ i r l h m u. usage-entry d i 0 r (l, h) (omega arith) (m, u) ∙ simp and-false;
         };
         limits = record {
           places = listed-length (limitIn d) mostResources 1;
-          small = listed-each (λ v. v < 2 ^ 47) mostResources 1 (limitIn d) (lit< tt) (λ r. omega (arith, limit-in-le d ok r));
+          small = each-listed (λ v. v < 2 ^ 47) 0 mostResources 1 (limitIn d) (lit< tt) (λ r _ _. omega (arith, limit-in-le d ok r));
         };
       }
 

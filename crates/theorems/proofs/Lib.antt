@@ -14,3 +14,4 @@ pub mod Totals
 pub mod Feasible
 pub mod Promises
 pub mod Scale
+pub mod Columns

@@ -32,7 +32,7 @@ module _ (d : District) (c : ℕ → ℕ) where
       sum-cong (segmentsOf d) (usageBy d c r) (λ i. tableOf d .usage i (c i) r) (λ i l h. sym (usage-is d i (c i) r l h (numbers i l h) lr hr))
 
   module _ (allowed : (i : ℕ) → 1 ≤ i → i ≤ segmentsOf d → Allowed (tableOf d) i (c i)) where
-    benefit-is : (i j : ℕ) → 1 ≤ i → i ≤ segmentsOf d → Allowed (tableOf d) i j → benefit d i j ≡ pos (candidateBenefit d i j)
+    pub benefit-is : (i j : ℕ) → 1 ≤ i → i ≤ segmentsOf d → Allowed (tableOf d) i j → benefit d i j ≡ pos (candidateBenefit d i j)
     unfolding benefit tableOf
     benefit-is i j l h (inl z) = rw (z, nothing-is d i l h)
     benefit-is i j l h (inr ok) = candidate-benefit d i j (ok .2)

@@ -1,2 +1,3 @@
 pub mod Rivals
 pub mod Scale
+pub mod Columns

@@ -3,6 +3,7 @@
 ghost use mathlib.Core.Path.{_≡_};
 ghost use Rattle.rules.specs.Calls.{freshUnit, unitOf, answered, loadOf, alterOf, exportOf, showOf};
 ghost use Rattle.rules.specs.Demands.{EveryAnswer, EveryPoints, TheRules, EveryFile, OneClaim};
+ghost use Rattle.theorems.specs.Columns.{EveryPage};
 ghost use Rattle.theorems.specs.Scale.{RatingsOnScale};
 use rules::Answer;
 use rules::District;
@@ -48,6 +49,7 @@ pub fn fresh() -> Unit
     ensures files { λ _. ⌜ EveryFile ⌝ }
     ensures claim { λ _. ⌜ OneClaim ⌝ }
     ensures scale { λ _. ⌜ RatingsOnScale ⌝ }
+    ensures readable { λ _. ⌜ EveryPage ⌝ }
 {
     hold(edits::fresh_district())
 }
