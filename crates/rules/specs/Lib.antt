@@ -17,3 +17,4 @@ pub mod Results
 pub mod Marked
 pub mod Further
 pub mod Refusals
+pub mod Pages

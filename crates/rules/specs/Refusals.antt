@@ -3,8 +3,8 @@ use Prim.Native.Nat.{ℕ}
 use mathlib.Core.Path.{_≡_, refl}
 use mathlib.Core.List.{List, [], _∷_, _++_, map}
 use lib.ListN.{take, set, replicate}
-use Rattle.rules.specs.Calls.{barRefusal, limitRefusal, ratingRefusal, exportRefusal, loadRefusal, districtIn, exportOf}
-use Rattle.rules.specs.Lists.{Load, Alter, ExportTo, Show, unitAfter}
+use Rattle.rules.specs.Calls.{barRefusal, limitRefusal, ratingRefusal, exportRefusal, pageRefusal, loadRefusal, districtIn, exportOf}
+use Rattle.rules.specs.Lists.{Load, Alter, ExportTo, PageTo, Show, unitAfter}
 use Rattle.rules.specs.declared.Edit.the-variants.{Bar, Unbar, SetLimit, SetRating}
 use Rattle.rules.specs.Results.{shown, shows, resultOf, WorkedCase, _⇒_, Agree}
 use Rattle.rules.specs.Marked.{card}
@@ -66,12 +66,14 @@ callRefusals d =
     ∷ ratingRefusal d 2 0 21
     ∷ ratingRefusal d 2 1 21
     ∷ ratingRefusal d 2 1 20
-    -- a buffer that is one byte too short
+    -- a buffer that is one byte too short, for a file and for a page of five lines
     ∷ exportRefusal d (take 86 card)
     ∷ exportRefusal d card
+    ∷ pageRefusal d (replicate 404 0)
+    ∷ pageRefusal d (replicate 405 0)
     ∷ []
 
-pub calls : callRefusals (districtIn card) ≡ 6 ∷ 6 ∷ 7 ∷ 7 ∷ 6 ∷ 0 ∷ 7 ∷ 7 ∷ 8 ∷ 0 ∷ 6 ∷ 6 ∷ 7 ∷ 7 ∷ 8 ∷ 0 ∷ 9 ∷ 0 ∷ []
+pub calls : callRefusals (districtIn card) ≡ 6 ∷ 6 ∷ 7 ∷ 7 ∷ 6 ∷ 0 ∷ 7 ∷ 7 ∷ 8 ∷ 0 ∷ 6 ∷ 6 ∷ 7 ∷ 7 ∷ 8 ∷ 0 ∷ 9 ∷ 0 ∷ 11 ∷ 0 ∷ []
 unfolding resultOf
 calls = refl
 
@@ -82,8 +84,8 @@ lists =
     -- barred twice; barred and unbarred, and unbarred what is not barred
     shown (Load card ∷ Alter (Bar 2 2) ∷ Alter (Bar 2 2) ∷ []) ⇒ shows (2 ∷ 1 ∷ []) 7_200_000 7_200_000 7_200_000 0 0 0
     ∷ shown (Load card ∷ Alter (Unbar 1 1) ∷ Alter (Bar 2 2) ∷ Alter (Unbar 2 2) ∷ Alter (Unbar 2 2) ∷ []) ⇒ shows (2 ∷ 1 ∷ []) 7_200_000 7_200_000 7_500_170 1 0 0
-    -- refused calls in between; export and show
-    ∷ shown (Load card ∷ Load [] ∷ Alter (Bar 3 1) ∷ Alter (SetLimit 2 0) ∷ Alter (SetLimit 1 1_000_000_000) ∷ Alter (SetRating 1 1 21) ∷ Alter (Unbar 1 3) ∷ ExportTo [] ∷ Show ∷ [])
+    -- refused calls in between; export, page and show
+    ∷ shown (Load card ∷ Load [] ∷ Alter (Bar 3 1) ∷ Alter (SetLimit 2 0) ∷ Alter (SetLimit 1 1_000_000_000) ∷ Alter (SetRating 1 1 21) ∷ Alter (Unbar 1 3) ∷ ExportTo [] ∷ PageTo [] ∷ Show ∷ [])
     ⇒ shows (2 ∷ 1 ∷ []) 7_200_000 7_200_000 7_500_170 1 0 0
     -- loaded again; nothing but refused calls
     ∷ shown (Load card ∷ Alter (SetLimit 1 0) ∷ Load card ∷ []) ⇒ shows (2 ∷ 1 ∷ []) 7_200_000 7_200_000 7_500_170 1 0 0

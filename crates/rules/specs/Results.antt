@@ -1,8 +1,9 @@
 -- A case and what it comes to: numbers that a theorem can compute. A theorem that unfolds `resultOf` unfolds all the rules with it, those
 -- that its `unfolding` names, file by file.
 use Prim.Native.Nat.{ℕ}
+use Prim.Native.String.{String}
 use mathlib.Core.Path.{_≡_}
-use mathlib.Core.List.{List, [], _∷_, _++_, map}
+use mathlib.Core.List.{List, [], _∷_, _++_, map, foldr}
 use lib.ListN.{take}
 use lib.IntN.{ℤ, pos}
 use Rattle.rules.specs.declared.Unit.{Unit}
@@ -10,6 +11,7 @@ use Rattle.rules.specs.declared.Programme.{Programme}
 use Rattle.base.specs.Bits
 use Rattle.base.specs.Over
 use Rattle.base.specs.Search
+use Rattle.base.specs.Text
 use Rattle.rules.specs.District
 use Rattle.rules.specs.Format
 use Rattle.rules.specs.File
@@ -18,16 +20,18 @@ use Rattle.rules.specs.Table
 use Rattle.rules.specs.Phases
 use Rattle.rules.specs.Ceiling
 use Rattle.rules.specs.Plan
+use Rattle.rules.specs.Page
 use Rattle.rules.specs.Answers
 use Rattle.rules.specs.Calls
 use Rattle.rules.specs.Survey
 use Rattle.rules.specs.Lists
 use Rattle.rules.specs.Writer
 
--- after the calls: what is shown, or what segment 1 comes to under strategy 1 for distress 1: its rating in year 0; ratings, and survivals, in
+-- after the calls: what is shown, the page, or what segment 1 comes to under strategy 1 for distress 1: its rating in year 0; ratings, and survivals, in
 -- years 1 to T; the effect
 pub data Case : Type 0 where
   shown : List Lists.Call → Case
+  paged : List Lists.Call → Case
   initialRating : List Lists.Call → Case
   ratings : List Lists.Call → Case
   survivals : List Lists.Call → Case
@@ -46,8 +50,13 @@ unfoldable pub shownBy : ℕ → Programme → List ℤ
 shownBy n p =
     shows (take n (p .strategies)) (p .total) (p .«after_pickups») (p .ceiling) (p .steps) (p .pickups) (p .changes)
 
+-- a page by its lines
+abbrev pub printed : List String → List ℤ
+printed lines = map (λ b. pos b) (foldr (λ s rest. Text.text s ++ (10 ∷ rest)) [] lines)
+
 unfoldable pub resultIn : Case → Unit → List ℤ
 resultIn (shown cs) u = shownBy (District.segmentsOf (u .district)) (Calls.showOf u)
+resultIn (paged cs) u = map (λ b. pos b) (Page.page (u .district) (Calls.showOf u))
 resultIn (initialRating cs) u = Rating.rating (u .district) 1 1 1 0 ∷ []
 resultIn (ratings cs) u = Over.listed (District.yearsOf (u .district)) (Rating.rating (u .district) 1 1 1)
 resultIn (survivals cs) u = Over.listed (District.yearsOf (u .district)) (λ t. pos (Rating.survival (u .district) 1 1 1 t))
@@ -55,6 +64,7 @@ resultIn (effects cs) u = Rating.effect (u .district) 1 1 ∷ []
 
 unfoldable pub callsBefore : Case → List Lists.Call
 callsBefore (shown cs) = cs
+callsBefore (paged cs) = cs
 callsBefore (initialRating cs) = cs
 callsBefore (ratings cs) = cs
 callsBefore (survivals cs) = cs
@@ -67,6 +77,7 @@ unfolding
     Bits.setBit Bits.clearBit
     Over.sum Over.sumZ Over.all Over.most Over.betterOf Over.best Over.minZ Over.maxZ Over.listedFrom
     Search.first Search.run
+    Text.text Text.digitsOf Text.decimal
     District.limitOf District.greatestOf District.requirementOf District.gainOf District.percentOf District.overallOf District.minimumOf
     District.pavementOf District.trafficOf District.environmentOf District.lengthOf District.widthOf District.barsOf District.barredIn
     District.ratingOf District.freshDistrict
@@ -87,10 +98,12 @@ unfolding
     Ceiling.downShare Ceiling.costBy Ceiling.cost Ceiling.net Ceiling.margin Ceiling.ceilingAt Ceiling.priced Ceiling.pricedAll
     Ceiling.pricesAfter Ceiling.ceiling
     Plan.reduced Plan.filled Plan.improved Plan.programmeOf Plan.noProgramme Plan.planOf
+    Page.rightAligned Page.line Page.miles Page.byResource Page.heading Page.segmentRow Page.totalRow Page.limitsRow Page.rows Page.lines
+    Page.page Page.pageLength
     Answers.answerOf Answers.accepting
-    Calls.loadRefusalOf Calls.loadRefusal Calls.exportRefusal Calls.loadedOf
+    Calls.loadRefusalOf Calls.loadRefusal Calls.exportRefusal Calls.pageRefusal Calls.loadedOf
     Calls.districtIn Calls.unitOf Calls.freshUnit Calls.answered Calls.loadOf Calls.alterOf
-    Calls.exported Calls.exportOf Calls.showOf
+    Calls.exported Calls.exportOf Calls.pageOf Calls.showOf
     Survey.deductPoints Survey.blockOf Survey.pointsOf Survey.surveyRefusal Survey.surveyOf
     Lists.refusalOf Lists.altered Lists.districtFrom Lists.districtAfter Lists.lentTo Lists.outcomeOf Lists.unitFrom Lists.unitAfter
 resultOf c = resultIn c (Lists.unitAfter (callsBefore c))

@@ -1,0 +1,69 @@
+-- Pages worked out by an independent program (reference/): the test card's, one after phase 3, and one at the ends of the ranges.
+use mathlib.Core.Path.{refl}
+use mathlib.Core.List.{List, [], _∷_}
+use lib.ListN.{replicate}
+use lib.IntN.{pos}
+use Rattle.rules.specs.Lists.{Load, Alter}
+use Rattle.rules.specs.declared.Edit.the-variants.{SetLimit}
+use Rattle.rules.specs.Writer.{Roads, nothingDemanded, segment, fileOf}
+use Rattle.rules.specs.Results.{paged, printed, resultOf, WorkedCase, _⇒_, Agree}
+use Rattle.rules.specs.Marked.{card}
+use Rattle.rules.specs.Further.{fourSegments}
+use Rattle.rules.specs.Pages.{headingLine}
+
+-- the greatest benefit, use and limit
+abbrev pub widest : Roads
+widest =
+    record {
+      years = 10;
+      limits = replicate 4 999_999_999;
+      greatest = replicate 9 50;
+      strategies =
+          record { requirements = replicate 4 999_999; gains = replicate 9 (pos 50); percents = replicate 9 (replicate 10 100) }
+          ∷ [];
+      pavements = nothingDemanded ∷ [];
+      segments = segment 9999 200 [] ∷ [];
+    }
+
+abbrev pub pages : List WorkedCase
+pages =
+    -- the card, and with limit 59, where segment 1 gets nothing
+    paged (Load card ∷ [])
+    ⇒ printed
+    (headingLine
+    ∷ " 1  1.00  20  2        4800000        60                                        "
+    ∷ " 2  2.00  20  1        2400000        40                                        "
+    ∷ "                       7200000       100                                        "
+    ∷ "                                     130                                        "
+    ∷ [])
+    ∷ paged (Load card ∷ Alter (SetLimit 1 59) ∷ [])
+    ⇒ printed
+    (headingLine
+    ∷ " 1  1.00  20  0              0         0                                        "
+    ∷ " 2  2.00  20  1        2400000        40                                        "
+    ∷ "                       2400000        40                                        "
+    ∷ "                                      59                                        "
+    ∷ [])
+    -- the total after phase 3, where phase 2 ends with 38,408,400
+    ∷ paged (Load (fileOf fourSegments) ∷ [])
+    ⇒ printed
+    (headingLine
+    ∷ " 1  4.90  42  1       10495800       117                                        "
+    ∷ " 2  6.13   5  2         294240        28                                        "
+    ∷ " 3 45.43 167  0              0         0                                        "
+    ∷ " 4 14.37  73  1       61576887       592                                        "
+    ∷ "                      72366927       736                                        "
+    ∷ "                                     746                                        "
+    ∷ [])
+    ∷ paged (Load (fileOf widest) ∷ [])
+    ⇒ printed
+    (headingLine
+    ∷ " 1 99.99 200  1   899910000000  19997981  19997981  19997981  19997981          "
+    ∷ "                  899910000000  19997981  19997981  19997981  19997981          "
+    ∷ "                               999999999 999999999 999999999 999999999          "
+    ∷ [])
+    ∷ []
+
+pub on-paper : Agree pages
+unfolding resultOf
+on-paper = refl
