@@ -8,6 +8,10 @@ use lib.ListN.{length, getD, set, take, drop, length-append, length-drop, drop-o
 use lib.Seq.{take-at, drop-at, drop-drop}
 use Rattle.base.specs.Over.{listedFrom}
 
+-- xs stands over the front of d; the k places behind it are lent, and come back as ys
+pub part-next : {A : Type 0} (xs ys d : List A) (n k : ℕ) → length xs ≡ n → take n (xs ++ drop n d) ++ (ys ++ drop k (drop n (xs ++ drop n d))) ≡ (xs ++ ys) ++ drop (n + k) d
+part-next xs ys d n k e = rw (take-at xs (drop n d) n e, drop-at xs (drop n d) n e, drop-drop k n d) (sym (append-assoc xs ys (drop (n + k) d)))
+
 module _ {A : Type 0} (f : ℕ → A) where
   pub listed-length : (n m : ℕ) → length (listedFrom n m f) ≡ n
   unfolding listedFrom
@@ -44,8 +48,7 @@ module _ {A : Type 0} (f : ℕ → A) where
   pub fill-part : (n k m : ℕ) (d ys : List A) → ys ≡ listedFrom k (m + n) f → take n (listedFrom n m f ++ drop n d) ++ (ys ++ drop k (drop n (listedFrom n m f ++ drop n d))) ≡ listedFrom (n + k) m f ++ drop (n + k) d
   fill-part n k m d ys e =
       let a : listedFrom n m f ++ ys ≡ listedFrom (n + k) m f = ap (λ (l : List A). listedFrom n m f ++ l) e ∙ listed-append n k m in
-      rw (take-at (listedFrom n m f) (drop n d) n (listed-length n m), drop-at (listedFrom n m f) (drop n d) n (listed-length n m), drop-drop k n d)
-      (sym (append-assoc (listedFrom n m f) ys (drop (n + k) d)) ∙ ap (λ (l : List A). l ++ drop (n + k) d) a)
+      part-next (listedFrom n m f) ys d n k (listed-length n m) ∙ ap (λ (l : List A). l ++ drop (n + k) d) a
 
   pub fill-length : (n m : ℕ) (d : List A) → n ≤ length d → length (listedFrom n m f ++ drop n d) ≡ length d
   fill-length n m d h = rw (length-append, listed-length n m, length-drop) (omega arith)

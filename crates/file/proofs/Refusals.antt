@@ -1,17 +1,17 @@
--- A file that does not load has one of the refusals for files; what a load and an export give.
+-- A file that does not load has one of the refusals for files; what a load gives, and a call that writes into a buffer.
 use Prim.Native.Nat.{ℕ, zero, suc, _+_, _-_, _≤_, _<_}
 use mathlib.Core.Path.{_≡_, refl, subst}
 use mathlib.Core.List.{List, [], _∷_, _++_}
 use native.Mathlib.Omega.{arith}
-use lib.Dec.{ltb, eqb}
+use lib.Dec.{leb, ltb, eqb}
 use borrow.Author.Tests.{le-leb, lt-leb}
 use lib.ListN.{length, take, drop, replicate}
 use Rattle.base.proofs.Choice.{pick-all}
 use Rattle.base.specs.Bytes.{numberOf}
-use Rattle.rules.specs.Answers.{answerOf, accepting, cutShort, otherKind, otherLength, outOfRange, bytesFollow, bufferTooShort}
-use Rattle.rules.specs.Calls.{loadRefusalOf, loadRefusal, loadedOf, districtIn, exportRefusal, exported}
+use Rattle.rules.specs.Answers.{unless, answerOf, accepting, cutShort, otherKind, otherLength, outOfRange, bytesFollow}
+use Rattle.rules.specs.Calls.{loadRefusalOf, loadRefusal, loadedOf, districtIn, exported}
 use Rattle.rules.specs.District.{District, districtPlaces}
-use Rattle.rules.specs.File.{Read, refused, found, value, size, readNumbers, readRecord, andThen, readRecords, decode, encode}
+use Rattle.rules.specs.File.{Read, refused, found, value, size, readNumbers, readRecord, andThen, readRecords, decode}
 use Rattle.rules.specs.Format.{present, fieldAt, inside, slotOf, fileRecords}
 use Rattle.rules.specs.declared.Answer.the-variants.{Accepted, Refused}
 use Rattle.rules.specs.declared.Slot.{Slot}
@@ -74,13 +74,13 @@ unfolding loadRefusal loadRefusalOf districtIn loadedOf accepting
 loaded-refused file zero e = absurd (omega (arith, refusals file zero e .0))
 loaded-refused file (suc n) e = rw e
 
--- ---- what an export gives
+-- ---- what a call gives that writes into a buffer: whether that has the bytes that are needed decides
 
-module _ (d : District) (buffer : List ℕ) where
-  pub export-short : length buffer < length (encode d) → record { answer = Refused bufferTooShort; buffer = buffer } ≡ exported (exportRefusal d buffer) (encode d) buffer
-  unfolding exported exportRefusal answerOf accepting
-  export-short h = rw (lt-leb (length (encode d)) (length buffer) h)
+module _ (needed k : ℕ) (bytes buffer : List ℕ) where
+  pub exported-short : length buffer < needed → record { answer = Refused (suc k); buffer = buffer } ≡ exported (unless (leb needed (length buffer)) (suc k) 0) bytes buffer
+  unfolding exported answerOf accepting
+  exported-short h = rw (lt-leb needed (length buffer) h)
 
-  pub export-fits : length (encode d) ≤ length buffer → record { answer = Accepted (length (encode d)); buffer = encode d ++ drop (length (encode d)) buffer } ≡ exported (exportRefusal d buffer) (encode d) buffer
-  unfolding exported exportRefusal answerOf accepting
-  export-fits h = rw (le-leb (length (encode d)) (length buffer) h)
+  pub exported-fits : needed ≤ length buffer → record { answer = Accepted (length bytes); buffer = bytes ++ drop (length bytes) buffer } ≡ exported (unless (leb needed (length buffer)) k 0) bytes buffer
+  unfolding exported answerOf accepting
+  exported-fits h = rw (le-leb needed (length buffer) h)
