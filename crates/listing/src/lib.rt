@@ -28,7 +28,7 @@ pub fn put(out: &mut [u8], bytes: &[u8]) -> usize
 }
 
 // The digits of its tenth, then the last one.
-fn put_number(out: &mut [u8], value: usize) -> usize
+pub fn put_number(out: &mut [u8], value: usize) -> usize
     requires { ⌜ length (decimal value) ≤ length (now out) ⌝ }
     ensures { λ r. ⌜ Put (decimal value) (now (out .entry)) (now (out .exit)) r ⌝ }
     ensures { λ r. ⌜ Writes (take r (now (out .exit))) value ⌝ }

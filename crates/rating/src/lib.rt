@@ -15,7 +15,7 @@ use rules::places::*;
 
 // ---- what stands at its places
 
-fn limit_at(d: &District, r: usize) -> usize
+pub fn limit_at(d: &District, r: usize) -> usize
     requires { ⌜ Resource r ⌝ }
     ensures { λ v. ⌜ v ≡ valueAt (now (d .entry)) (limitPlace r) ⌝ }
 {
@@ -73,7 +73,7 @@ fn pavement_at(d: &District, i: usize) -> usize
 }
 
 // a segment's indexes, length, width or bars
-fn segment_at(d: &District, i: usize, n: usize) -> usize
+pub fn segment_at(d: &District, i: usize, n: usize) -> usize
     requires { ⌜ Segment i × (n ≤ barsAt) ⌝ }
     ensures { λ v. ⌜ v ≡ valueAt (now (d .entry)) (segmentPlace i + n) ⌝ }
 {

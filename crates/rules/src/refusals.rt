@@ -20,3 +20,6 @@ pub const NEW_OUT_OF_RANGE: usize = 8;
 pub const BUFFER_TOO_SHORT: usize = 9;
 
 pub const NO_SUCH_POINTS: usize = 10;
+
+// Of document 02's request 2.
+pub const PAGE_TOO_SHORT: usize = 11;

@@ -1,0 +1,4 @@
+pub mod Uses
+pub mod Texts
+pub mod Lines
+pub mod Given
