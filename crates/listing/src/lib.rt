@@ -128,7 +128,7 @@ pub fn put_shown(out: &mut [u8], u: Unit) -> usize
 
 // ---- the answer to a call
 
-fn put_refusal(out: &mut [u8], n: usize) -> usize
+pub fn put_refusal(out: &mut [u8], n: usize) -> usize
     requires { ⌜ longestRefusal ≤ length (now out) ⌝ }
     ensures { λ r. ⌜ Put (refusal n) (now (out .entry)) (now (out .exit)) r ⌝ }
 {

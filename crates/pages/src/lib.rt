@@ -6,14 +6,17 @@ ghost use mathlib.Core.List.{_++_};
 ghost use mathlib.Core.Path.{_≡_};
 ghost use Prim.Native.Nat.{_+_, _*_, _≤_};
 ghost use lib.ListN.{length, drop};
+ghost use Rattle.base.specs.Text.{Put};
 ghost use Rattle.grammar.specs.Ranges.{Ranges};
 ghost use Rattle.rules.specs.Calls.{exported, pageRefusal};
 ghost use Rattle.rules.specs.District.{segmentsOf};
 ghost use Rattle.rules.specs.Page.{widths, line, rows as Page·rows, lines, page as Page·page};
 ghost use Rattle.pages.specs.Numbered.{rowAt};
+ghost use Rattle.pages.specs.Printed.{pageHeld, paged, longestPage};
 use rules::Answer;
 use rules::District;
 use rules::Programme;
+use rules::Unit;
 use rules::places::MOST_SEGMENTS;
 use rules::places::SEGMENT_COUNT;
 use rules::refusals::PAGE_TOO_SHORT;
@@ -71,4 +74,31 @@ pub fn page(d: District, p: Programme, buffer: &mut [u8]) -> Answer
     }
     put_lines(&d, p, buffer);
     Answer::Accepted(length)
+}
+
+// ---- for the programs
+
+// The unit's own.
+pub fn put_page(out: &mut [u8], u: Unit) -> usize
+    requires { ⌜ longestPage ≤ length (now out) ⌝ }
+    ensures { λ r. ⌜ Put (pageHeld u) (now (out .entry)) (now (out .exit)) r ⌝ }
+{
+    let d = u.district;
+    let p = u.programme;
+    let answer = page(d, p, out);
+    match answer {
+        Answer::Accepted(length) => length,
+        Answer::Refused(_) => 0,
+    }
+}
+
+// The answer to a load, with the page.
+pub fn put_paged(out: &mut [u8], answer: Answer, u: Unit) -> usize
+    requires { ⌜ longestPage ≤ length (now out) ⌝ }
+    ensures { λ r. ⌜ Put (paged answer u) (now (out .entry)) (now (out .exit)) r ⌝ }
+{
+    match answer {
+        Answer::Accepted(_) => put_page(out, u),
+        Answer::Refused(number) => listing::put_refusal(out, number),
+    }
 }
