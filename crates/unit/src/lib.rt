@@ -1,7 +1,7 @@
 // The planning unit's calls. A call takes a unit and gives one back. It settles every input by itself:
 // its contract is an equality with the rules, refusals included, and has no `requires`.
 ghost use mathlib.Core.Path.{_≡_};
-ghost use Rattle.rules.specs.Calls.{freshUnit, unitOf, answered, loadOf, alterOf, exportOf, showOf};
+ghost use Rattle.rules.specs.Calls.{freshUnit, unitOf, answered, loadOf, alterOf, exportOf, pageOf, showOf};
 ghost use Rattle.rules.specs.Demands.{EveryAnswer, EveryPoints, TheRules, EveryFile, OneClaim};
 ghost use Rattle.theorems.specs.Columns.{EveryPage};
 ghost use Rattle.theorems.specs.Scale.{RatingsOnScale};
@@ -63,6 +63,13 @@ pub fn load(u: Unit, bytes: &[u8]) -> Reply
     conclude(u, refusal, d)
 }
 
+// What a fresh unit makes of a file.
+pub fn of_file(bytes: &[u8]) -> Reply
+    ensures { λ r. ⌜ r ≡ loadOf freshUnit (now (bytes .entry)) ⌝ }
+{
+    load(fresh(), bytes)
+}
+
 // Bar, unbar, set limit and set rating.
 pub fn alter(u: Unit, e: Edit) -> Reply
     ensures { λ r. ⌜ r ≡ alterOf u e ⌝ }
@@ -78,6 +85,15 @@ pub fn export(u: Unit, buffer: &mut [u8]) -> Answer
 {
     let d = u.district;
     file::export(d, buffer)
+}
+
+// The page of the district and the programme held, written to the front of the buffer.
+pub fn page(u: Unit, buffer: &mut [u8]) -> Answer
+    ensures { λ r. ⌜ record { answer = r; buffer = now (buffer .exit) } ≡ pageOf u (now (buffer .entry)) ⌝ }
+{
+    let d = u.district;
+    let p = u.programme;
+    pages::page(d, p, buffer)
 }
 
 // The programme held, with totals, ceiling and counts.
