@@ -13,7 +13,7 @@ fn answer(file: &[u8], out: &mut [u8]) -> usize
     requires { ⌜ longestListing ≤ length (now out) ⌝ }
     ensures { λ r. ⌜ Put (printed (now (file .entry))) (now (out .entry)) (now (out .exit)) r ⌝ }
 {
-    let reply = unit::load(unit::fresh(), file);
+    let reply = unit::of_file(file);
     let answer = reply.answer;
     let u = reply.unit;
     listing::put_planned(out, answer, u)
