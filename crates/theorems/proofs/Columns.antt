@@ -1,135 +1,50 @@
--- A row of plain texts makes a line of 80 characters and a line feed, whatever the texts, and rows make a page of such lines. What a page says
--- of the programme of a district are the rules' benefits and uses.
-use Prim.Native.Nat.{ℕ, zero, suc, _+_, _-_, _*_, _≤_, _<_}
-use mathlib.Core.Path.{_≡_, refl, sym, ap, _∙_}
-use mathlib.Core.List.{List, [], _∷_, _++_, append-assoc}
+-- What stands on a page has room in its column, and benefits and uses are the rules' own. The widest figures: a total is at most 64 of the
+-- greatest benefits, 14 digits, and a sum of uses at most its limit, 9 digits.
+use Prim.Native.Nat.{ℕ, zero, suc, _+_, _/_, _%_, _^_, _≤_, _<_}
+use mathlib.Core.Path.{_≡_, refl, sym}
+use mathlib.Core.Bool.{Bool, true, false, _&&_}
+use mathlib.Core.List.{List, [], _∷_, _++_}
 use native.Mathlib.Omega.{arith}
 use borrow.Author.Tests.{leb-true}
 use lib.Dec.{leb}
 use lib.IntN.{pos}
-use lib.ListN.{length, getD, replicate, length-append, List·getD-append}
-use lib.Seq.{getD-append-add, getD-append-seam}
-use Rattle.base.specs.Over.{sum}
-use Rattle.base.specs.Text.{text}
+use lib.ListN.{length, getD, length-append}
+use Rattle.base.specs.Choice.{pick}
+use Rattle.base.specs.Over.{sum, listed, listedFrom}
+use Rattle.base.specs.Text.{text, decimal}
 use Rattle.base.proofs.All.{all-at}
-use Rattle.base.proofs.Choice.{pick-all}
-use Rattle.base.proofs.Each.{Each, each-cons, each-append, each-replicate, each-at}
-use Rattle.base.proofs.Sums.{sum-part}
-use Rattle.rules.specs.District.{District, mostSegments, segmentsOf, resourcesOf}
+use Rattle.base.proofs.Choice.{and-both}
+use Rattle.base.proofs.Digits.{decimal-within, decimal-each}
+use Rattle.base.proofs.Each.{Each, each-none, each-cons, each-append, each-listed}
+use Rattle.base.proofs.Sums.{sum-bound, sum-part}
+use Rattle.rules.specs.District.{District, mostSegments, mostStrategies, segmentsOf, strategiesOf, resourcesOf, limitOf, lengthOf, widthOf}
 use Rattle.rules.specs.Rating.{benefit, usage, scaledLimit, usageBy}
-use Rattle.rules.specs.Table.{tableOf}
-use Rattle.rules.specs.Phases.{strategyAt, chosenBenefit, chosenUsage, used, holds, within}
+use Rattle.rules.specs.Table.{candidateBenefit, tableOf}
+use Rattle.rules.specs.Phases.{strategyAt, chosenBenefit, total, chosenUsage, used, holds, within}
 use Rattle.rules.specs.Plan.{improved, programmeOf}
-use Rattle.rules.specs.Page.{widths, rightAligned, line, lines}
+use Rattle.rules.specs.Page.{widths, miles, wholeUnits, byResource, heading, segmentRow, totalRow, limitsRow, rows}
 use Rattle.rules.specs.Demands.{strategyIn}
+use Rattle.rules.specs.declared.Programme.{Programme}
 use Rattle.laws.specs.Tables.{OfCandidates}
 use Rattle.laws.proofs.Gives.{candidates-numbers}
-use Rattle.laws.proofs.Page.{line-length, lines-length}
-use Rattle.theorems.specs.Columns.{Character, Lines}
+use Rattle.laws.proofs.Page.{rows-length}
+use Rattle.theorems.specs.Columns.{Character, Figures, OnPage}
+use Rattle.theorems.proofs.Lines.{Plain, blank, lines-of}
 use Rattle.theorems.proofs.Entries.{usage-is, limit-is, table-fit}
 use Rattle.theorems.proofs.Totals.{Numbers, uses-are, benefit-is}
 use Rattle.theorems.proofs.Programmes as programmes
 
--- ---- lines
-
-abbrev pub Plain : List ℕ → Type 0
-Plain bs = Each Character 32 bs
-
--- each text of a row, and of each row
-abbrev pub PlainRow : List (List ℕ) → Type 0
-PlainRow row = Each Plain [] row
-
-abbrev pub PlainRows : List (List (List ℕ)) → Type 0
-PlainRows rs = Each PlainRow [] rs
-
-blank : Character 32
-blank = (omega arith, omega arith)
-
-aligned-plain : (w : ℕ) (bs : List ℕ) → Plain bs → Plain (rightAligned w bs)
-unfolding rightAligned
-aligned-plain w bs h =
-    pick-all Plain (leb (length bs) w) (replicate (w - length bs) 32 ++ bs) (replicate w 42)
-    (each-append Character 32 (replicate (w - length bs) 32) bs (each-replicate Character 32 (w - length bs) 32 blank blank) h)
-    (each-replicate Character 32 w 42 blank (omega arith, omega arith))
-
--- characters, and a line feed behind them
-record Ended (bs : List ℕ) : Type 0 where
-  body : List ℕ
-  plain : Plain body
-  whole : bs ≡ body ++ (10 ∷ [])
-
-ended-more : (w : ℕ) (bs rest : List ℕ) → Plain bs → Ended rest → Ended (rightAligned w bs ++ (text " " ++ rest))
-unfolding text
-ended-more w bs rest h e =
-    record {
-      body = rightAligned w bs ++ (text " " ++ e .body);
-      plain =
-          each-append Character 32 (rightAligned w bs) (32 ∷ e .body) (aligned-plain w bs h)
-          (each-cons Character 32 32 (e .body) blank (e .plain));
-      whole =
-          ap (λ (l : List ℕ). rightAligned w bs ++ (32 ∷ l)) (e .whole)
-          ∙ sym (append-assoc (rightAligned w bs) (32 ∷ e .body) (10 ∷ []));
-    }
-
-line-ended : (ws : List ℕ) (row : List (List ℕ)) → PlainRow row → Ended (line ws row)
-unfolding line text
-line-ended [] row h =
-    record { body = replicate 9 32; plain = each-replicate Character 32 9 32 blank blank; whole = refl }
-line-ended (w ∷ ws) [] h = ended-more w [] (line ws []) (h 0) (line-ended ws [] (λ n. h (suc n)))
-line-ended (w ∷ ws) (bs ∷ row) h = ended-more w bs (line ws row) (h 0) (line-ended ws row (λ n. h (suc n)))
-
-module _ (row : List (List ℕ)) (plain : PlainRow row) (rest : List ℕ) where
-  end : Ended (line widths row)
-  end = line-ended widths row plain
-
-  body-length : length (end .body) ≡ 80
-  body-length = omega (arith, line-length row, ap length (end .whole), length-append (end .body) (10 ∷ []))
-
-  split : line widths row ++ rest ≡ end .body ++ (10 ∷ rest)
-  split = ap (λ (l : List ℕ). l ++ rest) (end .whole) ∙ append-assoc (end .body) (10 ∷ []) rest
-
-  line-character : (m : ℕ) → m < 80 → Character (getD (line widths row ++ rest) m 0)
-  line-character m h =
-      rw (split, List·getD-append (end .body) (10 ∷ rest) 0 m (omega (arith, body-length)))
-      (each-at Character 32 (end .body) 0 (end .plain) m (omega (arith, body-length)))
-
-  line-feed : getD (line widths row ++ rest) 80 0 ≡ 10
-  line-feed = rw (split, ← body-length) (getD-append-seam (end .body) 10 rest 0)
-
-  line-later : (n : ℕ) → getD (line widths row ++ rest) (81 + n) 0 ≡ getD rest n 0
-  line-later n = rw (← line-length row) (getD-append-add (line widths row) rest n 0)
-
-module _ (P : ℕ → Type 0) (m : ℕ) where
-  -- what holds at one place of each line
-  each-line :
-      (rs : List (List (List ℕ))) → ((row : List (List ℕ)) (rest : List ℕ) → PlainRow row → P (getD (line widths row ++ rest) m 0))
-      → PlainRows rs → (k : ℕ) → k < length rs → P (getD (lines rs) (k * 81 + m) 0)
-  unfolding lines
-  each-line [] here h k l = absurd (omega arith)
-  each-line (row ∷ rest) here h zero l = let e : 0 * 81 + m ≡ m = omega arith in rw e (here row (lines rest) (h 0))
-  each-line (row ∷ rest) here h (suc k) l =
-      let e : suc k * 81 + m ≡ 81 + (k * 81 + m) = omega arith in
-      rw (e, line-later row (h 0) (lines rest) (k * 81 + m)) (each-line rest here (λ n. h (suc n)) k (omega arith))
-
-pub lines-of : (rs : List (List (List ℕ))) → PlainRows rs → Lines (length rs) (lines rs)
-lines-of rs h =
-    record {
-      bytes = lines-length rs;
-      characters = λ k m l u. each-line Character m rs (λ row rest plain. line-character row plain rest m u) h k l;
-      feeds = λ k l. each-line (λ b. b ≡ 10) 80 rs (λ row rest plain. line-feed row plain rest) h k l;
-    }
-
--- ---- benefits and uses
+-- ---- figures
 
 module _ (d : District) (few : segmentsOf d ≤ mostSegments) where
   candidates : OfCandidates (tableOf d) (improved (tableOf d) .last)
   candidates = programmes.improved-candidates (tableOf d) (table-fit d few)
 
-  pub strategies-are : Numbers d (strategyIn (programmeOf (tableOf d)))
+  strategies-are : Numbers d (strategyIn (programmeOf (tableOf d)))
   unfolding programmeOf tableOf
   strategies-are = candidates-numbers (tableOf d) (improved (tableOf d) .last) candidates
 
-  pub benefits-are :
+  benefits-are :
       (i : ℕ) → 1 ≤ i → i ≤ segmentsOf d
       → pos (chosenBenefit (tableOf d) (programmeOf (tableOf d) .strategies) i) ≡ benefit d i (strategyIn (programmeOf (tableOf d)) i)
   unfolding programmeOf chosenBenefit tableOf
@@ -137,29 +52,205 @@ module _ (d : District) (few : segmentsOf d ≤ mostSegments) where
       let c = strategyAt (improved (tableOf d) .last) in
       sym (benefit-is d c (candidates .each) i (c i) l h (candidates .each i l h))
 
-  pub use-is :
+  use-is :
       (i r : ℕ) → 1 ≤ i → i ≤ segmentsOf d → 1 ≤ r → r ≤ resourcesOf d
       → chosenUsage (tableOf d) (programmeOf (tableOf d) .strategies) r i ≡ usage d i (strategyIn (programmeOf (tableOf d)) i) r
   unfolding chosenUsage
   use-is i r l h lr hr = usage-is d i (strategyIn (programmeOf (tableOf d)) i) r l h (strategies-are i l h) lr hr
 
-  pub sum-is :
+  sum-is :
       (r : ℕ) → 1 ≤ r → r ≤ resourcesOf d
       → used (tableOf d) (programmeOf (tableOf d) .strategies) r ≡ sum (segmentsOf d) (usageBy d (strategyIn (programmeOf (tableOf d))) r)
   unfolding used chosenUsage tableOf
   sum-is r lr hr = sym (uses-are d (strategyIn (programmeOf (tableOf d))) strategies-are r lr hr)
 
   -- a sum is within its limit, and so is each use of it
-  pub sum-within : (r : ℕ) → 1 ≤ r → r ≤ resourcesOf d → used (tableOf d) (programmeOf (tableOf d) .strategies) r ≤ scaledLimit d r
+  sum-within : (r : ℕ) → 1 ≤ r → r ≤ resourcesOf d → used (tableOf d) (programmeOf (tableOf d) .strategies) r ≤ scaledLimit d r
   unfolding programmeOf within holds tableOf
   sum-within r lr hr =
       let t = tableOf d in
       let c = improved t .last in
       rw (limit-is d r lr hr) at (leb-true (used t c r) (t .limit r) (all-at (resourcesOf d) (holds t c) (programmes.improved-within t (table-fit d few)) r lr hr))
 
-  pub use-within :
+  use-within :
       (i r : ℕ) → 1 ≤ i → i ≤ segmentsOf d → 1 ≤ r → r ≤ resourcesOf d
       → chosenUsage (tableOf d) (programmeOf (tableOf d) .strategies) r i ≤ scaledLimit d r
   unfolding used tableOf
   use-within i r l h lr hr =
       omega (arith, sum-within r lr hr, sum-part (segmentsOf d) (chosenUsage (tableOf d) (programmeOf (tableOf d) .strategies) r) i l h)
+
+  figures : Figures d (programmeOf (tableOf d))
+  figures = record { benefits = benefits-are; uses = use-is; sums = sum-is }
+
+-- ---- a text that has room in w characters
+
+record Cell (w : ℕ) (bs : List ℕ) : Type 0 where
+  room : length bs ≤ w
+  plain : Plain bs
+
+-- each text of a row in its column
+record Fits (ws : List ℕ) (row : List (List ℕ)) : Type 0 where
+  cells : (n : ℕ) → Cell (getD ws n 0) (getD row n [])
+
+none : Plain []
+none = each-none Character 32 blank
+
+empty : {w : ℕ} → Cell w []
+empty = record { room = omega arith; plain = none }
+
+fits-none : {ws : List ℕ} → Fits ws []
+fits-none = record { cells = λ n. empty }
+
+fits-cons : {w : ℕ} {ws bs : List ℕ} {row : List (List ℕ)} → Cell w bs → Fits ws row → Fits (w ∷ ws) (bs ∷ row)
+fits-cons {w} {ws} {bs} {row} c f = record { cells = go }
+  where
+    go : (n : ℕ) → Cell (getD (w ∷ ws) n 0) (getD (bs ∷ row) n [])
+    go zero = c
+    go (suc n) = f .cells n
+
+number : {w n : ℕ} → 1 ≤ w → n < 10 ^ w → Cell w (decimal n)
+number {w} {n} h l =
+    record {
+      room = decimal-within w n h l;
+      plain = decimal-each Character 32 blank (λ x u. (omega arith, omega arith)) n;
+    }
+
+mile-cell : (n : ℕ) → n ≤ 9_999 → Cell 5 (miles n)
+unfolding miles text
+mile-cell n h =
+    let hundredths : List ℕ = (48 + n / 10 % 10) ∷ (48 + n % 10) ∷ [] in
+    let whole : Cell 2 (decimal (n / 100)) = number (omega arith) (omega arith) in
+    record {
+      room = omega (arith, whole .room, length-append (decimal (n / 100)) (46 ∷ hundredths));
+      plain =
+          each-append Character 32 (decimal (n / 100)) (46 ∷ hundredths) (whole .plain)
+          (one 46 hundredths (omega arith) (omega arith)
+          (one (48 + n / 10 % 10) ((48 + n % 10) ∷ []) (omega arith) (omega arith)
+          (one (48 + n % 10) [] (omega arith) (omega arith) none)));
+    }
+  where
+    one : (b : ℕ) (bs : List ℕ) → 32 ≤ b → b ≤ 126 → Plain bs → Plain (b ∷ bs)
+    one b bs l u p = each-cons Character 32 b bs (l, u) p
+
+-- a number for each of four resources
+module _ (d : District) (f : ℕ → ℕ) (most : (r : ℕ) → 1 ≤ r → r ≤ resourcesOf d → f r ≤ 999_999_999) where
+  resource : (r : ℕ) → 1 ≤ r → Cell 9 (pick (leb r (resourcesOf d)) (decimal (f r)) [])
+  resource r l = known (leb r (resourcesOf d)) refl
+    where
+      known : (t : Bool) → leb r (resourcesOf d) ≡ t → Cell 9 (pick t (decimal (f r)) [])
+      known true e = number (omega arith) (omega (arith, most r l (leb-true r (resourcesOf d) e)))
+      known false e = empty
+
+  resources-fit : Fits (9 ∷ 9 ∷ 9 ∷ 9 ∷ []) (byResource d f)
+  unfolding byResource listedFrom
+  resources-fit =
+      fits-cons (resource 1 (omega arith))
+      (fits-cons (resource 2 (omega arith))
+      (fits-cons (resource 3 (omega arith))
+      (fits-cons (resource 4 (omega arith)) fits-none)))
+
+-- ---- the heading
+
+-- a text that is known, by computing
+abbrev fine : List ℕ → Bool
+fine [] = true
+fine (b ∷ bs) = leb 32 b && (leb b 126 && fine bs)
+
+fine-plain : (bs : List ℕ) → fine bs ≡ true → Plain bs
+fine-plain [] e = none
+fine-plain (b ∷ bs) e =
+    let t = and-both (leb 32 b) (leb b 126 && fine bs) e in
+    let u = and-both (leb b 126) (fine bs) (t .1) in
+    each-cons Character 32 b bs (leb-true 32 b (t .0), leb-true b 126 (u .0)) (fine-plain bs (u .1))
+
+word : {w : ℕ} (bs : List ℕ) → (leb (length bs) w && fine bs) ≡ true → Cell w bs
+word {w} bs e =
+    let t = and-both (leb (length bs) w) (fine bs) e in
+    record { room = leb-true (length bs) w (t .0); plain = fine-plain bs (t .1) }
+
+heading-fits : Fits widths heading
+unfolding heading text
+heading-fits =
+    fits-cons (word (text "NO") refl)
+    (fits-cons (word (text "MILES") refl)
+    (fits-cons (word (text "FT") refl)
+    (fits-cons (word (text "ST") refl)
+    (fits-cons (word (text "BENEFIT") refl)
+    (fits-cons (word (text "R1") refl)
+    (fits-cons (word (text "R2") refl)
+    (fits-cons (word (text "R3") refl)
+    (fits-cons (word (text "R4") refl) fits-none))))))))
+
+-- ---- the rows of a district
+
+-- what has to be known of it: the file's ranges, and how great a benefit can be
+pub record Narrow (d : District) : Type 0 where
+  pub segments : segmentsOf d ≤ mostSegments
+  pub strategies : strategiesOf d ≤ mostStrategies
+  pub lengths : (i : ℕ) → 1 ≤ i → i ≤ mostSegments → lengthOf d i ≤ 9_999
+  pub widths : (i : ℕ) → 1 ≤ i → i ≤ mostSegments → widthOf d i ≤ 200
+  pub limits : (r : ℕ) → 1 ≤ r → r ≤ resourcesOf d → limitOf d r ≤ 999_999_999
+  pub benefits : (i j : ℕ) → candidateBenefit d i j ≤ 899_910_000_000
+
+module _ (d : District) (ok : Narrow d) where
+  abbrev programme : Programme
+  programme = programmeOf (tableOf d)
+
+  -- a use within the limit, rounded up to whole units
+  rounded-le : (x r : ℕ) → 1 ≤ r → r ≤ resourcesOf d → x ≤ scaledLimit d r → wholeUnits x ≤ 999_999_999
+  unfolding scaledLimit
+  rounded-le x r l h u = let n = ok .limits r l h in omega arith
+
+  segment-fits : (i : ℕ) → 1 ≤ i → i ≤ segmentsOf d → Fits widths (segmentRow d (programme .strategies) i)
+  unfolding segmentRow chosenBenefit tableOf
+  segment-fits i l h =
+      let few = ok .segments in
+      let n = ok .strategies in
+      let j = strategies-are d few i l h in
+      let c = programme .strategies in
+      fits-cons (number (omega arith) (omega arith))
+      (fits-cons (mile-cell (lengthOf d i) (ok .lengths i l (omega arith)))
+      (fits-cons (number (omega arith) (omega (arith, ok .widths i l (omega arith))))
+      (fits-cons (number (omega arith) (omega arith))
+      (fits-cons (number (omega arith) (omega (arith, ok .benefits i (strategyAt c i))))
+      (resources-fit d (λ r. wholeUnits (chosenUsage (tableOf d) c r i)) (λ r lr hr. rounded-le (chosenUsage (tableOf d) c r i) r lr hr (use-within d few i r l h lr hr)))))))
+
+  total-le : programme .total ≤ 57_594_240_000_000
+  unfolding programmeOf total chosenBenefit tableOf
+  total-le =
+      let n = ok .segments in
+      let c = improved (tableOf d) .last in
+      omega (arith, sum-bound (segmentsOf d) 899_910_000_000 (chosenBenefit (tableOf d) c) (λ i l h. ok .benefits i (strategyAt c i)))
+
+  total-fits : Fits widths (totalRow d programme)
+  unfolding totalRow
+  total-fits =
+      let few = ok .segments in
+      let c = programme .strategies in
+      fits-cons empty (fits-cons empty (fits-cons empty (fits-cons empty
+      (fits-cons (number (omega arith) (omega (arith, total-le)))
+      (resources-fit d (λ r. wholeUnits (used (tableOf d) c r)) (λ r lr hr. rounded-le (used (tableOf d) c r) r lr hr (sum-within d few r lr hr)))))))
+
+  limits-fit : Fits widths (limitsRow d)
+  unfolding limitsRow
+  limits-fit =
+      fits-cons empty (fits-cons empty (fits-cons empty (fits-cons empty (fits-cons empty (resources-fit d (limitOf d) (ok .limits))))))
+
+  rows-fit : Each (Fits widths) [] (rows d programme)
+  unfolding rows
+  rows-fit =
+      let few = ok .segments in
+      let segments = listed (segmentsOf d) (segmentRow d (programme .strategies)) in
+      each-cons (Fits widths) [] heading (segments ++ (totalRow d programme ∷ limitsRow d ∷ [])) heading-fits
+      (each-append (Fits widths) [] segments (totalRow d programme ∷ limitsRow d ∷ [])
+      (each-listed (Fits widths) [] (segmentsOf d) 1 (segmentRow d (programme .strategies)) fits-none (λ i l h. segment-fits i l (omega arith)))
+      (each-cons (Fits widths) [] (totalRow d programme) (limitsRow d ∷ []) total-fits
+      (each-cons (Fits widths) [] (limitsRow d) [] limits-fit (each-none (Fits widths) [] fits-none))))
+
+  pub on-page : OnPage d programme
+  on-page =
+      record {
+        lined = rw (← rows-length d programme) (lines-of (rows d programme) (λ m n. rows-fit m .cells n .plain));
+        room = λ m n. rows-fit m .cells n .room;
+        figures = figures d (ok .segments);
+      }

@@ -14,4 +14,5 @@ pub mod Totals
 pub mod Feasible
 pub mod Promises
 pub mod Scale
+pub mod Lines
 pub mod Columns

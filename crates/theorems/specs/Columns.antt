@@ -26,13 +26,8 @@ pub record Lines (n : ℕ) (bs : List ℕ) : Type 0 where
   pub characters : (k m : ℕ) → k < n → m < 80 → Character (getD bs (k * 81 + m) 0)
   pub feeds : (k : ℕ) → k < n → getD bs (k * 81 + 80) 0 ≡ 10
 
--- of a district and the programme shown for it
-pub record OnPage (d : District) (p : Programme) : Type 0 where
-  -- a line for each segment, and three more
-  pub lined : Lines (segmentsOf d + 3) (lines (rows d p))
-  -- text n of row m is no wider than its column
-  pub room : (m n : ℕ) → length (getD (getD (rows d p) m []) n []) ≤ getD widths n 0
-  -- what stands for a segment is the benefit, and the use of each resource, of the strategy that it gets
+-- what stands for a segment is the benefit, and the use of each resource, of the strategy that it gets; a sum is that of these uses
+pub record Figures (d : District) (p : Programme) : Type 0 where
   pub benefits : (i : ℕ) → 1 ≤ i → i ≤ segmentsOf d → pos (chosenBenefit (tableOf d) (p .strategies) i) ≡ benefit d i (strategyIn p i)
   pub uses :
       (i r : ℕ) → 1 ≤ i → i ≤ segmentsOf d → 1 ≤ r → r ≤ resourcesOf d
@@ -40,6 +35,14 @@ pub record OnPage (d : District) (p : Programme) : Type 0 where
   pub sums :
       (r : ℕ) → 1 ≤ r → r ≤ resourcesOf d
       → used (tableOf d) (p .strategies) r ≡ sum (segmentsOf d) (usageBy d (strategyIn p) r)
+
+-- of a district and the programme shown for it
+pub record OnPage (d : District) (p : Programme) : Type 0 where
+  -- a line for each segment, and three more
+  pub lined : Lines (segmentsOf d + 3) (lines (rows d p))
+  -- text n of row m is no wider than its column
+  pub room : (m n : ℕ) → length (getD (getD (rows d p) m []) n []) ≤ getD widths n 0
+  pub figures : Figures d p
 
 -- of a page made next: any buffer with room gets these lines
 pub record Readable (cs : List Call) : Type 0 where
