@@ -119,6 +119,7 @@ rows =
     ∷ row "rating" Name.Rating (Numbers 3)
     ∷ row "show" Name.Show (Numbers 0)
     ∷ row "points" Name.Points (Numbers 4)
+    ∷ row "page" Name.Page (Numbers 0)
     ∷ []
 
 -- the command of a name, with its numbers
@@ -131,6 +132,7 @@ made Name.Limit v = Command.Alter (SetLimit (v 0) (v 1))
 made Name.Rating v = Command.Alter (SetRating (v 0) (v 1) (v 2))
 made Name.Show v = Command.Show
 made Name.Points v = Command.Points (v 0) (v 1) (v 2) (v 3)
+made Name.Page v = Command.Page
 
 -- the command of the first of some rows, where there is one
 unfoldable pub firstMade : List Row → (ℕ → ℕ) → Command

@@ -19,6 +19,7 @@ pub enum Command {
     Alter(Edit),
     Show,
     Points(usize, usize, usize, usize),
+    Page,
 }
 
 pub enum Name {
@@ -30,6 +31,7 @@ pub enum Name {
     Rating,
     Show,
     Points,
+    Page,
 }
 
 // What a word takes: so many numbers, or a path.
@@ -41,7 +43,7 @@ pub enum Takes {
 // A word, with blanks behind it up to 8 bytes; what it names; and what it takes.
 pub struct Row(pub [u8; 8], pub Name, pub Takes);
 
-const WORDS: usize = 8;
+const WORDS: usize = 9;
 
 const ROWS: [Row; WORDS] = [
     Row(*b"load    ", Name::Load, Takes::Path),
@@ -52,6 +54,7 @@ const ROWS: [Row; WORDS] = [
     Row(*b"rating  ", Name::Rating, Takes::Numbers(3)),
     Row(*b"show    ", Name::Show, Takes::Numbers(0)),
     Row(*b"points  ", Name::Points, Takes::Numbers(4)),
+    Row(*b"page    ", Name::Page, Takes::Numbers(0)),
 ];
 
 pub enum Kind {
@@ -283,6 +286,7 @@ fn make(name: Name, numbers: [usize; 4]) -> Command
         Name::Rating => Command::Alter(Edit::SetRating(a, b, c)),
         Name::Show => Command::Show,
         Name::Points => Command::Points(a, b, c, d),
+        Name::Page => Command::Page,
     }
 }
 

@@ -10,9 +10,14 @@ use Rattle.rules.specs.Survey.{surveyOf}
 use Rattle.rules.specs.declared.Unit.{Unit}
 use Rattle.command.specs.Reading.{pathOf, commandIn}
 use Rattle.command.specs.declared.Command.{Command}
-use Rattle.command.specs.declared.Command.the-variants.{Nothing, Unknown, Load, Export, Alter, Show, Points}
+use Rattle.command.specs.declared.Command.the-variants.{Nothing, Unknown, Load, Export, Alter, Show, Points, Page}
 use Rattle.listing.specs.Listing.{done, shown, valued, failed}
+use Rattle.pages.specs.Printed.{pageHeld, longestPage}
 use Rattle.panel.specs.declared.Said.{Said}
+
+-- an answer has at most as many bytes as the longest page
+abbrev pub longestAnswer : ℕ
+longestAnswer = longestPage
 
 -- ---- commands without a file; a load and an export have theirs below
 
@@ -24,6 +29,7 @@ said u Export = []
 said u (Alter e) = done (alterOf u e .answer)
 said u Show = shown u
 said u (Points c d e s) = valued (text "points ") (surveyOf c d e s)
+said u Page = pageHeld u
 
 unfoldable pub after : Unit → Command → Unit
 after u Nothing = u
@@ -33,6 +39,7 @@ after u Export = u
 after u (Alter e) = alterOf u e .unit
 after u Show = u
 after u (Points c d e s) = u
+after u Page = u
 
 -- the unit v, and bs over the front of a buffer that held `old` and then holds `new`
 pub record Says (v : Unit) (bs old new : List ℕ) (r : Said) : Type 0 where

@@ -5,8 +5,8 @@ mod files;
 ghost use Prim.Native.Nat.{_≤_};
 ghost use mathlib.Core.Path.{_≡_};
 ghost use lib.ListN.{length, take};
-ghost use Rattle.listing.specs.Listing.{longestListing, done, failed as Listing·failed};
-ghost use Rattle.panel.specs.Console.{said, after, Says, Loads, Exports, LineLeads, Puts};
+ghost use Rattle.listing.specs.Listing.{done, failed as Listing·failed};
+ghost use Rattle.panel.specs.Console.{longestAnswer, said, after, Says, Loads, Exports, LineLeads, Puts};
 ghost use Rattle.panel.specs.Lines.{keptBytes, ByCalls, Answered, Keeps, Fed};
 use command::Command;
 use libc::STDIN_FILENO;
@@ -28,7 +28,7 @@ pub struct Said {
 // ---- commands without a file
 
 fn conclude(reply: Reply, out: &mut [u8]) -> Said
-    requires { ⌜ longestListing ≤ length (now out) ⌝ }
+    requires { ⌜ longestAnswer ≤ length (now out) ⌝ }
     ensures { λ r. ⌜ Says (reply .unit) (done (reply .answer)) (now (out .entry)) (now (out .exit)) r ⌝ }
 {
     let answer = reply.answer;
@@ -44,7 +44,7 @@ fn silent(u: Unit) -> Said
 }
 
 fn obey(u: Unit, command: Command, out: &mut [u8]) -> Said
-    requires { ⌜ longestListing ≤ length (now out) ⌝ }
+    requires { ⌜ longestAnswer ≤ length (now out) ⌝ }
     ensures { λ r. ⌜ Says (after u command) (said u command) (now (out .entry)) (now (out .exit)) r ⌝ }
 {
     match command {
@@ -52,6 +52,10 @@ fn obey(u: Unit, command: Command, out: &mut [u8]) -> Said
         Command::Show => Said {
             unit: u,
             length: listing::put_shown(out, u),
+        },
+        Command::Page => Said {
+            unit: u,
+            length: pages::put_page(out, u),
         },
         Command::Points(c, d, e, s) => Said {
             unit: u,
@@ -70,7 +74,7 @@ fn obey(u: Unit, command: Command, out: &mut [u8]) -> Said
 // ---- commands with a file
 
 fn failed(u: Unit, what: &[u8], path: &[u8], out: &mut [u8]) -> Said
-    requires { ⌜ (length (now what) ≤ 13) × (length (now path) ≤ keptBytes) × (longestListing ≤ length (now out)) ⌝ }
+    requires { ⌜ (length (now what) ≤ 13) × (length (now path) ≤ keptBytes) × (longestAnswer ≤ length (now out)) ⌝ }
     ensures { λ r. ⌜ Says u (Listing·failed (now (what .entry)) (now (path .entry))) (now (out .entry)) (now (out .exit)) r ⌝ }
 {
     Said {
@@ -80,7 +84,7 @@ fn failed(u: Unit, what: &[u8], path: &[u8], out: &mut [u8]) -> Said
 }
 
 fn load(u: Unit, path: &[u8], out: &mut [u8]) -> Said
-    requires { ⌜ (length (now path) ≤ keptBytes) × (longestListing ≤ length (now out)) ⌝ }
+    requires { ⌜ (length (now path) ≤ keptBytes) × (longestAnswer ≤ length (now out)) ⌝ }
     ensures { λ r. ⌜ Puts (Loads u (now (path .entry))) (now (out .entry)) (now (out .exit)) r ⌝ }
 {
     let fd = os::open_read(path);
@@ -98,7 +102,7 @@ fn load(u: Unit, path: &[u8], out: &mut [u8]) -> Said
 }
 
 fn export(u: Unit, path: &[u8], out: &mut [u8]) -> Said
-    requires { ⌜ (length (now path) ≤ keptBytes) × (longestListing ≤ length (now out)) ⌝ }
+    requires { ⌜ (length (now path) ≤ keptBytes) × (longestAnswer ≤ length (now out)) ⌝ }
     ensures { λ r. ⌜ Puts (Exports u (now (path .entry))) (now (out .entry)) (now (out .exit)) r ⌝ }
 {
     let mut file = [0u8; LONGEST_FILE];
@@ -117,7 +121,7 @@ fn export(u: Unit, path: &[u8], out: &mut [u8]) -> Said
 // ---- lines
 
 fn respond(u: Unit, line: &[u8], out: &mut [u8]) -> Said
-    requires { ⌜ (length (now line) ≤ keptBytes) × (longestListing ≤ length (now out)) ⌝ }
+    requires { ⌜ (length (now line) ≤ keptBytes) × (longestAnswer ≤ length (now out)) ⌝ }
     ensures { λ r. ⌜ Puts (LineLeads u (now (line .entry))) (now (out .entry)) (now (out .exit)) r ⌝ }
 {
     let command = command::parse(line);
@@ -133,7 +137,7 @@ fn answer(u: Unit, line: &[u8]) -> Unit
     requires { ⌜ (length (now line) ≤ keptBytes) × ByCalls u ⌝ }
     ensures { λ r. ⌜ Answered u (now (line .entry)) r ⌝ }
 {
-    let mut out = [0u8; listing::LONGEST_LISTING];
+    let mut out = [0u8; pages::LONGEST_PAGE];
     let said = respond(u, line, &mut out);
     let n = said.length;
     io::write_all(STDOUT_FILENO, &out[..n]);

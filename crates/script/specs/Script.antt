@@ -1,6 +1,6 @@
 -- The list of calls that a row of bytes stands for, and what the last of them answers. A call is 13 bytes: its kind, which is a row of the
 -- console's table of words (command/specs/Reading), and three numbers of four bytes each, low byte first.
--- A load is followed by its file, whose length is its first number. An export's first number is its room.
+-- A load is followed by its file, whose length is its first number. The first number of an export and of a page is its room.
 use Prim.Native.Nat.{ℕ, zero, suc, _+_, min}
 use mathlib.Core.List.{List, [], _∷_}
 use lib.Dec.{leb, eqb}
@@ -9,7 +9,8 @@ use Rattle.base.specs.Bytes.{numberOf}
 use Rattle.base.specs.Choice.{pick}
 use Rattle.rules.specs.Calls.{freshUnit}
 use Rattle.rules.specs.File.{longestFile}
-use Rattle.rules.specs.Lists.{Call, Load, Alter, ExportTo, Show, Outcome, outcomeOf}
+use Rattle.rules.specs.Lists.{Call, Load, Alter, ExportTo, PageTo, Show, Outcome, outcomeOf}
+use Rattle.pages.specs.Printed.{longestPage}
 use Rattle.rules.specs.declared.Reply.{Reply}
 use Rattle.rules.specs.declared.Answer.{Answer}
 use Rattle.rules.specs.declared.Answer.the-variants.{Accepted}
@@ -33,14 +34,15 @@ commandIn bs = numbered (kindIn bs) (at (numberAt 1 bs ∷ numberAt 5 bs ∷ num
 unfoldable pub bodyIn : List ℕ → ℕ
 bodyIn bs = pick (eqb (kindIn bs) 0) (numberAt 1 bs) 0
 
--- the call of a command, with its first number and its file; an export goes into so many zeros, at most as many as the longest file has;
--- what is no call of the unit is a show
+-- the call of a command, with its first number and its file; an export and a page go into so many zeros, at most as many as the
+-- longest file and the longest page have; what is no call of the unit is a show
 unfoldable pub callOf : Command → ℕ → List ℕ → Call
 callOf Command.Load n file = Load file
 callOf Command.Export n file = ExportTo (replicate (min n longestFile) 0)
 callOf (Command.Alter e) n file = Alter e
 callOf Command.Show n file = Show
 callOf (Command.Points code degree extent seal) n file = Show
+callOf Command.Page n file = PageTo (replicate (min n longestPage) 0)
 callOf Command.Nothing n file = Show
 callOf Command.Unknown n file = Show
 

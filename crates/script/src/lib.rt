@@ -2,12 +2,14 @@
 ghost use mathlib.Core.Path.{_≡_};
 ghost use Prim.Native.Nat.{_+_, _≤_, min};
 ghost use lib.ListN.{length, replicate};
-ghost use Rattle.rules.specs.Calls.{showOf, exportOf};
+ghost use Rattle.pages.specs.Printed.{longestPage};
+ghost use Rattle.rules.specs.Calls.{showOf, exportOf, pageOf};
 ghost use Rattle.rules.specs.Demands.{Sound};
 ghost use Rattle.rules.specs.File.{longestFile};
 ghost use Rattle.rules.specs.Lists.{outcomeOf, districtAfter, unitAfter};
 ghost use Rattle.script.specs.Script.{commandIn, bodyIn, callOf, callsOf, replyOf, lastAnswer};
 use command::Command;
+use pages::LONGEST_PAGE;
 use rules::Answer;
 use rules::Reply;
 use rules::Unit;
@@ -35,19 +37,28 @@ fn body_of(call: &[u8]) -> usize
     file::bytes::number(call, 1, 4)
 }
 
-fn room_of(n: usize) -> usize
-    ensures { λ r. ⌜ r ≡ min n longestFile ⌝ }
+fn smaller(n: usize, most: usize) -> usize
+    ensures { λ r. ⌜ r ≡ min n most ⌝ }
 {
-    if n < LONGEST_FILE { n } else { LONGEST_FILE }
+    if n < most { n } else { most }
 }
 
-// What an export answers into as many zeros.
+// What an export answers into n zeros.
 fn exported(u: Unit, n: usize) -> Answer
     ensures { λ r. ⌜ r ≡ exportOf u (replicate (min n longestFile) 0) .answer ⌝ }
 {
     let mut buffer = [0u8; LONGEST_FILE];
-    let room = room_of(n);
+    let room = smaller(n, LONGEST_FILE);
     unit::export(u, &mut buffer[..room])
+}
+
+// What a page answers into n zeros.
+fn paged(u: Unit, n: usize) -> Answer
+    ensures { λ r. ⌜ r ≡ pageOf u (replicate (min n longestPage) 0) .answer ⌝ }
+{
+    let mut buffer = [0u8; LONGEST_PAGE];
+    let room = smaller(n, LONGEST_PAGE);
+    unit::page(u, &mut buffer[..room])
 }
 
 // One call: its answer, and the unit after it.
@@ -61,6 +72,10 @@ fn make(u: Unit, command: Command, n: usize, bytes: &[u8]) -> Reply
             unit: u,
         },
         Command::Alter(e) => unit::alter(u, e),
+        Command::Page => Reply {
+            answer: paged(u, n),
+            unit: u,
+        },
         _ => Reply {
             answer: Answer::Accepted(0),
             unit: u,

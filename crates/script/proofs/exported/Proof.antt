@@ -1,25 +1,22 @@
 -- `script::exported` meets its contract.
-use Prim.Native.Nat.{ℕ}
 use mathlib.Core.List.{List}
 use mathlib.Core.Path.{ap, _∙_}
-use native.Mathlib.Omega.{arith}
-use lib.ListN.{replicate}
+use Prim.Native.Nat.{ℕ}
 use borrow.Author.Needs.{needs}
-use Rattle.rules.specs.Calls.{Export, exportOf}
 use Rattle.rules.specs.File.{longestFile}
-use Rattle.script.proofs.Calls.{same-front, same-length}
+use Rattle.rules.specs.Calls.{Export, exportOf}
+use Rattle.script.proofs.Calls.{same-room}
 use Rattle.script.proofs.exported.Statement.{statement}
 use Rattle.script.proofs.exported.Tie as tie
 
 slice-aggregate-export : tie.Need-slice-aggregate-export
-slice-aggregate-export c = same-length 0 (c .before .room-of .result) longestFile (omega arith)
+slice-aggregate-export c = same-room 0 _ (c .before .before .args .n) longestFile (c .before .smaller .ensures) .0
 
 returns : tie.Need-returns
 returns c =
-    let room = c .before .before .before .room-of in
-    let u = c .before .before .before .before .args .u in
+    let start = c .before .before .before .before in
     ap (λ (e : Export). e .answer) (c .before .export .ensures)
-    ∙ ap (λ (bs : List ℕ). exportOf u bs .answer) (same-front 0 (room .result) longestFile (omega arith) ∙ ap (λ (n : ℕ). replicate n 0) (room .ensures))
+    ∙ ap (λ (bs : List ℕ). exportOf (start .args .u) bs .answer) (same-room 0 _ (start .args .n) longestFile (c .before .before .before .smaller .ensures) .1)
 
 pub exported-spec : {M : Type 1} → statement M
 exported-spec =

@@ -21,16 +21,20 @@ returns-3 : tie.Need-returns-3
 unfolding callOf outcomeOf
 returns-3 c = rw (c .before .before .command .given .1, c .alter .ensures)
 
+returns-4 : tie.Need-returns-4
+unfolding callOf outcomeOf
+returns-4 c = rw (c .before .enum-told3 .given .1, c .paged .ensures)
+
 -- the places of the other commands among all
 abbrev others : List ℕ
 others = 0 ∷ 1 ∷ 5 ∷ 6 ∷ []
 
-returns-4 : tie.Need-returns-4
+returns-5 : tie.Need-returns-5
 unfolding outcomeOf
-returns-4 c =
-    let k = c .match .keys4 in
+returns-5 c =
+    let k = c .match .keys5 in
     let a = c .before .before .args in
-    rw (shown-else (a .command) (a .n) (a .bytes .now) (λ l. miss others 2 tt (rw l at k)) (λ x. miss others 3 tt (rw x at k)) (λ e l. miss others 4 tt (rw l at k)))
+    rw (shown-else (a .command) (a .n) (a .bytes .now) (λ l. miss others 2 tt (rw l at k)) (λ x. miss others 3 tt (rw x at k)) (λ e l. miss others 4 tt (rw l at k)) (λ p. miss others 7 tt (rw p at k)))
 
 pub make-spec : {M : Type 1} → statement M
 make-spec =
@@ -42,7 +46,10 @@ make-spec =
     (λ c κs. search needs)
     (λ c. search needs)
     (λ c κs. search needs)
+    (λ c. search needs)
+    (λ c κs. search needs)
     returns
     returns-2
     returns-3
-    returns-4)
+    returns-4
+    returns-5)
