@@ -15,6 +15,7 @@
 //!   goes wrong on the way answers `cannot write`, and the new file is removed.
 
 use crate::listing::listing;
+use crate::page;
 use crate::refusal::Refusal;
 use crate::survey;
 use crate::unit::Unit;
@@ -100,6 +101,13 @@ fn obey(unit: &mut Unit, line: &[u8], base: &Path) -> Option<Vec<u8>> {
         (b"show", []) => {
             let listing = listing(unit.show(), unit.district().segments.len());
             return Some(listing.into_bytes());
+        }
+        (b"page", []) => {
+            let mut buffer = [0; page::LONGEST];
+            return Some(match unit.page(&mut buffer) {
+                Ok(length) => buffer[..length].to_vec(),
+                Err(refusal) => refused(refusal),
+            });
         }
         (b"points", &[code, degree, extent, seal]) => {
             return Some(match survey::points(code, degree, extent, seal) {

@@ -14,6 +14,7 @@ pub mod listing;
 pub mod lists;
 pub mod make;
 pub mod options;
+pub mod page;
 pub mod phases;
 pub mod random;
 pub mod rating;

@@ -419,6 +419,60 @@ pub fn cut(whole: &District, shape: Shape) -> District {
     district
 }
 
+/// A district with a page worth having looked at: any number of segments and of
+/// resources, lengths and widths at the ends of their ranges, segments left
+/// with nothing, uses that are no whole units, and figures that fill a column.
+pub fn page_district(random: &mut Random) -> District {
+    let segments = match random.below(8) {
+        0 => *random.pick(&[0, 1, 9, 10, 11, 63, 64]),
+        1 => random.size(0, 64),
+        _ => random.size(1, 12),
+    };
+    let most = if segments < 16 { [0, 5, 4, 4, 3, 1] } else { [0, 3, 2, 2, 2, 1] };
+    let resources = if random.chance(60) { random.size(1, 6) } else { random.size(1, MOST_RESOURCES) };
+    let shape = Shape { segments, resources, ..shape_up_to(random, most) };
+    let mut made = match random.chance(8) {
+        true => {
+            let segments = random.size(12, MOST_SEGMENTS);
+            let (strategies, pavement_types) = (shape.strategies.min(3), 1);
+            busy_district(random, Shape { segments, strategies, resources, pavement_types, ..WIDEST })
+        }
+        false => district(random, shape),
+    };
+    let scale = *random.pick(&[3, 500, 20_000, u64::from(REQUIREMENT_MOST)]);
+    for requirement in made.strategies.iter_mut().flat_map(|strategy| &mut strategy.requirements) {
+        if random.chance(70) {
+            *requirement = random.within(0, scale) as u32;
+        }
+    }
+    let manner = random.below(4);
+    for segment in &mut made.segments {
+        match manner {
+            0 => (segment.length, segment.width) = (random.within(1, 12) as u16, random.within(1, 12) as u8),
+            1 => (segment.length, segment.width) = (LENGTH_MOST - random.below(2) as u16, WIDTH_MOST),
+            2 => {
+                segment.length = *random.pick(&[1, 9, 10, 99, 100, 101, 110, 999, 1_000, LENGTH_MOST]);
+                segment.width = *random.pick(&[1, 9, 10, 99, 100, WIDTH_MOST]);
+            }
+            _ => {}
+        }
+        if random.chance(10) {
+            segment.bars = (1 << made.strategies.len()) - 1;
+        }
+    }
+    set_limits(random, &mut made);
+    made
+}
+
+/// A file for the program `page`: most often of a district as above.
+pub fn any_page_file(random: &mut Random) -> Vec<u8> {
+    match random.below(10) {
+        0..=6 => file::encode(&page_district(random)),
+        7 => damaged_file(random),
+        _ => any_file(random),
+    }
+}
+
 /// Any bytes a load might bring: a sound file, a damaged one, or noise.
 pub fn any_file(random: &mut Random) -> Vec<u8> {
     match random.below(100) {
@@ -656,7 +710,8 @@ fn script_line(random: &mut Random, files: &[(String, Vec<u8>)], largest: [usize
             format!("limit {} {value}", numeral(random, r))
         }
         54..=63 => format!("rating {} {} {}", numeral(random, n), numeral(random, d), numeral(random, 50)),
-        64..=75 => "show".to_string(),
+        64..=71 => "show".to_string(),
+        72..=75 => "page".to_string(),
         76..=87 => {
             let code = numeral(random, 8);
             let degree = random.below(4);
@@ -714,6 +769,10 @@ fn odd_line(random: &mut Random) -> Vec<u8> {
                 b" show",
                 b"Show",
                 b"show 1",
+                b"page 1",
+                b"page ",
+                b"Page",
+                b"pages",
                 b"bar",
                 b"bar 1",
                 b"bar 1 1 1",

@@ -22,6 +22,8 @@ pub enum Refusal {
     Buffer = 9,
     /// Survey points: code, degree, extent or seal is not in the table.
     Survey = 10,
+    /// The page buffer is shorter than the page.
+    Page = 11,
 }
 
 impl Refusal {

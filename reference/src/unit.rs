@@ -3,6 +3,7 @@
 use crate::ceiling;
 use crate::district::*;
 use crate::file;
+use crate::page;
 use crate::phases;
 use crate::refusal::Refusal;
 use crate::tables::Tables;
@@ -108,6 +109,17 @@ impl Unit {
         }
         buffer[..bytes.len()].copy_from_slice(&bytes);
         Ok(bytes.len())
+    }
+
+    /// Writes the page of what is held at the front of the buffer and gives
+    /// its length; what lies behind stays as it was.
+    pub fn page(&self, buffer: &mut [u8]) -> Result<usize, Refusal> {
+        let page = page::page(&self.district, &self.plan);
+        if buffer.len() < page.len() {
+            return Err(Refusal::Page);
+        }
+        buffer[..page.len()].copy_from_slice(page.as_bytes());
+        Ok(page.len())
     }
 
     pub fn show(&self) -> &Plan {

@@ -508,6 +508,33 @@ fn readings(cases: &mut Cases) {
 
 // ---- districts
 
+/// Districts whose pages are stored with the console, by the names of their files.
+pub fn walls() -> Vec<(&'static str, District)> {
+    vec![
+        // Uses of a half, of less, and of just one unit, which come to less together than rounded one by one.
+        ("rounds", small(&[1, 1, 1, 2], &[(&[500, 400, 100, 1_000], 1, 100)], &[(10, 10, 0), (10, 10, 0)])),
+        // One resource more than there are columns.
+        ("five", small(&[100, 200, 300, 400, 500], &[(&[1_000, 2_000, 3_000, 4_000, 5_000], 10, 100)], &[(250, 8, 0)])),
+        // The second segment is barred, and the third too large for the limits.
+        ("nothing", small(&[50, 60], &[(&[1_000, 2_000], 7, 100)], &[(100, 20, 0), (100, 20, 1), (400, 20, 0)])),
+        // Lengths from a hundredth of a mile to the longest, widths from one foot to the widest.
+        (
+            "miles",
+            small(
+                &[LIMIT_MOST, 212, 148],
+                &[(&[1, 10, 7], 3, 100)],
+                &[(1, 1, 0), (99, 9, 0), (105, 99, 0), (1_000, 100, 0), (LENGTH_MOST, WIDTH_MOST, 0)],
+            ),
+        ),
+        // No segment.
+        ("none", small(&[7, LIMIT_MOST], &[(&[1, 1], 1, 100)], &[])),
+        // Phase 3 raises the total.
+        ("raised", small(&[3_415], &[(&[0], 1, 100), (&[49_898], 5, 100)], &[(386, 10, 0), (299, 10, 0)])),
+        // The longest page, with a total and sums that fill their columns.
+        ("longest", dearest()),
+    ]
+}
+
 /// Benefits as great as they can be, and shares as small as bind: its price is
 /// between 2 to the power 32 and 33, and no district's is higher.
 fn dearest() -> District {

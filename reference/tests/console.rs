@@ -2,7 +2,7 @@
 
 mod common;
 
-use common::{card_bytes, CARD_LISTING};
+use common::{card_bytes, CARD_LISTING, CARD_PAGE};
 use reference::console;
 use std::fs;
 use std::path::PathBuf;
@@ -35,6 +35,14 @@ fn the_card_at_work() {
          points 7\nok 87\nok\n1 2\n2 0\nbenefit 4800000\nceiling 4800000\nsteps 0 0 0\n"
     );
     assert_eq!(answers("card", input), expected);
+}
+
+#[test]
+fn a_page_shows_what_is_held_and_changes_nothing() {
+    let barred = CARD_PAGE.replace("130", " 60").replace("100", " 60").replace("7200000", "4800000");
+    let barred = barred.replace(" 1        2400000        40", " 0              0         0");
+    let expected = format!("ok\n{CARD_PAGE}{CARD_LISTING}{CARD_PAGE}ok\nok\n{barred}");
+    assert_eq!(answers("page", b"load card.bin\npage\nshow\npage\nlimit 1 60\nbar 2 1\npage\n"), expected);
 }
 
 #[test]
@@ -113,6 +121,11 @@ fn lines_that_are_no_commands() {
         "quit",
         " # x",
         "show\r",
+        "page ",
+        " page",
+        "page 1",
+        "pages",
+        "Page",
         "load a\0b",
     ] {
         assert_eq!(answers("unknown", format!("{line}\n").as_bytes()), "unknown command\n", "{line:?}");

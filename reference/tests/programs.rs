@@ -2,7 +2,7 @@
 
 mod common;
 
-use common::{card_bytes, CARD_LISTING};
+use common::{card_bytes, CARD_LISTING, CARD_PAGE};
 use reference::calls::{encode, Call};
 use reference::frames;
 use std::io::Write;
@@ -21,6 +21,15 @@ fn plan_prints_the_card() {
     assert_eq!(output_of(plan, &[], b""), b"refused 1\n");
     let more = [card_bytes(), vec![0; 10_000]].concat();
     assert_eq!(output_of(plan, &[], &more[..88]), b"refused 5\n");
+}
+
+#[test]
+fn page_prints_the_card() {
+    let page = env!("CARGO_BIN_EXE_page");
+    assert_eq!(output_of(page, &[], &card_bytes()), CARD_PAGE.as_bytes());
+    assert_eq!(output_of(page, &[], b""), b"refused 1\n");
+    let more = [card_bytes(), vec![0; 10_000]].concat();
+    assert_eq!(output_of(page, &[], &more[..88]), b"refused 5\n");
 }
 
 #[test]
@@ -97,27 +106,29 @@ fn compare_agrees_and_disagrees() {
     let compare = env!("CARGO_BIN_EXE_compare");
     let work = std::env::temp_dir().join(format!("reference-{}-compare", std::process::id()));
     let work = work.to_str().unwrap();
-    let kinds = ["--plan", "--panel", "--codec", "--vectors"];
-    let [plan, panel, codec, vectors] = [
+    let kinds = ["--plan", "--page", "--panel", "--codec", "--vectors"];
+    let [plan, page, panel, codec, vectors] = [
         env!("CARGO_BIN_EXE_plan"),
+        env!("CARGO_BIN_EXE_page"),
         env!("CARGO_BIN_EXE_panel"),
         env!("CARGO_BIN_EXE_codec"),
         env!("CARGO_BIN_EXE_vectors"),
     ];
-    let run = |programs: [&str; 4]| {
+    let run = |programs: [&str; 5]| {
         let arguments: Vec<&str> =
             kinds.into_iter().zip(programs).flat_map(|(kind, program)| [kind, program]).collect();
         let output = Command::new(compare).args(arguments).args(["--count", "60", "--work", work]).output().unwrap();
         (output.status.success(), String::from_utf8(output.stdout).unwrap())
     };
-    let (fine, text) = run([plan, panel, codec, vectors]);
+    let (fine, text) = run([plan, page, panel, codec, vectors]);
     assert!(fine && text.ends_with("compared 60 cases, 0 differences\n"), "{text}");
     // One of them exchanged for another.
     for programs in [
-        [panel, panel, codec, vectors],
-        [plan, plan, codec, vectors],
-        [plan, panel, plan, vectors],
-        [plan, panel, codec, plan],
+        [panel, page, panel, codec, vectors],
+        [plan, plan, panel, codec, vectors],
+        [plan, page, plan, codec, vectors],
+        [plan, page, panel, plan, vectors],
+        [plan, page, panel, codec, plan],
     ] {
         let (fine, text) = run(programs);
         assert!(!fine && text.contains("difference: "), "{text}");

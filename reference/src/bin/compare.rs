@@ -1,5 +1,5 @@
 //! Compares other programs with this library, case by case:
-//! `compare [--plan PATH] [--panel PATH] [--codec PATH] [--vectors PATH] --count N --seed S`.
+//! `compare [--plan PATH] [--page PATH] [--panel PATH] [--codec PATH] [--vectors PATH] --count N --seed S`.
 //!
 //! The cases are dealt out among the programs given. A case is made from the
 //! seed and its number alone. Where answers differ, the case's files and both
@@ -13,7 +13,7 @@ use reference::options::Given;
 use reference::random::Random;
 use reference::tables::Tables;
 use reference::unit::{plan, Plan, Unit};
-use reference::{calls, example, file, frames, lists};
+use reference::{calls, example, file, frames, lists, page, rating};
 use std::collections::BTreeMap;
 use std::fs;
 use std::io::{Read, Write};
@@ -23,7 +23,7 @@ use std::sync::mpsc;
 use std::thread;
 use std::time::Duration;
 
-const USAGE: &str = "usage: compare [--plan PATH] [--panel PATH] [--codec PATH] [--vectors PATH]
+const USAGE: &str = "usage: compare [--plan PATH] [--page PATH] [--panel PATH] [--codec PATH] [--vectors PATH]
                [--count N] [--seed S] [--work DIR] [--case K]
 ";
 const PATIENCE: Duration = Duration::from_secs(120);
@@ -43,6 +43,7 @@ fn main() -> ExitCode {
 #[derive(Clone, Copy, PartialEq, Eq, PartialOrd, Ord)]
 enum Kind {
     Plan,
+    Page,
     Codec,
     Vectors,
     Panel,
@@ -52,16 +53,18 @@ impl Kind {
     fn name(self) -> &'static str {
         match self {
             Kind::Plan => "plan",
+            Kind::Page => "page",
             Kind::Codec => "codec",
             Kind::Vectors => "vectors",
             Kind::Panel => "panel",
         }
     }
 
-    /// How many of twelve cases it gets when all four are there.
+    /// How many of fifteen cases it gets when all five are there.
     fn weight(self) -> usize {
         match self {
             Kind::Plan => 5,
+            Kind::Page => 3,
             Kind::Codec => 3,
             Kind::Vectors => 2,
             Kind::Panel => 2,
@@ -97,7 +100,8 @@ struct Run {
 
 /// The number of differences.
 fn run(arguments: &[String]) -> Result<u64, String> {
-    let given = Given::read(arguments, &["plan", "panel", "codec", "vectors", "count", "seed", "work", "case"])?;
+    let given =
+        Given::read(arguments, &["plan", "page", "panel", "codec", "vectors", "count", "seed", "work", "case"])?;
     let (seed, count) = (given.number("seed", 1)?, given.number("count", 300)?);
     let cases = match given.text("case") {
         None => 0..count,
@@ -125,6 +129,7 @@ fn run(arguments: &[String]) -> Result<u64, String> {
         let kind = turns[(case % turns.len() as u64) as usize];
         match kind {
             Kind::Plan => run.plan_case(&programs[&kind], case)?,
+            Kind::Page => run.page_case(&programs[&kind], case)?,
             Kind::Panel => run.panel_case(&programs[&kind], case)?,
             Kind::Codec => files.push((case, make::any_frame(&mut Random::for_case(seed, case)))),
             Kind::Vectors => lists.push((case, lists::any_list(&mut Random::for_case(seed, case)))),
@@ -142,7 +147,7 @@ fn run(arguments: &[String]) -> Result<u64, String> {
 
 fn programs(given: &Given) -> Result<BTreeMap<Kind, PathBuf>, String> {
     let mut programs = BTreeMap::new();
-    for kind in [Kind::Plan, Kind::Codec, Kind::Vectors, Kind::Panel] {
+    for kind in [Kind::Plan, Kind::Page, Kind::Codec, Kind::Vectors, Kind::Panel] {
         if let Some(path) = given.text(kind.name()) {
             // Programs are run from other folders too, so the path must be whole.
             let path = fs::canonicalize(path).map_err(|error| format!("{path}: {error}"))?;
@@ -217,12 +222,33 @@ impl Run {
                 format!("refused {}\n", refusal.number())
             }
         };
-        let got = call(program, Path::new("."), &bytes)?;
+        self.file_case(Kind::Plan, program, case, &bytes, &expected)
+    }
+
+    fn page_case(&mut self, program: &Path, case: u64) -> Result<(), String> {
+        let bytes = make::any_page_file(&mut Random::for_case(self.seed, case));
+        let expected = match file::decode(&bytes[..bytes.len().min(4_096)]) {
+            Ok(district) => {
+                let plan = plan(&district);
+                page_features(self.tally(Kind::Page), &district, &plan);
+                page::page(&district, &plan)
+            }
+            Err(refusal) => {
+                self.tally(Kind::Page).see(format!("refused {}", refusal.number()));
+                format!("refused {}\n", refusal.number())
+            }
+        };
+        self.file_case(Kind::Page, program, case, &bytes, &expected)
+    }
+
+    /// The program gets a file and must print what is expected.
+    fn file_case(&mut self, kind: Kind, program: &Path, case: u64, bytes: &[u8], expected: &str) -> Result<(), String> {
+        let got = call(program, Path::new("."), bytes)?;
         if got == expected.as_bytes() {
-            self.agreed(Kind::Plan);
+            self.agreed(kind);
             return Ok(());
         }
-        self.differed(Kind::Plan, case, &[("bin", &bytes), ("expected", expected.as_bytes()), ("got", &got)])
+        self.differed(kind, case, &[("bin", bytes), ("expected", expected.as_bytes()), ("got", &got)])
     }
 
     /// All frames go through one run of the program; `expected` notes what a
@@ -293,6 +319,8 @@ impl Run {
             if line == b"show" {
                 tally.see("show");
                 features(tally, unit.district(), unit.show());
+            } else if line == b"page" {
+                tally.see("page");
             } else {
                 // The first word says enough, but for refusals and failures.
                 let text = String::from_utf8_lossy(&answer);
@@ -365,6 +393,34 @@ fn features(tally: &mut Tally, district: &District, plan: &Plan) {
     let ties_within = tables.segments.iter().any(|s| twice(s.benefit[1..].to_vec()));
     let bests = tables.segments.iter().filter_map(|s| s.benefit[1..].iter().max().copied());
     tally.see_if("ties", ties_within || twice(bests.collect()));
+}
+
+/// Notes what a page has that is worth having tested.
+fn page_features(tally: &mut Tally, district: &District, plan: &Plan) {
+    let (n, r) = (district.segments.len(), district.limits.len());
+    tally.see("paged");
+    tally.see_if("N=0", n == 0);
+    tally.see_if("N=64", n == 64);
+    tally.see(match r {
+        1..=3 => "R<4",
+        4 => "R=4",
+        _ => "R>4",
+    });
+    tally.see_if("nothing", plan.strategies[..n].contains(&0));
+    tally.see_if("0.01 miles", district.segments.iter().any(|segment| segment.length == 1));
+    tally.see_if("99.99 miles", district.segments.iter().any(|segment| segment.length == 9_999));
+    tally.see_if("200 feet", district.segments.iter().any(|segment| segment.width == 200));
+    tally.see_if("total after phase 2 less", plan.total_after_phase_two < plan.total);
+    let exact = |i: usize, r: usize| match plan.strategies[i] {
+        0 => 0,
+        j => rating::usage(&district.segments[i], &district.strategies[usize::from(j) - 1], r),
+    };
+    let sums = || (0..r.min(4)).map(|r| (0..n).map(|i| exact(i, r)).sum::<u64>().div_ceil(100_000));
+    let one_by_one = (0..r.min(4)).map(|r| (0..n).map(|i| exact(i, r).div_ceil(100_000)).sum());
+    tally.see_if("rounded once", sums().ne(one_by_one));
+    tally.see_if("sums of 9 digits", sums().any(|sum| sum > 99_999_999));
+    tally.see_if("limits of 9 digits", district.limits.iter().take(4).any(|&limit| limit > 99_999_999));
+    tally.see_if("totals of 14 digits", plan.total > 9_999_999_999_999);
 }
 
 /// Names and contents of a folder's files. New files left over from an

@@ -17,6 +17,7 @@ const USAGE: &str = "usage:
   generate series  --seed S --out DIR             districts that grow in N, in S and in R
   generate example                                the report's example problem, to standard output
   generate vectors                                the stored lists of calls as frames, to standard output
+  generate walls   --out DIR                      the districts whose pages are stored, for the console
 ";
 
 fn main() -> ExitCode {
@@ -40,6 +41,7 @@ fn run(arguments: &[String]) -> Result<(), String> {
         "scripts" => scripts(count, seed, Path::new(given.needed("out")?)),
         "series" => series(seed, Path::new(given.needed("out")?)),
         "example" => io::stdout().write_all(&file::encode(&example::district())),
+        "walls" => walls(Path::new(given.needed("out")?)),
         "vectors" => io::stdout().write_all(&vectors::frames()),
         _ => return Err(format!("unknown argument {what}")),
     }
@@ -71,6 +73,14 @@ fn scripts(count: u64, seed: u64, out: &Path) -> io::Result<()> {
         let folder = out.join(format!("{case:06}"));
         script.write(&folder)?;
         fs::write(folder.join("script.txt"), &script.text)?;
+    }
+    Ok(())
+}
+
+fn walls(out: &Path) -> io::Result<()> {
+    fs::create_dir_all(out)?;
+    for (name, district) in vectors::walls() {
+        fs::write(out.join(name), file::encode(&district))?;
     }
     Ok(())
 }

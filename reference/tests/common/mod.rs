@@ -16,6 +16,14 @@ pub const CARD: &str = "06 00 01 00 02 02 02 01 01 01
 
 pub const CARD_LISTING: &str = "1 2\n2 1\nbenefit 7200000\nceiling 7500170\nsteps 1 0 0\n";
 
+pub const CARD_PAGE: &str = concat!(
+    "NO MILES  FT ST        BENEFIT        R1        R2        R3        R4          \n",
+    " 1  1.00  20  2        4800000        60                                        \n",
+    " 2  2.00  20  1        2400000        40                                        \n",
+    "                       7200000       100                                        \n",
+    "                                     130                                        \n",
+);
+
 pub fn card_bytes() -> Vec<u8> {
     CARD.split_whitespace().map(|byte| u8::from_str_radix(byte, 16).unwrap()).collect()
 }
