@@ -4,8 +4,9 @@
 //!
 //! It is what a wrong reading of the rules is held against: see `wrong/`.
 
+use reference::refusal::Refusal;
 use reference::unit::Unit;
-use reference::{calls, console, file, frames, listing, options::Given, rating};
+use reference::{calls, console, file, frames, listing, options::Given, page, rating};
 use std::panic::{catch_unwind, AssertUnwindSafe};
 use std::path::Path;
 use std::process::ExitCode;
@@ -49,6 +50,12 @@ fn first_different(arguments: &[String]) -> Result<Option<String>, String> {
     let worked = [answer(|| listing::answer(&file))];
     if let Some(at) = differs(worked, &[text(&read("plan/stdout")?)]) {
         return Ok(Some(format!("plan {at}")));
+    }
+
+    let file = read("page/stdin")?;
+    let worked = [answer(|| page::answer(&file))];
+    if let Some(at) = differs(worked, &[text(&read("page/stdout")?)]) {
+        return Ok(Some(format!("page {at}")));
     }
 
     let lists = split(&read("vectors/stdin")?);
@@ -160,7 +167,8 @@ fn computed(line: &str) -> Option<(Option<String>, String)> {
             ["fresh"] => hex(&file::encode(district)),
             ["places", _] => numbers(unit.show().strategies),
             ["after", _] => unit.show().total_after_phase_two.to_string(),
-            ["export", length, _] => export(&unit, length.parse().unwrap_or(0)),
+            ["export", length, _] => lent(length, |buffer| unit.export(buffer)),
+            ["page", length, _] => lent(length, |buffer| unit.page(buffer)),
             ["ratings", _] => numbers((0..=district.years).map(|t| rating::rating(district, one().0, one().1, 0, t))),
             ["survivals", _] => numbers(one().1.survival.iter().map(|&percent| rating::survival(one().0, percent))),
             ["effect", _] => rating::effect(district, one().0, one().1).to_string(),
@@ -174,10 +182,10 @@ fn numbers<T: ToString>(all: impl IntoIterator<Item = T>) -> String {
     all.into_iter().map(|one| one.to_string()).collect::<Vec<_>>().join(" ")
 }
 
-/// An export into a buffer of ones: its answer, and the bytes that have changed.
-fn export(unit: &Unit, length: usize) -> String {
-    let mut buffer = vec![255; length];
-    let answer = unit.export(&mut buffer);
+/// A call into a lent buffer of ones: its answer, and the bytes that have changed.
+fn lent(length: &str, call: impl Fn(&mut [u8]) -> Result<usize, Refusal>) -> String {
+    let mut buffer = vec![255; length.parse().unwrap_or(0)];
+    let answer = call(&mut buffer);
     let written = buffer.iter().rposition(|&byte| byte != 255).map_or(0, |at| at + 1);
     match answer {
         Ok(length) => format!("{length}, {written} written"),
