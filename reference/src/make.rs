@@ -643,13 +643,18 @@ pub fn script(random: &mut Random) -> Script {
     let mut files = Vec::new();
     let mut largest = [4, 3, 3, 3, 2, 3];
     for at in 0..random.size(1, 3) {
-        let shape = match random.below(20) {
-            0 => shape(random),
-            1..=4 => shape_up_to(random, [20, 11, 5, 5, 4, 8]),
-            _ => small_shape(random, 6, 4),
+        let made = if random.chance(20) {
+            page_district(random)
+        } else {
+            let shape = match random.below(20) {
+                0 => shape(random),
+                1..=4 => shape_up_to(random, [20, 11, 5, 5, 4, 8]),
+                _ => small_shape(random, 6, 4),
+            };
+            district(random, shape)
         };
-        let made = district(random, shape);
-        let counts = [shape.segments, shape.strategies, shape.years, shape.distress_types, 0, shape.resources];
+        let (segments, strategies, distress_types) = (made.segments.len(), made.strategies.len(), made.greatest.len());
+        let counts = [segments, strategies, made.years, distress_types, 0, made.limits.len()];
         for (most, count) in largest.iter_mut().zip(counts) {
             *most = count.max(*most);
         }

@@ -320,7 +320,7 @@ impl Run {
                 tally.see("show");
                 features(tally, unit.district(), unit.show());
             } else if line == b"page" {
-                tally.see("page");
+                page_features(tally, unit.district(), unit.show());
             } else {
                 // The first word says enough, but for refusals and failures.
                 let text = String::from_utf8_lossy(&answer);
