@@ -4,12 +4,14 @@
 //! The kinds are the words of the console, counted from 0: 0 is a load, whose
 //! file follows and whose first number is the file's length; 1 an export, whose
 //! first number is its room, cut to that of the longest file; 2 bar, 3 unbar,
-//! 4 set limit, 5 set rating, 6 a show. Survey points, 7, change nothing and
+//! 4 set limit, 5 set rating, 6 a show; 8 a page, whose first number is its
+//! room, cut to that of the longest page. Survey points, 7, change nothing and
 //! count as a show, as does any other kind. The list ends where no whole call
 //! is left.
 
 use crate::file;
 use crate::listing::listing;
+use crate::page;
 use crate::refusal::Refusal;
 use crate::unit::Unit;
 
@@ -24,6 +26,7 @@ pub enum Call {
     SetLimit(u32, u32),
     SetRating(u32, u32, u32),
     Show,
+    Page(u32),
 }
 
 impl Call {
@@ -43,6 +46,7 @@ impl Call {
             Call::SetLimit(r, limit) => head(4, [*r, *limit, 0]),
             Call::SetRating(i, k, rating) => head(5, [*i, *k, *rating]),
             Call::Show => head(6, [0; 3]),
+            Call::Page(room) => head(8, [*room, 0, 0]),
         }
     }
 
@@ -60,6 +64,7 @@ impl Call {
             3 => Call::Unbar(a, b),
             4 => Call::SetLimit(a, b),
             5 => Call::SetRating(a, b, c),
+            8 => Call::Page(a),
             _ => Call::Show,
         };
         Some((call, rest))
@@ -74,6 +79,7 @@ impl Call {
             Call::SetLimit(r, limit) => unit.set_limit((*r).into(), (*limit).into()),
             Call::SetRating(i, k, rating) => unit.set_rating((*i).into(), (*k).into(), (*rating).into()),
             Call::Show => Ok(()),
+            Call::Page(room) => unit.page(&mut vec![0; page::LONGEST.min(*room as usize)]).map(|_| ()),
         }
     }
 }

@@ -4,6 +4,7 @@ use crate::calls::{encode, Call};
 use crate::district::{District, LIMIT_MOST, RATING_MOST};
 use crate::file;
 use crate::make;
+use crate::page;
 use crate::random::Random;
 
 /// A frame for `vectors`: a list of calls, now and then cut short or noise.
@@ -55,7 +56,8 @@ fn call(random: &mut Random, held: &District) -> Call {
             let most = held.greatest.get(distress.wrapping_sub(1) as usize).copied().unwrap_or(RATING_MOST);
             Call::SetRating(number(random, n), distress, rating(random, most.into()))
         }
-        89..=94 => Call::Export(room(random, held)),
+        89..=92 => Call::Export(room(random, file::encode(held).len(), file::LONGEST)),
+        93..=95 => Call::Page(room(random, (n + 3) * page::LINE, page::LONGEST)),
         _ => Call::Show,
     }
 }
@@ -79,10 +81,11 @@ fn rating(random: &mut Random, most: u32) -> u32 {
     }
 }
 
-/// Just enough for the file, a byte less, none, one, and more than any file needs.
-fn room(random: &mut Random, held: &District) -> u32 {
-    let length = file::encode(held).len() as u32;
-    *random.pick(&[length, length - 1, 0, 1, file::LONGEST as u32, u32::MAX])
+/// Just enough for a file or a page of this length, a byte less, none, one, enough
+/// for the longest, and more.
+fn room(random: &mut Random, length: usize, longest: usize) -> u32 {
+    let (length, longest) = (length as u32, longest as u32);
+    *random.pick(&[length, length - 1, 0, 1, longest, u32::MAX])
 }
 
 /// Around a limit that was there, or at the ends of the range.

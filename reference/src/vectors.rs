@@ -8,7 +8,7 @@ use crate::district::*;
 use crate::make::{self, Shape, WIDEST};
 use crate::random::Random;
 use crate::unit::{plan, Plan};
-use crate::{example, file, frames, lists};
+use crate::{example, file, frames, lists, page};
 
 /// Room for every file.
 const ROOM: u32 = file::LONGEST as u32;
@@ -38,6 +38,7 @@ fn scripts() -> Vec<Vec<u8>> {
     refused_calls(&mut cases);
     ends_of_ranges(&mut cases);
     refused_exports(&mut cases);
+    refused_pages(&mut cases);
     what_a_refusal_leaves(&mut cases);
     long_lists(&mut cases);
     ends_of_fields(&mut cases);
@@ -77,7 +78,7 @@ fn load(district: &District) -> Call {
 
 // ---- groups
 
-/// No call, or none that is there whole; every kind that is a show.
+/// No call, or none that is there whole; kinds that are a show, and a page with room enough.
 fn beginnings(cases: &mut Cases) {
     let whole = encode(&[load(&two_of_each())]);
     let more = encode(&[load(&two_of_each()), Call::SetLimit(1, 10)]);
@@ -89,7 +90,7 @@ fn beginnings(cases: &mut Cases) {
     // A file that claims more bytes than follow, and far more.
     cases.scripts.push([&whole[..], &[0, 1, 0, 0, 0, 0, 0, 0, 0, 0, 0, 0, 0]].concat());
     cases.scripts.push([&whole[..], &[0, 255, 255, 255, 255, 0, 0, 0, 0, 0, 0, 0, 0, 9]].concat());
-    for kind in [6, 7, 128, 255] {
+    for kind in [6, 7, 8, 128, 255] {
         cases.scripts.push([&whole[..], &[kind, 9, 9, 9, 9, 9, 9, 9, 9, 9, 9, 9, 9]].concat());
     }
     cases.list(&[Call::Show]);
@@ -365,6 +366,23 @@ fn refused_exports(cases: &mut Cases) {
     }
 }
 
+/// Refusal 11, and room enough: none, one, a line, a byte less than the page has, as many, more.
+fn refused_pages(cases: &mut Cases) {
+    cases.list(&[Call::Page(242)]);
+    cases.list(&[Call::Page(243)]);
+    let district = two_of_each();
+    for room in [0, 1, 81, 404, 405, 406, page::LONGEST as u32, u32::MAX] {
+        cases.after(&district, &[Call::Page(room)]);
+    }
+    cases.after(&district, &[Call::Page(1), Call::Show]);
+    cases.after(&district, &[Call::SetLimit(1, 9), Call::Page(405), Call::Page(404)]);
+    // The longest page.
+    let longest = page::LONGEST as u32;
+    for room in [longest - 1, longest, longest + 1] {
+        cases.after(&dearest(), &[Call::Page(room)]);
+    }
+}
+
 /// Refused calls of every kind leave district and programme as they were.
 fn what_a_refusal_leaves(cases: &mut Cases) {
     let district = two_of_each();
@@ -376,6 +394,7 @@ fn what_a_refusal_leaves(cases: &mut Cases) {
         Call::SetLimit(1, LIMIT_MOST + 1),
         Call::SetRating(1, 1, 51),
         Call::Export(1),
+        Call::Page(1),
     ];
     for call in &refused {
         cases.after(&district, &[call.clone(), Call::Show]);
