@@ -17,7 +17,7 @@ use Rattle.rules.specs.Page.{rows, lines, page, pageLength}
 use Rattle.rules.specs.declared.Answer.{Answer}
 use Rattle.rules.specs.declared.Answer.the-variants.{Accepted, Refused}
 use Rattle.rules.specs.declared.Programme.{Programme}
-use Rattle.pages.specs.Printed.{longestPage}
+use Rattle.pages.specs.Printed.{lineBytes, longestPage}
 
 module _ (d : District) (p : Programme) (buffer : List ℕ) where
   -- a district out of range
@@ -26,15 +26,15 @@ module _ (d : District) (p : Programme) (buffer : List ℕ) where
   page-none e = rw e (exported-fits 0 pageTooShort [] buffer (omega arith))
 
   module _ (ranged : inRange d ≡ true) where
-    pub page-short : length buffer < 81 * (segmentsOf d + 3) → record { answer = Refused pageTooShort; buffer = buffer } ≡ exported (pageRefusal d buffer) (page d p) buffer
+    pub page-short : length buffer < lineBytes * (segmentsOf d + 3) → record { answer = Refused pageTooShort; buffer = buffer } ≡ exported (pageRefusal d buffer) (page d p) buffer
     unfolding page pageLength pageRefusal
-    page-short h = rw ranged (exported-short ((segmentsOf d + 3) * 81) _ (lines (rows d p)) buffer (omega arith))
+    page-short h = rw ranged (exported-short ((segmentsOf d + 3) * lineBytes) _ (lines (rows d p)) buffer (omega arith))
 
-    pub page-fits : 81 * (segmentsOf d + 3) ≤ length buffer → record { answer = Accepted (81 * (segmentsOf d + 3)); buffer = lines (rows d p) ++ drop (length (lines (rows d p))) buffer } ≡ exported (pageRefusal d buffer) (page d p) buffer
+    pub page-fits : lineBytes * (segmentsOf d + 3) ≤ length buffer → record { answer = Accepted (lineBytes * (segmentsOf d + 3)); buffer = lines (rows d p) ++ drop (length (lines (rows d p))) buffer } ≡ exported (pageRefusal d buffer) (page d p) buffer
     unfolding page pageLength pageRefusal
     page-fits h =
-        let n : 81 * (segmentsOf d + 3) ≡ length (lines (rows d p)) = omega (arith, lines-length (rows d p), rows-length d p) in
-        rw (ranged, n) (exported-fits ((segmentsOf d + 3) * 81) pageTooShort (lines (rows d p)) buffer (omega arith))
+        let n : lineBytes * (segmentsOf d + 3) ≡ length (lines (rows d p)) = omega (arith, lines-length (rows d p), rows-length d p) in
+        rw (ranged, n) (exported-fits ((segmentsOf d + 3) * lineBytes) pageTooShort (lines (rows d p)) buffer (omega arith))
 
 -- ---- a buffer with room for any page
 
@@ -42,7 +42,7 @@ pub page-most : (d : District) → pageLength d ≤ longestPage
 unfolding pageLength
 page-most d = known (inRange d) refl
   where
-    known : (t : Bool) → inRange d ≡ t → pick t ((segmentsOf d + 3) * 81) 0 ≤ longestPage
+    known : (t : Bool) → inRange d ≡ t → pick t ((segmentsOf d + 3) * lineBytes) 0 ≤ longestPage
     known true e = let n = in-ranges d e .segments in omega arith
     known false e = omega arith
 

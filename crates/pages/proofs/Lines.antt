@@ -13,6 +13,7 @@ use Rattle.laws.proofs.Page.{lines-length}
 use Rattle.rules.specs.District.{District, segmentsOf}
 use Rattle.rules.specs.Page.{widths, line, heading, segmentRow, totalRow, limitsRow, rows, lines}
 use Rattle.rules.specs.declared.Programme.{Programme}
+use Rattle.pages.specs.Printed.{lineBytes}
 use Rattle.pages.specs.Numbered.{rowUnder, rowAt}
 
 -- ---- the rows by their numbers
@@ -51,7 +52,7 @@ lines-append [] ys = refl
 lines-append (row ∷ xs) ys = rw (lines-append xs ys) (sym (append-assoc (line widths row) (lines xs) (lines ys)))
 
 module _ (f : ℕ → List (List ℕ)) (n : ℕ) where
-  pub first-length : length (lines (listedFrom n 0 f)) ≡ 81 * n
+  pub first-length : length (lines (listedFrom n 0 f)) ≡ lineBytes * n
   first-length = omega (arith, lines-length (listedFrom n 0 f), listed-length f n 0)
 
   one-more : lines (listedFrom n 0 f) ++ line widths (f n) ≡ lines (listedFrom (n + 1) 0 f)
@@ -61,9 +62,9 @@ module _ (f : ℕ → List (List ℕ)) (n : ℕ) where
       sym (rw (sym (listed-append f n 1 0), lines-append (listedFrom n 0 f) (f (0 + n) ∷ []), append-nil (line widths (f (0 + n))), z))
 
   -- line n is written into its own part
-  pub lines-next : (old out ys : List ℕ) → out ≡ lines (listedFrom n 0 f) ++ drop (81 * n) old → ys ≡ line widths (f n)
-      → putMid (81 * n) (81 * n + 81 - 81 * n) out ys ≡ lines (listedFrom (n + 1) 0 f) ++ drop (81 * (n + 1)) old
+  pub lines-next : (old out ys : List ℕ) → out ≡ lines (listedFrom n 0 f) ++ drop (lineBytes * n) old → ys ≡ line widths (f n)
+      → putMid (lineBytes * n) (lineBytes * n + lineBytes - lineBytes * n) out ys ≡ lines (listedFrom (n + 1) 0 f) ++ drop (lineBytes * (n + 1)) old
   lines-next old out ys e y =
-      let k : 81 * n + 81 - 81 * n ≡ 81 = omega arith in
-      let m : 81 * (n + 1) ≡ 81 * n + 81 = omega arith in
-      rw (k, m, e, y) (part-next (lines (listedFrom n 0 f)) (line widths (f n)) old (81 * n) 81 first-length ∙ ap (λ (l : List ℕ). l ++ drop (81 * n + 81) old) one-more)
+      let k : lineBytes * n + lineBytes - lineBytes * n ≡ lineBytes = omega arith in
+      let m : lineBytes * (n + 1) ≡ lineBytes * n + lineBytes = omega arith in
+      rw (k, m, e, y) (part-next (lines (listedFrom n 0 f)) (line widths (f n)) old (lineBytes * n) lineBytes first-length ∙ ap (λ (l : List ℕ). l ++ drop (lineBytes * n + lineBytes) old) one-more)

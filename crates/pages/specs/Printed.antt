@@ -17,6 +17,10 @@ unfoldable pub paged : Answer → Unit → List ℕ
 paged (Accepted value) u = pageHeld u
 paged (Refused n) u = refusal n
 
+-- 80 characters and a line feed
+abbrev pub lineBytes : ℕ
+lineBytes = 81
+
 -- the most bytes of a page
 abbrev pub longestPage : ℕ
-longestPage = (mostSegments + 3) * 81
+longestPage = (mostSegments + 3) * lineBytes

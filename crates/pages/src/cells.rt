@@ -5,7 +5,8 @@ ghost use Prim.Native.Nat.{_+_, _≤_};
 ghost use lib.ListN.{length, replicate};
 ghost use Rattle.base.specs.Text.{text, Put};
 ghost use Rattle.rules.specs.Page.{widths, line, rightAligned, miles, heading};
-ghost use Rattle.pages.specs.Cells.{textOf, texts};
+ghost use Rattle.pages.specs.Printed.{lineBytes};
+ghost use Rattle.pages.specs.Cells.{textOf, longestText, texts};
 
 // What stands in a column: nothing, a number, or hundredths of a mile in miles.
 pub enum Cell {
@@ -24,7 +25,7 @@ const LONGEST_TEXT: usize = 23;
 // ---- the text of a cell
 
 fn put_miles(out: &mut [u8], hundredths: usize) -> usize
-    requires { ⌜ 23 ≤ length (now out) ⌝ }
+    requires { ⌜ longestText ≤ length (now out) ⌝ }
     ensures { λ r. ⌜ Put (miles hundredths) (now (out .entry)) (now (out .exit)) r ⌝ }
 {
     let at = listing::put_number(out, hundredths / 100);
@@ -35,7 +36,7 @@ fn put_miles(out: &mut [u8], hundredths: usize) -> usize
 }
 
 fn put_text(out: &mut [u8], cell: Cell) -> usize
-    requires { ⌜ 23 ≤ length (now out) ⌝ }
+    requires { ⌜ longestText ≤ length (now out) ⌝ }
     ensures { λ r. ⌜ Put (textOf cell) (now (out .entry)) (now (out .exit)) r ⌝ }
 {
     match cell {
@@ -87,7 +88,7 @@ fn put_cell(out: &mut [u8], width: usize, cell: Cell) -> usize
 // ---- a line
 
 pub fn put_heading(out: &mut [u8])
-    requires { ⌜ length (now out) ≡ 81 ⌝ }
+    requires { ⌜ length (now out) ≡ lineBytes ⌝ }
     ensures { λ _. ⌜ now (out .exit) ≡ line widths heading ⌝ }
 {
     listing::put(
@@ -97,7 +98,7 @@ pub fn put_heading(out: &mut [u8])
 }
 
 pub fn put_row(row: [Cell; COLUMNS], out: &mut [u8])
-    requires { ⌜ length (now out) ≡ 81 ⌝ }
+    requires { ⌜ length (now out) ≡ lineBytes ⌝ }
     ensures { λ _. ⌜ now (out .exit) ≡ line widths (texts row) ⌝ }
 {
     let mut at: usize = 0;

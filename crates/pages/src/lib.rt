@@ -12,7 +12,7 @@ ghost use Rattle.rules.specs.Calls.{exported, pageRefusal};
 ghost use Rattle.rules.specs.District.{segmentsOf};
 ghost use Rattle.rules.specs.Page.{widths, line, rows as Page·rows, lines, page as Page·page};
 ghost use Rattle.pages.specs.Numbered.{rowAt};
-ghost use Rattle.pages.specs.Printed.{pageHeld, paged, longestPage};
+ghost use Rattle.pages.specs.Printed.{pageHeld, paged, lineBytes, longestPage};
 use rules::Answer;
 use rules::District;
 use rules::Programme;
@@ -32,7 +32,7 @@ pub const LONGEST_PAGE: usize = LINE_BYTES * (MOST_SEGMENTS + OTHER_LINES);
 
 // Line n, the heading being line 0.
 fn put_line(d: &District, p: Programme, n: usize, out: &mut [u8])
-    requires { ⌜ Ranges (now d) × (length (now out) ≡ 81) ⌝ }
+    requires { ⌜ Ranges (now d) × (length (now out) ≡ lineBytes) ⌝ }
     ensures { λ _. ⌜ now (out .exit) ≡ line widths (rowAt (now (d .entry)) p n) ⌝ }
 {
     if n == 0 {
@@ -45,7 +45,7 @@ fn put_line(d: &District, p: Programme, n: usize, out: &mut [u8])
 
 // Each line into its own part of the buffer.
 fn put_lines(d: &District, p: Programme, out: &mut [u8])
-    requires { ⌜ Ranges (now d) × ((segmentsOf (now d) + 3) * 81 ≤ length (now out)) ⌝ }
+    requires { ⌜ Ranges (now d) × ((segmentsOf (now d) + 3) * lineBytes ≤ length (now out)) ⌝ }
     ensures { λ _. ⌜ now (out .exit) ≡ lines (Page·rows (now (d .entry)) p) ++ drop (length (lines (Page·rows (now (d .entry)) p))) (now (out .entry)) ⌝ }
 {
     let count = d[SEGMENT_COUNT] + OTHER_LINES;
@@ -78,7 +78,7 @@ pub fn page(d: District, p: Programme, buffer: &mut [u8]) -> Answer
 
 // ---- for the programs
 
-// The unit's own.
+// The unit's own: where any page has room it is never refused.
 pub fn put_page(out: &mut [u8], u: Unit) -> usize
     requires { ⌜ longestPage ≤ length (now out) ⌝ }
     ensures { λ r. ⌜ Put (pageHeld u) (now (out .entry)) (now (out .exit)) r ⌝ }

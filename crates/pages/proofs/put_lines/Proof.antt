@@ -7,13 +7,14 @@ use lib.ListN.{length, drop, length-append, length-take, length-drop}
 use Rattle.base.specs.Over.{listedFrom}
 use Rattle.rules.specs.District.{segmentsOf}
 use Rattle.rules.specs.Page.{lines}
+use Rattle.pages.specs.Printed.{lineBytes}
 use Rattle.pages.specs.Numbered.{rowAt}
 use Rattle.pages.proofs.Lines.{rows-numbered, first-length, lines-next}
 use Rattle.pages.proofs.put_lines.Statement.{statement}
 use Rattle.pages.proofs.put_lines.Tie as tie
 
 abbrev Inv-loop : tie.InvT-loop
-Inv-loop d p out₀ count n₀ out n = (n ≤ count) × (length out ≡ length out₀) × (out ≡ lines (listedFrom n 0 (rowAt d p)) ++ drop (81 * n) out₀)
+Inv-loop d p out₀ count n₀ out n = (n ≤ count) × (length out ≡ length out₀) × (out ≡ lines (listedFrom n 0 (rowAt d p)) ++ drop (lineBytes * n) out₀)
 
 abbrev μ-loop : tie.MeasureT-loop
 μ-loop d p out₀ count n₀ out n = count - n

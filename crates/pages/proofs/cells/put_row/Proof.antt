@@ -18,10 +18,10 @@ use Rattle.pages.proofs.cells.put_row.Statement.{statement}
 use Rattle.pages.proofs.cells.put_row.Tie as tie
 
 abbrev Inv-loop : tie.InvT-loop
-Inv-loop out₀ row at₀ k₀ end out at k = (k ≤ 9) × Written out₀ (line widths (texts row)) (line (drop k widths) (texts (drop k row))) at out
+Inv-loop out₀ row at₀ k₀ end out at k = (k ≤ length widths) × Written out₀ (line widths (texts row)) (line (drop k widths) (texts (drop k row))) at out
 
 abbrev μ-loop : tie.MeasureT-loop
-μ-loop out₀ row at₀ k₀ end out at k = 9 - k
+μ-loop out₀ row at₀ k₀ end out at k = length widths - k
 
 loop-holds : tie.Need-loop-holds Inv-loop μ-loop
 loop-holds c = (omega arith, written-none _ _)
@@ -71,7 +71,7 @@ end-next : (c : tie.After-loop Inv-loop μ-loop) → let l = c .before .loop in 
 unfolding line
 end-next c =
     let l = c .before .loop in
-    let all : l .k ≡ 9 = omega arith in
+    let all : l .k ≡ length widths = omega arith in
     rw all at (l .inv .1)
 
 sub-put : tie.Need-sub-put Inv-loop μ-loop

@@ -5,12 +5,12 @@ use native.Mathlib.Omega.{arith}
 use lib.ListN.{length}
 use Rattle.base.specs.Text.{decimal}
 use Rattle.base.proofs.Text.{decimal-few}
-use Rattle.pages.specs.Cells.{textOf}
+use Rattle.pages.specs.Cells.{textOf, longestText}
 use borrow.Author.Needs.{needs}
 use Rattle.pages.proofs.cells.put_text.Statement.{statement}
 use Rattle.pages.proofs.cells.put_text.Tie as tie
 
-few : (n : ℕ) {room : ℕ} → 23 ≤ room → length (decimal n) ≤ room
+few : (n : ℕ) {room : ℕ} → longestText ≤ room → length (decimal n) ≤ room
 few n h = omega (arith, decimal-few n)
 
 put-number-requires : tie.Need-put-number-requires
