@@ -9,7 +9,7 @@ use Rattle.base.specs.Choice.{pick}
 use Rattle.grammar.proofs.InRanges.{in-ranges}
 use Rattle.file.proofs.Refusals.{exported-short, exported-fits}
 use Rattle.laws.proofs.Page.{lines-length, rows-length}
-use Rattle.rules.specs.Answers.{pageTooShort}
+use Rattle.rules.specs.Answers.{noRoomForPage}
 use Rattle.rules.specs.Calls.{pageRefusal, Export, exported}
 use Rattle.rules.specs.District.{District, segmentsOf}
 use Rattle.rules.specs.File.{inRange}
@@ -23,10 +23,10 @@ module _ (d : District) (p : Programme) (buffer : List ℕ) where
   -- a district out of range
   pub page-none : inRange d ≡ false → record { answer = Accepted 0; buffer = buffer } ≡ exported (pageRefusal d buffer) (page d p) buffer
   unfolding page pageLength pageRefusal
-  page-none e = rw e (exported-fits 0 pageTooShort [] buffer (omega arith))
+  page-none e = rw e (exported-fits 0 noRoomForPage [] buffer (omega arith))
 
   module _ (ranged : inRange d ≡ true) where
-    pub page-short : length buffer < lineBytes * (segmentsOf d + 3) → record { answer = Refused pageTooShort; buffer = buffer } ≡ exported (pageRefusal d buffer) (page d p) buffer
+    pub page-short : length buffer < lineBytes * (segmentsOf d + 3) → record { answer = Refused noRoomForPage; buffer = buffer } ≡ exported (pageRefusal d buffer) (page d p) buffer
     unfolding page pageLength pageRefusal
     page-short h = rw ranged (exported-short ((segmentsOf d + 3) * lineBytes) _ (lines (rows d p)) buffer (omega arith))
 
@@ -34,7 +34,7 @@ module _ (d : District) (p : Programme) (buffer : List ℕ) where
     unfolding page pageLength pageRefusal
     page-fits h =
         let n : lineBytes * (segmentsOf d + 3) ≡ length (lines (rows d p)) = omega (arith, lines-length (rows d p), rows-length d p) in
-        rw (ranged, n) (exported-fits ((segmentsOf d + 3) * lineBytes) pageTooShort (lines (rows d p)) buffer (omega arith))
+        rw (ranged, n) (exported-fits ((segmentsOf d + 3) * lineBytes) noRoomForPage (lines (rows d p)) buffer (omega arith))
 
 -- ---- a buffer with room for any page
 
@@ -51,5 +51,5 @@ pub page-given : (d : District) (p : Programme) (old : List ℕ) {a : Answer} {n
     → (a ≡ Accepted (length (page d p))) × (new ≡ page d p ++ drop (length (page d p)) old)
 unfolding pageRefusal
 page-given d p old e h =
-    let given = e ∙ sym (exported-fits (pageLength d) pageTooShort (page d p) old (omega (arith, page-most d))) in
+    let given = e ∙ sym (exported-fits (pageLength d) noRoomForPage (page d p) old (omega (arith, page-most d))) in
     (ap (λ (x : Export). x .answer) given, ap (λ (x : Export). x .buffer) given)

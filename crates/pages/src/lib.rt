@@ -19,7 +19,7 @@ use rules::Programme;
 use rules::Unit;
 use rules::places::MOST_SEGMENTS;
 use rules::places::SEGMENT_COUNT;
-use rules::refusals::PAGE_TOO_SHORT;
+use rules::refusals::NO_ROOM_FOR_PAGE;
 
 // 80 characters and a line feed.
 pub const LINE_BYTES: usize = 81;
@@ -70,7 +70,7 @@ pub fn page(d: District, p: Programme, buffer: &mut [u8]) -> Answer
     }
     let length = LINE_BYTES * (d[SEGMENT_COUNT] + OTHER_LINES);
     if buffer.len() < length {
-        return Answer::Refused(PAGE_TOO_SHORT);
+        return Answer::Refused(NO_ROOM_FOR_PAGE);
     }
     put_lines(&d, p, buffer);
     Answer::Accepted(length)

@@ -1,5 +1,5 @@
--- Document 01, "Where a call is refused": the refusals by name, and how a refusal and a result become an answer, for every call alike.
--- A refusal is its number in document 01's table, and 0 where there is none.
+-- Document 01, "Where a call is refused": the refusals by name, those of document 02's requests behind them, and how a refusal and a result
+-- become an answer, for every call alike. A refusal is its number, and 0 where there is none.
 use Prim.Native.Nat.{ℕ, zero, suc}
 use mathlib.Core.Bool.{Bool, true, false}
 use Rattle.base.specs.Over.{between}
@@ -42,8 +42,8 @@ abbrev pub noSuchPoints : ℕ
 noSuchPoints = 10
 
 -- of document 02's request 2
-abbrev pub pageTooShort : ℕ
-pageTooShort = 11
+abbrev pub noRoomForPage : ℕ
+noRoomForPage = 11
 
 -- ---- how one comes about
 

@@ -1,4 +1,5 @@
--- Document 01, "The calls" and "Where a call is refused": what each call answers, and what unit and buffer then hold.
+-- Document 01, "The calls" and "Where a call is refused", with the page of document 02's request 2: what each call answers, and what unit and
+-- buffer then hold.
 use Prim.Native.Nat.{ℕ, _+_, _-_}
 use mathlib.Core.List.{List, [], _++_}
 use lib.Dec.{leb}
@@ -8,7 +9,7 @@ use Rattle.rules.specs.Format.{inside, limitRange, ratingRange}
 use Rattle.rules.specs.File.{Read, refused, found, decode, encode}
 use Rattle.rules.specs.Plan.{planOf}
 use Rattle.rules.specs.Page.{page, pageLength}
-use Rattle.rules.specs.Answers.{noSuchSegment, noSuchNumber, newOutOfRange, bufferTooShort, pageTooShort, unless, oneTo, answerOf, accepting}
+use Rattle.rules.specs.Answers.{noSuchSegment, noSuchNumber, newOutOfRange, bufferTooShort, noRoomForPage, unless, oneTo, answerOf, accepting}
 use Rattle.rules.specs.declared.Edit.{Edit}
 use Rattle.rules.specs.declared.Edit.the-variants.{Bar, Unbar, SetLimit, SetRating}
 use Rattle.rules.specs.declared.Programme.{Programme}
@@ -29,7 +30,7 @@ unfoldable pub exportRefusal : District → List ℕ → ℕ
 exportRefusal d buffer = unless (leb (length (encode d)) (length buffer)) bufferTooShort 0
 
 unfoldable pub pageRefusal : District → List ℕ → ℕ
-pageRefusal d buffer = unless (leb (pageLength d) (length buffer)) pageTooShort 0
+pageRefusal d buffer = unless (leb (pageLength d) (length buffer)) noRoomForPage 0
 
 -- ---- edits: bar, unbar, set limit, set rating
 

@@ -22,7 +22,7 @@ widths = 2 ∷ 5 ∷ 3 ∷ 2 ∷ 14 ∷ 9 ∷ 9 ∷ 9 ∷ 9 ∷ []
 unfoldable pub rightAligned : ℕ → List ℕ → List ℕ
 rightAligned w bs = pick (leb (length bs) w) (replicate (w - length bs) 32 ++ bs) (replicate w 42)
 
--- a blank behind each column, and behind the last nine more with the line feed
+-- a blank behind each column; behind the last there are ten, and the line feed
 unfoldable pub line : List ℕ → List (List ℕ) → List ℕ
 line (w ∷ ws) (bs ∷ row) = rightAligned w bs ++ (text " " ++ line ws row)
 line (w ∷ ws) [] = rightAligned w [] ++ (text " " ++ line ws [])

@@ -1,4 +1,4 @@
-// The numbers of the refusals, in document 01's order (specs/Answers.antt).
+// The numbers of the refusals, in the documents' order (specs/Answers.antt).
 
 // A file ends within a record.
 pub const CUT_SHORT: usize = 1;
@@ -22,4 +22,4 @@ pub const BUFFER_TOO_SHORT: usize = 9;
 pub const NO_SUCH_POINTS: usize = 10;
 
 // Of document 02's request 2.
-pub const PAGE_TOO_SHORT: usize = 11;
+pub const NO_ROOM_FOR_PAGE: usize = 11;

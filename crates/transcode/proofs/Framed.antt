@@ -5,12 +5,12 @@ use mathlib.Core.List.{List, [], _∷_}
 use native.Mathlib.Omega.{arith}
 use lib.ListN.{length, length-append}
 use Rattle.base.specs.Text.{Put}
-use Rattle.rules.specs.Answers.{accepting}
+use Rattle.rules.specs.Answers.{bufferTooShort, accepting}
 use Rattle.rules.specs.Calls.{Export, exportRefusal, exported, loadRefusal, districtIn}
 use Rattle.rules.specs.District.{District}
 use Rattle.rules.specs.File.{encode}
 use Rattle.rules.specs.declared.Answer.{Answer}
-use Rattle.file.proofs.Refusals.{export-fits}
+use Rattle.file.proofs.Refusals.{exported-fits}
 use Rattle.file.specs.Readings.{loadedFrom}
 use Rattle.file.specs.declared.Loaded.{Loaded}
 use Rattle.transcode.specs.Transcoded.{headOf, headBytes, framed, lengthIn, transcodedAs, transcoded}
@@ -21,9 +21,9 @@ framed-length file = length-append (headOf (length file)) file
 
 -- an export with room puts the file, and answers with its length
 pub file-put : (d : District) (old new : List ℕ) (answer : Answer) (n : ℕ) → length (encode d) ≤ length old → record { answer = answer; buffer = new } ≡ exported (exportRefusal d old) (encode d) old → n ≡ lengthIn answer → Put (encode d) old new n
-unfolding lengthIn
+unfolding lengthIn exportRefusal
 file-put d old new answer n room e count =
-    let whole = e ∙ sym (export-fits d old room) in
+    let whole = e ∙ sym (exported-fits (length (encode d)) bufferTooShort (encode d) old room) in
     record { count = count ∙ ap (λ (x : Export). lengthIn (x .answer)) whole; bytes = ap (λ (x : Export). x .buffer) whole }
 
 -- ---- the answer to what a load gives
