@@ -3,25 +3,24 @@ ghost use mathlib.Core.Path.{_≡_};
 ghost use mathlib.Core.List.{[]};
 ghost use Prim.Native.Nat.{_<_, _≤_};
 ghost use lib.ListN.{getD};
+ghost use Rattle.survey.specs.Blocks.{Distinct, storedAs, tableFrom};
 ghost use Rattle.rules.specs.Survey.{deductPoints, blockOf, surveyOf};
 use rules::Answer;
 use rules::refusals::NO_SUCH_POINTS;
 
-// A block for each distress, and for each seal of 7 and 8: a row for each degree from 1, an entry for each extent from 1.
-const DEDUCT: [[[usize; 3]; 3]; 12] = [
+// The distinct blocks of Table 1: a row for each degree from 1, an entry for each extent from 1.
+const DEDUCT: [[[u8; 3]; 3]; 7] = [
     [[0, 2, 5], [5, 7, 10], [10, 12, 15]],
-    [[5, 8, 10], [10, 12, 15], [15, 18, 20]],
-    [[5, 8, 10], [10, 12, 15], [15, 18, 20]],
     [[5, 8, 10], [10, 12, 15], [15, 18, 20]],
     [[5, 10, 15], [10, 15, 20], [15, 20, 25]],
     [[0, 2, 5], [5, 7, 10], [7, 15, 20]],
     [[2, 5, 8], [5, 8, 10], [8, 10, 15]],
     [[3, 7, 12], [7, 12, 15], [12, 15, 20]],
-    [[5, 10, 15], [10, 15, 20], [15, 20, 25]],
-    [[2, 5, 8], [5, 8, 10], [8, 10, 15]],
     [[3, 7, 10], [7, 10, 15], [10, 15, 20]],
-    [[3, 7, 12], [7, 12, 15], [12, 15, 20]],
 ];
+
+// Which of them is the block of each distress, and of each seal of 7 and 8.
+const STORED: [u8; 12] = [0, 1, 1, 1, 2, 3, 4, 5, 2, 4, 6, 5];
 
 // The block of a code at its seal, from 1; 0 where there is none.
 fn block_of(code: usize, seal: usize) -> usize
@@ -48,12 +47,30 @@ fn block_of(code: usize, seal: usize) -> usize
     0
 }
 
-// An entry of the table, counted from 0.
-fn entry(block: usize, row: usize, column: usize) -> usize
+// The constant as a result, which a contract can speak of: its blocks differ, and with the map they are Table 1.
+fn blocks() -> [[[u8; 3]; 3]; 7]
+    ensures distinct { λ r. ⌜ Distinct r ⌝ }
+    ensures table { λ r. ⌜ tableFrom r ≡ deductPoints ⌝ }
+{
+    DEDUCT
+}
+
+// Which of them a block of Table 1 is, both counted from 0.
+fn stored_as(block: usize) -> u8
+    requires { ⌜ block < 12 ⌝ }
+    ensures { λ r. ⌜ (r ≡ getD storedAs block 0) × (r < 7) ⌝ }
+{
+    STORED[block]
+}
+
+// An entry of Table 1, counted from 0.
+fn entry(block: usize, row: usize, column: usize) -> u8
     requires { ⌜ (block < 12) × (row < 3) × (column < 3) ⌝ }
     ensures { λ r. ⌜ r ≡ getD (getD (getD deductPoints block []) row []) column 0 ⌝ }
 {
-    DEDUCT[block][row][column]
+    let stored = stored_as(block) as usize;
+    let table = blocks();
+    table[stored][row][column]
 }
 
 // The points for a distress code, its degree, its extent and its seal: a refusal for what the table does not have.
@@ -76,5 +93,5 @@ pub fn survey_points(code: usize, degree: usize, extent: usize, seal: usize) -> 
     if degree == 0 {
         return Answer::Accepted(0);
     }
-    Answer::Accepted(entry(block - 1, degree - 1, extent - 1))
+    Answer::Accepted(entry(block - 1, degree - 1, extent - 1) as usize)
 }

@@ -41,4 +41,5 @@ survey-points-spec =
     returns-5
     (λ c. search needs)
     (λ c κs. search needs)
+    (λ c. search needs)
     returns-6)
