@@ -2,7 +2,7 @@
 ghost use mathlib.Core.Path.{_≡_};
 ghost use mathlib.Core.List.{[]};
 ghost use Prim.Native.Nat.{_<_, _≤_};
-ghost use lib.ListN.{getD};
+ghost use lib.ListN.{length, getD};
 ghost use Rattle.survey.specs.Blocks.{Distinct, storedAs, tableFrom};
 ghost use Rattle.rules.specs.Survey.{deductPoints, blockOf, surveyOf};
 use rules::Answer;
@@ -47,10 +47,11 @@ fn block_of(code: usize, seal: usize) -> usize
     0
 }
 
-// The constant as a result, which a contract can speak of: its blocks differ, and with the map they are Table 1.
+// The constant as a result, which a contract can speak of: its blocks are seven, differ, and with the map are Table 1.
 fn blocks() -> [[[u8; 3]; 3]; 7]
     ensures distinct { λ r. ⌜ Distinct r ⌝ }
     ensures table { λ r. ⌜ tableFrom r ≡ deductPoints ⌝ }
+    ensures seven { λ r. ⌜ length r ≡ 7 ⌝ }
 {
     DEDUCT
 }

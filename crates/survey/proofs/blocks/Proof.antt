@@ -9,7 +9,7 @@ use Rattle.survey.proofs.blocks.Tie as tie
 
 returns : tie.Need-returns
 unfolding all storedAs tableFrom deductPoints
-returns c = (apart-distinct _ refl, refl)
+returns c = (apart-distinct _ refl, (refl, refl))
 
 pub blocks-spec : {M : Type 1} → statement M
 blocks-spec = tie.close (tie.spec returns)

@@ -7,7 +7,7 @@ use Rattle.survey.proofs.entry.Tie as tie
 returns : tie.Need-returns
 returns c =
     let map = c .before .before in
-    rw (map .stored-as .ensures .0, stored-block _ (c .before .blocks2 .ensures .1) (map .before .args .block) (map .before .pre .0))
+    rw (map .stored-as .ensures .0, stored-block _ (c .before .blocks2 .ensures .1 .0) (map .before .args .block) (map .before .pre .0))
 
 pub entry-spec : {M : Type 1} → statement M
 entry-spec =
