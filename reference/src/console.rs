@@ -115,6 +115,12 @@ fn obey(unit: &mut Unit, line: &[u8], base: &Path) -> Option<Vec<u8>> {
                 Err(refusal) => refused(refusal),
             });
         }
+        (b"why", &[i, j]) => {
+            return Some(match unit.why(i, j) {
+                Ok(reason) => format!("{reason}\n").into_bytes(),
+                Err(refusal) => refused(refusal),
+            });
+        }
         (b"bar", &[i, j]) => unit.bar(i, j),
         (b"unbar", &[i, j]) => unit.unbar(i, j),
         (b"limit", &[r, v]) => unit.set_limit(r, v),

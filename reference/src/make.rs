@@ -4,7 +4,7 @@ use crate::district::*;
 use crate::file;
 use crate::random::Random;
 use crate::rating;
-use crate::unit::Plan;
+use crate::unit::{plan, Plan};
 use std::path::Path;
 use std::{fs, io};
 
@@ -328,6 +328,94 @@ pub fn set_limits(random: &mut Random, district: &mut District) {
     }
 }
 
+/// A small district in which many reasons hold, often more than one of the
+/// same strategy: minima of any distress type and year that some strategies
+/// reach and some miss, overall requirements likewise, gains of 0 and losses,
+/// strategies that no limit or just one has room for, and limits that the
+/// programme fills. Sizes and requirements are round, so that uses are whole
+/// units and limits can be met exactly.
+pub fn telling_district(random: &mut Random) -> District {
+    let shape = Shape {
+        segments: random.size(1, 5),
+        strategies: random.size(2, 9),
+        years: random.size(1, 4),
+        distress_types: random.size(1, 4),
+        pavement_types: random.size(1, 3),
+        resources: random.size(1, 4),
+    };
+    let cells = shape.distress_types * shape.years;
+    let demanding = random.below(3);
+    let strategies = (0..shape.strategies)
+        .map(|_| {
+            let manner = random.below(12);
+            Strategy {
+                requirements: (0..shape.resources).map(|_| 500 * random.within(0, 8) as u32).collect(),
+                gains: (0..shape.distress_types)
+                    .map(|_| match manner {
+                        0 => 0,
+                        1 | 2 => random.within(0, 24) as i8 - 12,
+                        _ => random.within(0, 15) as i8,
+                    })
+                    .collect(),
+                survival: (0..cells).map(|_| 10 * random.within(0, 10) as u8).collect(),
+            }
+        })
+        .collect();
+    let types = (0..shape.pavement_types)
+        .map(|_| PavementType {
+            overall: match random.below(4) {
+                0 => 12 * shape.distress_types as u16 + random.within(0, 9) as u16,
+                _ => 0,
+            },
+            minimum: (0..cells)
+                .map(|_| if random.below(6) < demanding { random.within(4, 14) as u8 } else { 0 })
+                .collect(),
+        })
+        .collect();
+    let segments = (0..shape.segments)
+        .map(|_| Segment {
+            pavement: random.size(1, shape.pavement_types) as u8,
+            traffic: 100,
+            environment: *random.pick(&[100, 100, 125]),
+            length: 100 * random.within(1, 3) as u16,
+            width: *random.pick(&[2, 4]),
+            bars: random.draw() as u16 & random.draw() as u16 & random.draw() as u16 & ((1 << shape.strategies) - 1),
+            ratings: (0..shape.distress_types).map(|_| random.within(4, 16) as u8).collect(),
+        })
+        .collect();
+    let mut district = District {
+        years: shape.years,
+        limits: vec![LIMIT_MOST; shape.resources],
+        greatest: vec![20; shape.distress_types],
+        strategies,
+        types,
+        segments,
+    };
+    // Near what one strategy on one segment uses, or what a programme uses.
+    let wanted = wanted(&district);
+    for (limit, whole) in district.limits.iter_mut().zip(wanted) {
+        let whole = (whole / 100_000) as u32;
+        *limit = match random.below(10) {
+            0 => random.within(0, 4) as u32,
+            1 | 2 => random.within(8, 32) as u32,
+            3 => whole,
+            4 | 5 => LIMIT_MOST,
+            _ => whole * random.within(30, 100) as u32 / 100,
+        };
+    }
+    // Most often some limits are lowered to just what the programme uses then.
+    let programme = plan(&district).strategies;
+    for r in 0..shape.resources {
+        if random.chance(40) {
+            let taken = district.segments.iter().zip(programme).filter(|&(_, j)| j > 0);
+            let used = taken.map(|(segment, j)| rating::usage(segment, &district.strategies[usize::from(j) - 1], r));
+            let used = used.sum::<u64>().div_ceil(100_000) as u32;
+            district.limits[r] = used;
+        }
+    }
+    district
+}
+
 /// Some strategy of the plan would take more from a rating than there is.
 pub fn takes_a_cut_loss(district: &District, plan: &Plan) -> bool {
     district.segments.iter().zip(plan.strategies).any(|(segment, j)| {
@@ -639,7 +727,35 @@ impl Script {
     }
 }
 
+/// Each segment and strategy of a district, and some that there are not, asked
+/// why, and again after each of some edits.
+fn asking_script(random: &mut Random) -> Script {
+    let made = telling_district(random);
+    let (n, s, r) = (made.segments.len() as u64, made.strategies.len() as u64, made.limits.len() as u64);
+    let mut text = b"load d0.bin\n".to_vec();
+    for _ in 0..=random.below(6) {
+        for (i, j) in (1..=n).flat_map(|i| (1..=s).map(move |j| (i, j))) {
+            text.extend(format!("why {i} {j}\n").into_bytes());
+        }
+        let odd =
+            [numeral(random, n), numeral(random, s), random.below(n + 2).to_string(), random.below(s + 2).to_string()];
+        text.extend(format!("why {} {}\nwhy {} {}\nshow\n", odd[0], odd[1], odd[2], odd[3]).into_bytes());
+        let (i, j) = (random.within(1, n), random.within(1, s));
+        let edit = match random.below(5) {
+            0 => format!("bar {i} {j}\n"),
+            1 => format!("unbar {i} {j}\n"),
+            2 => format!("rating {i} {} {}\n", random.size(1, made.greatest.len()), random.below(21)),
+            _ => format!("limit {} {}\n", random.within(1, r), random.below(80)),
+        };
+        text.extend(edit.into_bytes());
+    }
+    Script { text, files: vec![("d0.bin".to_string(), file::encode(&made))], folders: vec!["folder".to_string()] }
+}
+
 pub fn script(random: &mut Random) -> Script {
+    if random.chance(30) {
+        return asking_script(random);
+    }
     let mut files = Vec::new();
     let mut largest = [4, 3, 3, 3, 2, 3];
     for at in 0..random.size(1, 3) {
@@ -715,8 +831,9 @@ fn script_line(random: &mut Random, files: &[(String, Vec<u8>)], largest: [usize
             format!("limit {} {value}", numeral(random, r))
         }
         54..=63 => format!("rating {} {} {}", numeral(random, n), numeral(random, d), numeral(random, 50)),
-        64..=71 => "show".to_string(),
-        72..=75 => "page".to_string(),
+        64..=68 => "show".to_string(),
+        69..=71 => "page".to_string(),
+        72..=75 => format!("why {} {}", numeral(random, n), numeral(random, s)),
         76..=87 => {
             let code = numeral(random, 8);
             let degree = random.below(4);
@@ -790,6 +907,8 @@ fn odd_line(random: &mut Random) -> Vec<u8> {
                 b"rating 1 1 1 1",
                 b"points 1 1 1",
                 b"points",
+                b"why 1",
+                b"why 1 1 1",
                 b"quit",
                 b"load\td0.bin",
                 b" # no remark",

@@ -66,27 +66,45 @@ pub fn barred(segment: &Segment, j: usize) -> bool {
     segment.bars >> j & 1 == 1
 }
 
+/// What the segment's pavement type demands.
+fn demands<'a>(district: &'a District, segment: &Segment) -> &'a PavementType {
+    &district.types[usize::from(segment.pavement) - 1]
+}
+
+/// The minimum ratings that are not reached: distress type (from 0) and year
+/// (from 1), type by type and year by year.
+pub fn missed_minima(district: &District, segment: &Segment, strategy: &Strategy) -> Vec<(usize, usize)> {
+    let demands = demands(district, segment);
+    let mut missed = Vec::new();
+    for (k, row) in demands.minimum.chunks_exact(district.years).enumerate() {
+        for (t, &minimum) in (1..).zip(row) {
+            if minimum > 0 && rating(district, segment, strategy, k, t) < MILLION * i64::from(minimum) {
+                missed.push((k, t));
+            }
+        }
+    }
+    missed
+}
+
+/// The ratings of year 1 together don't reach the overall requirement.
+pub fn misses_overall(district: &District, segment: &Segment, strategy: &Strategy) -> bool {
+    let demands = demands(district, segment);
+    if demands.overall > 0 {
+        let first_year: i64 = (0..district.greatest.len()).map(|k| rating(district, segment, strategy, k, 1)).sum();
+        if first_year < MILLION * i64::from(demands.overall) {
+            return true;
+        }
+    }
+    false
+}
+
 /// Not barred, and the ratings reach what the pavement type demands.
 pub fn permitted(district: &District, i: usize, j: usize) -> bool {
     let (segment, strategy) = (&district.segments[i], &district.strategies[j]);
     if barred(segment, j) {
         return false;
     }
-    let demands = &district.types[usize::from(segment.pavement) - 1];
-    for (k, row) in demands.minimum.chunks_exact(district.years).enumerate() {
-        for (t, &minimum) in (1..).zip(row) {
-            if minimum > 0 && rating(district, segment, strategy, k, t) < MILLION * i64::from(minimum) {
-                return false;
-            }
-        }
-    }
-    if demands.overall > 0 {
-        let first_year: i64 = (0..district.greatest.len()).map(|k| rating(district, segment, strategy, k, 1)).sum();
-        if first_year < MILLION * i64::from(demands.overall) {
-            return false;
-        }
-    }
-    true
+    missed_minima(district, segment, strategy).is_empty() && !misses_overall(district, segment, strategy)
 }
 
 /// Its use alone is over no limit.

@@ -7,6 +7,7 @@ use crate::page;
 use crate::phases;
 use crate::refusal::Refusal;
 use crate::tables::Tables;
+use crate::why::{self, Reason};
 
 /// What a show gives.
 #[derive(Clone, Debug, PartialEq, Eq)]
@@ -124,6 +125,12 @@ impl Unit {
 
     pub fn show(&self) -> &Plan {
         &self.plan
+    }
+
+    /// Why the segment does not have the strategy, or that it has it.
+    pub fn why(&self, segment: u64, strategy: u64) -> Result<Reason, Refusal> {
+        let (i, j) = self.segment_and_strategy(segment, strategy)?;
+        Ok(why::why(&self.district, &self.plan.strategies, i, j))
     }
 
     fn replan(&mut self) {

@@ -3,7 +3,7 @@
 mod common;
 
 use common::{card_bytes, CARD_LISTING, CARD_PAGE};
-use reference::console;
+use reference::{console, file};
 use std::fs;
 use std::path::PathBuf;
 
@@ -50,6 +50,24 @@ fn a_fresh_unit() {
     let input = b"show\nbar 1 1\nlimit 1 5\nlimit 2 5\nlimit 1 1000000000\nrating 1 1 0\n";
     let expected = "benefit 0\nceiling 0\nsteps 0 0 0\nrefused 6\nok\nrefused 7\nrefused 8\nrefused 6\n";
     assert_eq!(answers("fresh", input), expected);
+}
+
+/// All eight answers of `why`, its refusals, and that it leaves the unit alone.
+#[test]
+fn reasons() {
+    let folder = folder("reasons");
+    fs::write(folder.join("demands"), file::encode(&reference::reasons::demands())).unwrap();
+    fs::write(folder.join("limits"), file::encode(&reference::reasons::limits())).unwrap();
+    let input = b"why 1 1\nload demands\nwhy 1 2\nwhy 1 8\nwhy 1 6\nwhy 1 7\nwhy 2 9\nload limits\nwhy 1 4\nwhy 2 7\n\
+        why 2 8\nwhy 3 9\nwhy 3 0\nwhy 1 0\nwhy 1 10\nwhy 01 18446744073709551615\nshow\n";
+    let expected = "refused 6\nok\nin the programme\nbarred\nminimum rating missed: distress 2, year 2\n\
+        overall requirement missed\nbenefit not above 0\nok\nover limit 2 alone\nover limit 2 beside the others\n\
+        fits, but the total would be no greater\nrefused 6\nrefused 6\nrefused 7\nrefused 7\nrefused 7\n\
+        1 1\n2 1\nbenefit 400000\nceiling 520000\nsteps 7 0 1\n";
+    let mut output = Vec::new();
+    console::run(&mut &input[..], &mut output, &folder).unwrap();
+    assert_eq!(String::from_utf8(output).unwrap(), expected);
+    fs::remove_dir_all(&folder).unwrap();
 }
 
 #[test]
@@ -118,6 +136,11 @@ fn lines_that_are_no_commands() {
         "limit 1",
         "points 1 1 1",
         "rating 1 1",
+        "why",
+        "why 1",
+        "why 1 1 1",
+        "why 1 x",
+        "whys 1 1",
         "quit",
         " # x",
         "show\r",

@@ -8,6 +8,7 @@ use reference::district::*;
 use reference::make;
 use reference::random::Random;
 use reference::unit::plan;
+use reference::why::why;
 
 struct Rules<'a> {
     d: &'a District,
@@ -81,19 +82,28 @@ impl Rules<'_> {
         i128::from(self.d.limits[r]) * 100_000
     }
 
-    fn permitted(&self, i: usize, j: usize) -> bool {
-        let segment = &self.d.segments[i];
-        let demands = &self.d.types[usize::from(segment.pavement) - 1];
-        let barred = (segment.bars / (1 << (j - 1))) % 2 == 1;
-        let minimum_met = (0..self.d.greatest.len()).all(|k| {
-            (1..=self.d.years).all(|t| {
-                let minimum = i128::from(demands.minimum[k * self.d.years + t - 1]);
-                minimum == 0 || self.rating(i, j, k, t) >= 1_000_000 * minimum
-            })
-        });
+    fn demands(&self, i: usize) -> &PavementType {
+        &self.d.types[usize::from(self.d.segments[i].pavement) - 1]
+    }
+
+    fn barred(&self, i: usize, j: usize) -> bool {
+        (self.d.segments[i].bars / (1 << (j - 1))) % 2 == 1
+    }
+
+    fn minimum_met(&self, i: usize, j: usize, k: usize, t: usize) -> bool {
+        let minimum = i128::from(self.demands(i).minimum[k * self.d.years + t - 1]);
+        minimum == 0 || self.rating(i, j, k, t) >= 1_000_000 * minimum
+    }
+
+    fn overall_met(&self, i: usize, j: usize) -> bool {
         let first_year: i128 = (0..self.d.greatest.len()).map(|k| self.rating(i, j, k, 1)).sum();
-        let overall = i128::from(demands.overall);
-        !barred && minimum_met && (overall == 0 || first_year >= 1_000_000 * overall)
+        let overall = i128::from(self.demands(i).overall);
+        overall == 0 || first_year >= 1_000_000 * overall
+    }
+
+    fn permitted(&self, i: usize, j: usize) -> bool {
+        let minima_met = (0..self.d.greatest.len()).all(|k| (1..=self.d.years).all(|t| self.minimum_met(i, j, k, t)));
+        !self.barred(i, j) && minima_met && self.overall_met(i, j)
     }
 
     fn candidate(&self, i: usize, j: usize) -> bool {
@@ -111,6 +121,34 @@ impl Rules<'_> {
 
     fn total(&self, programme: &Programme) -> i128 {
         programme.iter().enumerate().map(|(i, &j)| self.benefit(i, j)).sum()
+    }
+
+    /// All of the eight reasons that hold, with every distress type, year and
+    /// resource that could be named, in the order in which they are asked for.
+    fn reasons(&self, programme: &Programme, i: usize, j: usize) -> Vec<String> {
+        let mut holding = Vec::new();
+        let mut say = |holds: bool, reason: String| holding.extend(holds.then_some(reason));
+        say(programme[i] == j, "in the programme".to_string());
+        say(self.barred(i, j), "barred".to_string());
+        for k in 0..self.d.greatest.len() {
+            for t in 1..=self.d.years {
+                let reason = format!("minimum rating missed: distress {}, year {t}", k + 1);
+                say(!self.minimum_met(i, j, k, t), reason);
+            }
+        }
+        say(!self.overall_met(i, j), "overall requirement missed".to_string());
+        say(self.benefit(i, j) <= 0, "benefit not above 0".to_string());
+        for r in 0..self.d.limits.len() {
+            say(self.usage(i, j, r) > self.room(r), format!("over limit {} alone", r + 1));
+        }
+        let mut changed = programme.clone();
+        changed[i] = j;
+        for r in 0..self.d.limits.len() {
+            say(self.used(&changed, r) > self.room(r), format!("over limit {} beside the others", r + 1));
+        }
+        let fits = self.within_limits(&changed) && self.total(&changed) <= self.total(programme);
+        say(fits, "fits, but the total would be no greater".to_string());
+        holding
     }
 
     fn share(&self, i: usize, j: usize, r: usize) -> i128 {
@@ -285,6 +323,10 @@ fn check(district: &District) {
     assert_eq!(shown.changes, changes);
     assert_eq!(i128::from(shown.total), rules.total(&programme));
     assert_eq!(i128::from(shown.ceiling), rules.ceiling());
+    for (i, j) in (0..district.segments.len()).flat_map(|i| (1..=district.strategies.len()).map(move |j| (i, j))) {
+        let named = why(district, &shown.strategies, i, j - 1).to_string();
+        assert_eq!(Some(&named), rules.reasons(&programme, i, j).first(), "segment {}, strategy {j}", i + 1);
+    }
     programme.resize(MOST_SEGMENTS, 0);
     let strategies: Programme = shown.strategies.iter().map(|&j| usize::from(j)).collect();
     assert_eq!(strategies, programme);
@@ -306,6 +348,15 @@ fn busy_districts() {
         let mut shape = make::small_shape(&mut random, 7, 4);
         shape.segments += 3;
         check(&make::busy_district(&mut random, shape));
+    }
+}
+
+/// Districts in which many reasons hold of the same strategy.
+#[test]
+fn telling_districts() {
+    let mut random = Random::new(23);
+    for _ in 0..2_000 {
+        check(&make::telling_district(&mut random));
     }
 }
 

@@ -322,8 +322,13 @@ impl Run {
             } else if line == b"page" {
                 page_features(tally, unit.district(), unit.show());
             } else {
-                // The first word says enough, but for refusals and failures.
                 let text = String::from_utf8_lossy(&answer);
+                if line.starts_with(b"why ") && !text.starts_with("unknown") {
+                    tally.see(format!("why: {}", reason(text.trim_end())));
+                    answers.extend(answer);
+                    continue;
+                }
+                // The first word says enough, but for refusals and failures.
                 let words: Vec<&str> = text.split_whitespace().take(2).collect();
                 tally.see(match words[0] {
                     "ok" | "points" => words[0].to_string(),
@@ -334,6 +339,20 @@ impl Run {
         }
         answers
     }
+}
+
+/// An answer of `why`, with each number that it names as the first or a later one.
+fn reason(answer: &str) -> String {
+    if answer.starts_with("refused") {
+        return answer.to_string();
+    }
+    let plain = answer.replace(',', "");
+    let words = plain.split(' ').map(|word| match word.parse::<u64>() {
+        Ok(1) => "first",
+        Ok(2..) => "later",
+        _ => word,
+    });
+    words.collect::<Vec<_>>().join(" ")
 }
 
 /// What the codec answers to a frame.

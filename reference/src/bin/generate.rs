@@ -4,7 +4,7 @@ use reference::district::District;
 use reference::make::{self, Shape};
 use reference::options::Given;
 use reference::random::Random;
-use reference::{example, file, frames, vectors};
+use reference::{example, file, frames, reasons, vectors};
 use std::fs;
 use std::io::{self, BufWriter, Write};
 use std::path::Path;
@@ -16,6 +16,7 @@ const USAGE: &str = "usage:
   generate scripts --count N --seed S --out DIR   panel scripts, each in a folder with its files
   generate series  --seed S --out DIR             districts that grow in N, in S and in R
   generate example                                the report's example problem, to standard output
+  generate reasons --out DIR                      the stored districts that the console is asked about
   generate vectors                                the stored lists of calls as frames, to standard output
   generate walls   --out DIR                      the districts whose pages are stored, for the console
 ";
@@ -42,6 +43,7 @@ fn run(arguments: &[String]) -> Result<(), String> {
         "series" => series(seed, Path::new(given.needed("out")?)),
         "example" => io::stdout().write_all(&file::encode(&example::district())),
         "walls" => walls(Path::new(given.needed("out")?)),
+        "reasons" => why(Path::new(given.needed("out")?)),
         "vectors" => io::stdout().write_all(&vectors::frames()),
         _ => return Err(format!("unknown argument {what}")),
     }
@@ -100,6 +102,12 @@ fn series(seed: u64, out: &Path) -> io::Result<()> {
         write_cut(&whole, Shape { resources: r, ..make::WIDEST }, &out.join(format!("r{r:02}.bin")))?;
     }
     Ok(())
+}
+
+fn why(out: &Path) -> io::Result<()> {
+    fs::create_dir_all(out)?;
+    fs::write(out.join("demands"), file::encode(&reasons::demands()))?;
+    fs::write(out.join("limits"), file::encode(&reasons::limits()))
 }
 
 fn write_cut(whole: &District, shape: Shape, path: &Path) -> io::Result<()> {

@@ -1,0 +1,115 @@
+//! Why a segment does not have a strategy, or that it has it: the first that
+//! holds of eight reasons.
+
+use crate::district::District;
+use crate::rating;
+use std::fmt;
+
+/// Distress types, years and resources are numbers from 1 here.
+#[derive(Clone, Copy, Debug, PartialEq, Eq)]
+pub enum Reason {
+    InTheProgramme,
+    Barred,
+    /// The first distress type that misses a minimum rating, and of that type
+    /// the first year.
+    MinimumMissed {
+        distress: usize,
+        year: usize,
+    },
+    OverallMissed,
+    BenefitNotAbove0,
+    /// The first resource whose limit the strategy is over, whatever the rest has.
+    OverAlone {
+        resource: usize,
+    },
+    /// The first resource whose limit it is over together with what the other
+    /// segments have. What the segment itself has does not count.
+    OverBeside {
+        resource: usize,
+    },
+    /// In place of what the segment has it would be within the limits.
+    NoGreater,
+}
+
+impl Reason {
+    /// The place in the order of the eight, from 1.
+    pub fn number(self) -> u8 {
+        match self {
+            Reason::InTheProgramme => 1,
+            Reason::Barred => 2,
+            Reason::MinimumMissed { .. } => 3,
+            Reason::OverallMissed => 4,
+            Reason::BenefitNotAbove0 => 5,
+            Reason::OverAlone { .. } => 6,
+            Reason::OverBeside { .. } => 7,
+            Reason::NoGreater => 8,
+        }
+    }
+}
+
+impl fmt::Display for Reason {
+    fn fmt(&self, out: &mut fmt::Formatter) -> fmt::Result {
+        match self {
+            Reason::InTheProgramme => write!(out, "in the programme"),
+            Reason::Barred => write!(out, "barred"),
+            Reason::MinimumMissed { distress, year } => {
+                write!(out, "minimum rating missed: distress {distress}, year {year}")
+            }
+            Reason::OverallMissed => write!(out, "overall requirement missed"),
+            Reason::BenefitNotAbove0 => write!(out, "benefit not above 0"),
+            Reason::OverAlone { resource } => write!(out, "over limit {resource} alone"),
+            Reason::OverBeside { resource } => write!(out, "over limit {resource} beside the others"),
+            Reason::NoGreater => write!(out, "fits, but the total would be no greater"),
+        }
+    }
+}
+
+/// The first reason that holds of strategy j on segment i (both from 0) under
+/// the district's own programme, which has strategy numbers, 0 for nothing.
+pub fn why(district: &District, programme: &[u8], i: usize, j: usize) -> Reason {
+    let (segment, strategy) = (&district.segments[i], &district.strategies[j]);
+    let benefit = rating::benefit(district, segment, strategy);
+    if usize::from(programme[i]) == j + 1 {
+        return Reason::InTheProgramme;
+    }
+    if rating::barred(segment, j) {
+        return Reason::Barred;
+    }
+    let missed = rating::missed_minima(district, segment, strategy);
+    if let Some(&(k, t)) = missed.first() {
+        return Reason::MinimumMissed { distress: k + 1, year: t };
+    }
+    if rating::misses_overall(district, segment, strategy) {
+        return Reason::OverallMissed;
+    }
+    if benefit <= 0 {
+        return Reason::BenefitNotAbove0;
+    }
+    let mut resources = 0..district.limits.len();
+    let alone = |r: usize| rating::usage(segment, strategy, r);
+    if let Some(r) = resources.clone().find(|&r| alone(r) > rating::room(district, r)) {
+        return Reason::OverAlone { resource: r + 1 };
+    }
+    if let Some(r) = resources.find(|&r| alone(r) + others(district, programme, i, r) > rating::room(district, r)) {
+        return Reason::OverBeside { resource: r + 1 };
+    }
+    // It would be a single change, and phase 3 has left none that counts.
+    assert!(benefit <= held(district, programme, i), "none of the eight reasons holds");
+    Reason::NoGreater
+}
+
+/// What the other segments' strategies use of a resource.
+fn others(district: &District, programme: &[u8], i: usize, r: usize) -> u64 {
+    let uses = district.segments.iter().zip(programme).enumerate().filter(|&(other, _)| other != i);
+    uses.filter(|(_, (_, &j))| j > 0)
+        .map(|(_, (segment, &j))| rating::usage(segment, &district.strategies[usize::from(j) - 1], r))
+        .sum()
+}
+
+/// The benefit of what the segment has.
+fn held(district: &District, programme: &[u8], i: usize) -> i64 {
+    match programme[i] {
+        0 => 0,
+        j => rating::benefit(district, &district.segments[i], &district.strategies[usize::from(j) - 1]),
+    }
+}

@@ -1,0 +1,193 @@
+//! The eight reasons, worked out by hand on two small districts and the card.
+//!
+//! In both districts a gain counts 100 in the effect for each year in which all
+//! of it lasts, and a benefit is 100 times the effect; uses are whole units.
+
+mod common;
+
+use common::card_bytes;
+use reference::district::District;
+use reference::refusal::Refusal;
+use reference::unit::Unit;
+use reference::why::Reason::{self, *};
+use reference::{file, reasons};
+
+fn holding(district: &District) -> Unit {
+    let mut unit = Unit::fresh();
+    unit.load(&file::encode(district)).unwrap();
+    unit
+}
+
+fn minimum(distress: usize, year: usize) -> Reason {
+    MinimumMissed { distress, year }
+}
+
+/// Asks for strategies 1, 2 and so on.
+fn check(unit: &Unit, segment: u64, expected: &[Reason]) {
+    for (j, &reason) in (1..).zip(expected) {
+        assert_eq!(unit.why(segment, j), Ok(reason), "segment {segment}, strategy {j}");
+    }
+}
+
+/// Segment 1 has ratings 10 and 10; its type wants 12 and 14 of distress 1, 12
+/// and 11 of distress 2, and 28 in all.
+#[test]
+fn demands_that_are_missed() {
+    let unit = holding(&reasons::demands());
+    assert_eq!(unit.show().strategies[..2], [2, 1]);
+    check(
+        &unit,
+        1,
+        &[
+            // 18 and 16.4, 18 and 14.8; effect 8 x 180 + 8 x 160, less than the one held.
+            NoGreater,
+            // 20 all along: effect 4,000, the greatest.
+            InTheProgramme,
+            // 18 and 13.2, 11 and 10.5: distress 2 misses sooner, but distress 1 comes first.
+            minimum(1, 2),
+            // 11 and 11, 16 and 16: both years of distress 1, and 27 in all.
+            minimum(1, 1),
+            // 18 and 16.4, 11 and 10.5: both years of distress 2.
+            minimum(2, 1),
+            // 18 and 16.4, 12 and 10.
+            minimum(2, 2),
+            // 14 and 14, 12 and 12: just enough, but 26 in all.
+            OverallMissed,
+            // Ratings stay 10 and 10, which misses everything.
+            Barred,
+            // 15 and 10, 10 and 5.
+            minimum(1, 2),
+            // 16 and 10, 10 and 4.
+            minimum(1, 2),
+        ],
+    );
+}
+
+/// Segment 2 has ratings 15 and 10, so distress 1 gains at most 5; its type
+/// wants 9 and 4 of distress 2, and 26 in all.
+#[test]
+fn benefits_that_are_not_above_0() {
+    let unit = holding(&reasons::demands());
+    check(
+        &unit,
+        2,
+        &[
+            // Effect 5 x 180 + 8 x 160 = 2,180.
+            InTheProgramme,
+            // Effect 5 x 200 + 10 x 200 = 3,000 would be more.
+            Barred,
+            // Effects 5 x 140 + 150, 200 + 1,200, 5 x 180 + 150, 5 x 180 + 4 x 50, 800 + 400.
+            NoGreater,
+            NoGreater,
+            NoGreater,
+            NoGreater,
+            NoGreater,
+            // 25 in all; the benefit is 0 too.
+            OverallMissed,
+            // 20 and 15, 10 and 5: 30 in all; effect 500 - 500. In year 0 distress 2 has 5, which counts for nothing.
+            BenefitNotAbove0,
+            // 20 and 15, 10 and 4: effect 500 - 600. Its 11 units of resource 2 are over the limit too.
+            BenefitNotAbove0,
+        ],
+    );
+}
+
+/// Three limits of 10. No two strategies that fit together gain more than 40,
+/// what strategy 1 gains twice: it takes 5, 4 and 3 units, so 5, 6 and 7 are left.
+#[test]
+fn limits_that_are_exceeded() {
+    let unit = holding(&reasons::limits());
+    let plan = unit.show();
+    assert_eq!((&plan.strategies[..2], plan.total), (&[1, 1][..], 400_000));
+    for segment in [1, 2] {
+        check(
+            &unit,
+            segment,
+            &[
+                InTheProgramme,
+                // 6, 6 and 6 units.
+                OverBeside { resource: 1 },
+                // 11, 0 and 0.
+                OverAlone { resource: 1 },
+                // 0, 11 and 12.
+                OverAlone { resource: 2 },
+                // The same as strategy 1: it would fill limit 1 as well.
+                NoGreater,
+                // 10, 0 and 0: alone it just fits. It gains less than strategy 1 too.
+                OverBeside { resource: 1 },
+                // 1, 7 and 8.
+                OverBeside { resource: 2 },
+                // 4, 4 and 3 would not fit beside both, but its own segment's use is given up.
+                NoGreater,
+                // 0, 0 and 8.
+                OverBeside { resource: 3 },
+            ],
+        );
+    }
+}
+
+/// A reason is that of the district and the programme held now.
+#[test]
+fn reasons_follow_the_calls() {
+    let mut unit = holding(&reasons::limits());
+    unit.bar(1, 5).unwrap();
+    assert_eq!(unit.why(1, 5), Ok(Barred));
+    assert_eq!(unit.why(2, 5), Ok(NoGreater));
+    // With plenty both have the strategy of the greatest gain, which the first of two is.
+    for r in 1..=3 {
+        unit.set_limit(r, 100).unwrap();
+    }
+    assert_eq!(unit.why(1, 3), Ok(InTheProgramme));
+    assert_eq!(unit.why(1, 4), Ok(NoGreater));
+    // From the greatest rating on nothing is gained.
+    unit.set_rating(1, 1, 50).unwrap();
+    assert_eq!(unit.why(1, 3), Ok(BenefitNotAbove0));
+    assert_eq!(unit.why(2, 3), Ok(InTheProgramme));
+    // A limit of 0 is exceeded by any use, and by none that is 0.
+    unit.set_limit(1, 0).unwrap();
+    assert_eq!(unit.why(2, 3), Ok(OverAlone { resource: 1 }));
+    assert_eq!(unit.why(2, 4), Ok(InTheProgramme));
+}
+
+/// The card: segment 1 has strategy 2, which uses 60 of 130, segment 2 has
+/// strategy 1, which uses 40.
+#[test]
+fn the_card() {
+    let mut unit = Unit::fresh();
+    unit.load(&card_bytes()).unwrap();
+    check(&unit, 1, &[NoGreater, InTheProgramme]);
+    // 120 beside 60.
+    check(&unit, 2, &[InTheProgramme, OverBeside { resource: 1 }]);
+    // A segment that has nothing: 20 and 60 alone are over 19, and 40 are.
+    unit.set_limit(1, 19).unwrap();
+    check(&unit, 1, &[OverAlone { resource: 1 }, OverAlone { resource: 1 }]);
+    // 40 leave 19, which is less than 20, for a segment that has nothing.
+    unit.set_limit(1, 59).unwrap();
+    assert_eq!(unit.show().strategies[..2], [0, 1]);
+    check(&unit, 1, &[OverBeside { resource: 1 }, OverAlone { resource: 1 }]);
+}
+
+#[test]
+fn numbers_that_there_are_not() {
+    let unit = holding(&reasons::limits());
+    for segment in [0, 3, 257, 1 << 32, u64::MAX] {
+        // The segment is looked at first.
+        for strategy in [0, 1, 10, u64::MAX] {
+            assert_eq!(unit.why(segment, strategy), Err(Refusal::Segment));
+        }
+    }
+    for strategy in [0, 10, 257, 1 << 32 | 1, u64::MAX] {
+        assert_eq!(unit.why(1, strategy), Err(Refusal::Number));
+    }
+    assert_eq!(Unit::fresh().why(1, 1), Err(Refusal::Segment));
+}
+
+#[test]
+fn nothing_is_altered() {
+    for district in [reasons::demands(), reasons::limits()] {
+        let unit = holding(&district);
+        let before = unit.clone();
+        (0..4).for_each(|i| (0..12).for_each(|j| drop(unit.why(i, j))));
+        assert_eq!(unit, before);
+    }
+}
