@@ -37,8 +37,8 @@ pub fn demands() -> District {
 /// Two segments alike that share three limits of ten units each. Both have
 /// strategy 1, which fills the first limit.
 pub fn limits() -> District {
-    let strategy = |gain: i8, units: [u32; 3]| Strategy {
-        requirements: units.map(|unit| 1_000 * unit).to_vec(),
+    let strategy = |gain: i8, requirements: [u32; 3]| Strategy {
+        requirements: requirements.to_vec(),
         gains: vec![gain],
         survival: vec![100],
     };
@@ -47,15 +47,16 @@ pub fn limits() -> District {
         limits: vec![10, 10, 10],
         greatest: vec![50],
         strategies: vec![
-            strategy(20, [5, 4, 3]),
-            strategy(24, [6, 6, 6]),
-            strategy(40, [11, 0, 0]),
-            strategy(40, [0, 11, 12]),
-            strategy(20, [5, 4, 3]),
-            strategy(10, [10, 0, 0]),
-            strategy(35, [1, 7, 8]),
-            strategy(15, [4, 4, 3]),
-            strategy(25, [0, 0, 8]),
+            strategy(20, [5_000, 4_000, 3_000]),
+            strategy(24, [6_000, 6_000, 6_000]),
+            strategy(40, [11_000, 0, 0]),
+            strategy(40, [0, 11_000, 12_000]),
+            strategy(20, [5_000, 4_000, 3_000]),
+            strategy(10, [10_000, 0, 0]),
+            strategy(35, [1_000, 7_000, 8_000]),
+            strategy(15, [4_000, 4_000, 3_000]),
+            strategy(25, [0, 0, 8_000]),
+            strategy(12, [0, 6_001, 0]),
         ],
         types: vec![PavementType { overall: 0, minimum: vec![0] }],
         segments: vec![segment(1, 0, &[0]), segment(1, 0, &[0])],

@@ -68,7 +68,6 @@ impl fmt::Display for Reason {
 /// the district's own programme, which has strategy numbers, 0 for nothing.
 pub fn why(district: &District, programme: &[u8], i: usize, j: usize) -> Reason {
     let (segment, strategy) = (&district.segments[i], &district.strategies[j]);
-    let benefit = rating::benefit(district, segment, strategy);
     if usize::from(programme[i]) == j + 1 {
         return Reason::InTheProgramme;
     }
@@ -82,34 +81,29 @@ pub fn why(district: &District, programme: &[u8], i: usize, j: usize) -> Reason 
     if rating::misses_overall(district, segment, strategy) {
         return Reason::OverallMissed;
     }
-    if benefit <= 0 {
+    if rating::benefit(district, segment, strategy) <= 0 {
         return Reason::BenefitNotAbove0;
     }
-    let mut resources = 0..district.limits.len();
-    let alone = |r: usize| rating::usage(segment, strategy, r);
-    if let Some(r) = resources.clone().find(|&r| alone(r) > rating::room(district, r)) {
+    let over = |r: usize, beside: u64| rating::usage(segment, strategy, r) + beside > rating::room(district, r);
+    let resources = district.limits.len();
+    if let Some(r) = (0..resources).find(|&r| over(r, 0)) {
         return Reason::OverAlone { resource: r + 1 };
     }
-    if let Some(r) = resources.find(|&r| alone(r) + others(district, programme, i, r) > rating::room(district, r)) {
+    if let Some(r) = (0..resources).find(|&r| over(r, others(district, programme, i, r))) {
         return Reason::OverBeside { resource: r + 1 };
     }
-    // It would be a single change, and phase 3 has left none that counts.
-    assert!(benefit <= held(district, programme, i), "none of the eight reasons holds");
+    // It would be a single change, and phase 3 has left none that raises the total.
     Reason::NoGreater
 }
 
 /// What the other segments' strategies use of a resource.
 fn others(district: &District, programme: &[u8], i: usize, r: usize) -> u64 {
-    let uses = district.segments.iter().zip(programme).enumerate().filter(|&(other, _)| other != i);
-    uses.filter(|(_, (_, &j))| j > 0)
-        .map(|(_, (segment, &j))| rating::usage(segment, &district.strategies[usize::from(j) - 1], r))
-        .sum()
-}
-
-/// The benefit of what the segment has.
-fn held(district: &District, programme: &[u8], i: usize) -> i64 {
-    match programme[i] {
-        0 => 0,
-        j => rating::benefit(district, &district.segments[i], &district.strategies[usize::from(j) - 1]),
+    let mut used = 0;
+    for (other, segment) in district.segments.iter().enumerate() {
+        let held = usize::from(programme[other]);
+        if other != i && held > 0 {
+            used += rating::usage(segment, &district.strategies[held - 1], r);
+        }
     }
+    used
 }

@@ -59,7 +59,7 @@ fn reasons() {
     fs::write(folder.join("demands"), file::encode(&reference::reasons::demands())).unwrap();
     fs::write(folder.join("limits"), file::encode(&reference::reasons::limits())).unwrap();
     let input = b"why 1 1\nload demands\nwhy 1 2\nwhy 1 8\nwhy 1 6\nwhy 1 7\nwhy 2 9\nload limits\nwhy 1 4\nwhy 2 7\n\
-        why 2 8\nwhy 3 9\nwhy 3 0\nwhy 1 0\nwhy 1 10\nwhy 01 18446744073709551615\nshow\n";
+        why 2 8\nwhy 3 9\nwhy 3 0\nwhy 1 0\nwhy 1 11\nwhy 01 18446744073709551615\nshow\n";
     let expected = "refused 6\nok\nin the programme\nbarred\nminimum rating missed: distress 2, year 2\n\
         overall requirement missed\nbenefit not above 0\nok\nover limit 2 alone\nover limit 2 beside the others\n\
         fits, but the total would be no greater\nrefused 6\nrefused 6\nrefused 7\nrefused 7\nrefused 7\n\

@@ -1,7 +1,7 @@
 //! The eight reasons, worked out by hand on two small districts and the card.
 //!
 //! In both districts a gain counts 100 in the effect for each year in which all
-//! of it lasts, and a benefit is 100 times the effect; uses are whole units.
+//! of it lasts, and a benefit is 100 times the effect.
 
 mod common;
 
@@ -121,6 +121,8 @@ fn limits_that_are_exceeded() {
                 NoGreater,
                 // 0, 0 and 8.
                 OverBeside { resource: 3 },
+                // 0, 6.001 and 0. It gains less than strategy 1 too.
+                OverBeside { resource: 2 },
             ],
         );
     }
@@ -172,11 +174,11 @@ fn numbers_that_there_are_not() {
     let unit = holding(&reasons::limits());
     for segment in [0, 3, 257, 1 << 32, u64::MAX] {
         // The segment is looked at first.
-        for strategy in [0, 1, 10, u64::MAX] {
+        for strategy in [0, 1, 11, u64::MAX] {
             assert_eq!(unit.why(segment, strategy), Err(Refusal::Segment));
         }
     }
-    for strategy in [0, 10, 257, 1 << 32 | 1, u64::MAX] {
+    for strategy in [0, 11, 257, 1 << 32 | 1, u64::MAX] {
         assert_eq!(unit.why(1, strategy), Err(Refusal::Number));
     }
     assert_eq!(Unit::fresh().why(1, 1), Err(Refusal::Segment));
@@ -187,7 +189,9 @@ fn nothing_is_altered() {
     for district in [reasons::demands(), reasons::limits()] {
         let unit = holding(&district);
         let before = unit.clone();
-        (0..4).for_each(|i| (0..12).for_each(|j| drop(unit.why(i, j))));
+        for (i, j) in (0..4).flat_map(|i| (0..12).map(move |j| (i, j))) {
+            let _ = unit.why(i, j);
+        }
         assert_eq!(unit, before);
     }
 }
