@@ -332,19 +332,19 @@ pub fn set_limits(random: &mut Random, district: &mut District) {
 /// same strategy: minima of any distress type and year that some strategies
 /// reach and some miss, overall requirements likewise, gains of 0 and losses,
 /// strategies that no limit or just one has room for, and limits that the
-/// programme fills. Sizes and requirements are round, so that uses are whole
-/// units and limits can be met exactly.
+/// programme fills. Most often sizes are round, so that uses are whole units
+/// and limits can be met exactly.
 pub fn telling_district(random: &mut Random) -> District {
     let shape = Shape {
-        segments: random.size(1, 5),
-        strategies: random.size(2, 9),
+        segments: random.size(2, 6),
+        strategies: random.size(3, 11),
         years: random.size(1, 4),
         distress_types: random.size(1, 4),
-        pavement_types: random.size(1, 3),
+        pavement_types: random.size(1, 4),
         resources: random.size(1, 4),
     };
     let cells = shape.distress_types * shape.years;
-    let demanding = random.below(3);
+    let round = random.chance(70);
     let strategies = (0..shape.strategies)
         .map(|_| {
             let manner = random.below(12);
@@ -362,14 +362,14 @@ pub fn telling_district(random: &mut Random) -> District {
         })
         .collect();
     let types = (0..shape.pavement_types)
-        .map(|_| PavementType {
-            overall: match random.below(4) {
+        .map(|_| {
+            let demanding = *random.pick(&[0, 0, 1, 2, 3]);
+            let overall = match random.below(4) {
                 0 => 12 * shape.distress_types as u16 + random.within(0, 9) as u16,
                 _ => 0,
-            },
-            minimum: (0..cells)
-                .map(|_| if random.below(6) < demanding { random.within(4, 14) as u8 } else { 0 })
-                .collect(),
+            };
+            let minimum = |_| if random.below(6) < demanding { random.within(4, 14) as u8 } else { 0 };
+            PavementType { overall, minimum: (0..cells).map(minimum).collect() }
         })
         .collect();
     let segments = (0..shape.segments)
@@ -377,7 +377,7 @@ pub fn telling_district(random: &mut Random) -> District {
             pavement: random.size(1, shape.pavement_types) as u8,
             traffic: 100,
             environment: *random.pick(&[100, 100, 125]),
-            length: 100 * random.within(1, 3) as u16,
+            length: if round { 100 * random.within(1, 3) as u16 } else { random.within(90, 310) as u16 },
             width: *random.pick(&[2, 4]),
             bars: random.draw() as u16 & random.draw() as u16 & random.draw() as u16 & ((1 << shape.strategies) - 1),
             ratings: (0..shape.distress_types).map(|_| random.within(4, 16) as u8).collect(),
@@ -391,29 +391,43 @@ pub fn telling_district(random: &mut Random) -> District {
         types,
         segments,
     };
-    // Near what one strategy on one segment uses, or what a programme uses.
-    let wanted = wanted(&district);
-    for (limit, whole) in district.limits.iter_mut().zip(wanted) {
-        let whole = (whole / 100_000) as u32;
-        *limit = match random.below(10) {
+    let any = |random: &mut Random| (random.size(0, shape.segments - 1), random.size(1, shape.strategies) as u8);
+    for (r, wanted) in wanted(&district).into_iter().enumerate() {
+        let whole = (wanted / 100_000) as u32;
+        district.limits[r] = match random.below(10) {
             0 => random.within(0, 4) as u32,
-            1 | 2 => random.within(8, 32) as u32,
+            1 | 2 => {
+                let (i, j) = any(random);
+                (use_of(&district, &[(i, j)], r) / 100_000) as u32
+            }
             3 => whole,
             4 | 5 => LIMIT_MOST,
             _ => whole * random.within(30, 100) as u32 / 100,
         };
     }
-    // Most often some limits are lowered to just what the programme uses then.
-    let programme = plan(&district).strategies;
+    // Then some limits are put where the programme just fits, or where one with
+    // another strategy just fits or just doesn't.
+    let mut programme: Vec<(usize, u8)> =
+        plan(&district).strategies[..shape.segments].iter().copied().enumerate().collect();
     for r in 0..shape.resources {
-        if random.chance(40) {
-            let taken = district.segments.iter().zip(programme).filter(|&(_, j)| j > 0);
-            let used = taken.map(|(segment, j)| rating::usage(segment, &district.strategies[usize::from(j) - 1], r));
-            let used = used.sum::<u64>().div_ceil(100_000) as u32;
-            district.limits[r] = used;
+        match random.below(10) {
+            0..=3 => district.limits[r] = use_of(&district, &programme, r).div_ceil(100_000) as u32,
+            4 | 5 => {
+                let (i, j) = any(random);
+                let held = std::mem::replace(&mut programme[i], (i, j));
+                district.limits[r] = (use_of(&district, &programme, r) / 100_000) as u32;
+                programme[i] = held;
+            }
+            _ => {}
         }
     }
     district
+}
+
+/// What strategies on segments use of a resource; strategy 0 is nothing.
+fn use_of(district: &District, taken: &[(usize, u8)], r: usize) -> u64 {
+    let used = taken.iter().filter(|one| one.1 > 0);
+    used.map(|&(i, j)| rating::usage(&district.segments[i], &district.strategies[usize::from(j) - 1], r)).sum()
 }
 
 /// Some strategy of the plan would take more from a rating than there is.
@@ -753,7 +767,7 @@ fn asking_script(random: &mut Random) -> Script {
 }
 
 pub fn script(random: &mut Random) -> Script {
-    if random.chance(30) {
+    if random.chance(40) {
         return asking_script(random);
     }
     let mut files = Vec::new();

@@ -4,6 +4,11 @@
 
 use crate::district::*;
 
+/// Both, with the names under which they are stored.
+pub fn districts() -> [(&'static str, District); 2] {
+    [("demands", demands()), ("limits", limits())]
+}
+
 /// Segments in which demands decide: minimum ratings missed by either distress
 /// type in either year, requirements missed, benefits of 0 and below.
 pub fn demands() -> District {

@@ -7,10 +7,12 @@ mod common;
 
 use common::card_bytes;
 use reference::district::District;
+use reference::random::Random;
 use reference::refusal::Refusal;
 use reference::unit::Unit;
 use reference::why::Reason::{self, *};
-use reference::{file, reasons};
+use reference::{file, make, reasons};
+use std::collections::BTreeSet;
 
 fn holding(district: &District) -> Unit {
     let mut unit = Unit::fresh();
@@ -182,6 +184,28 @@ fn numbers_that_there_are_not() {
         assert_eq!(unit.why(1, strategy), Err(Refusal::Number));
     }
     assert_eq!(Unit::fresh().why(1, 1), Err(Refusal::Segment));
+}
+
+/// Made districts show every reason, with the first and with later numbers.
+#[test]
+fn made_districts_have_every_reason() {
+    let mut random = Random::new(31);
+    let mut seen = BTreeSet::new();
+    for _ in 0..200 {
+        let unit = holding(&make::telling_district(&mut random));
+        let (n, s) = (unit.district().segments.len() as u64, unit.district().strategies.len() as u64);
+        for (i, j) in (1..=n).flat_map(|i| (1..=s).map(move |j| (i, j))) {
+            let reason = unit.why(i, j).unwrap();
+            let later = match reason {
+                MinimumMissed { distress, year } => (distress > 1, year > 1),
+                OverAlone { resource } | OverBeside { resource } => (resource > 1, false),
+                _ => (false, false),
+            };
+            seen.insert((reason.number(), later));
+        }
+    }
+    // Five reasons without a number, one with two numbers, two with one.
+    assert_eq!(seen.len(), 5 + 4 + 2 * 2, "{seen:?}");
 }
 
 #[test]

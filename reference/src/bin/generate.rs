@@ -16,7 +16,7 @@ const USAGE: &str = "usage:
   generate scripts --count N --seed S --out DIR   panel scripts, each in a folder with its files
   generate series  --seed S --out DIR             districts that grow in N, in S and in R
   generate example                                the report's example problem, to standard output
-  generate reasons --out DIR                      the stored districts that the console is asked about
+  generate reasons --out DIR                      the districts whose reasons are stored, for the console
   generate vectors                                the stored lists of calls as frames, to standard output
   generate walls   --out DIR                      the districts whose pages are stored, for the console
 ";
@@ -42,8 +42,8 @@ fn run(arguments: &[String]) -> Result<(), String> {
         "scripts" => scripts(count, seed, Path::new(given.needed("out")?)),
         "series" => series(seed, Path::new(given.needed("out")?)),
         "example" => io::stdout().write_all(&file::encode(&example::district())),
-        "walls" => walls(Path::new(given.needed("out")?)),
-        "reasons" => why(Path::new(given.needed("out")?)),
+        "walls" => named(vectors::walls(), Path::new(given.needed("out")?)),
+        "reasons" => named(reasons::districts(), Path::new(given.needed("out")?)),
         "vectors" => io::stdout().write_all(&vectors::frames()),
         _ => return Err(format!("unknown argument {what}")),
     }
@@ -79,9 +79,10 @@ fn scripts(count: u64, seed: u64, out: &Path) -> io::Result<()> {
     Ok(())
 }
 
-fn walls(out: &Path) -> io::Result<()> {
+/// Districts under names of their own.
+fn named<'a>(districts: impl IntoIterator<Item = (&'a str, District)>, out: &Path) -> io::Result<()> {
     fs::create_dir_all(out)?;
-    for (name, district) in vectors::walls() {
+    for (name, district) in districts {
         fs::write(out.join(name), file::encode(&district))?;
     }
     Ok(())
@@ -102,12 +103,6 @@ fn series(seed: u64, out: &Path) -> io::Result<()> {
         write_cut(&whole, Shape { resources: r, ..make::WIDEST }, &out.join(format!("r{r:02}.bin")))?;
     }
     Ok(())
-}
-
-fn why(out: &Path) -> io::Result<()> {
-    fs::create_dir_all(out)?;
-    fs::write(out.join("demands"), file::encode(&reasons::demands()))?;
-    fs::write(out.join("limits"), file::encode(&reasons::limits()))
 }
 
 fn write_cut(whole: &District, shape: Shape, path: &Path) -> io::Result<()> {
