@@ -5,9 +5,9 @@
 //! file follows and whose first number is the file's length; 1 an export, whose
 //! first number is its room, cut to that of the longest file; 2 bar, 3 unbar,
 //! 4 set limit, 5 set rating, 6 a show; 8 a page, whose first number is its
-//! room, cut to that of the longest page. Survey points, 7, change nothing and
-//! count as a show, as does any other kind. The list ends where no whole call
-//! is left.
+//! room, cut to that of the longest page; 9 why, which answers its refusal only.
+//! Survey points, 7, change nothing and count as a show, as does any other kind.
+//! The list ends where no whole call is left.
 
 use crate::file;
 use crate::listing::listing;
@@ -27,6 +27,7 @@ pub enum Call {
     SetRating(u32, u32, u32),
     Show,
     Page(u32),
+    Why(u32, u32),
 }
 
 impl Call {
@@ -47,6 +48,7 @@ impl Call {
             Call::SetRating(i, k, rating) => head(5, [*i, *k, *rating]),
             Call::Show => head(6, [0; 3]),
             Call::Page(room) => head(8, [*room, 0, 0]),
+            Call::Why(i, j) => head(9, [*i, *j, 0]),
         }
     }
 
@@ -65,6 +67,7 @@ impl Call {
             4 => Call::SetLimit(a, b),
             5 => Call::SetRating(a, b, c),
             8 => Call::Page(a),
+            9 => Call::Why(a, b),
             _ => Call::Show,
         };
         Some((call, rest))
@@ -80,6 +83,7 @@ impl Call {
             Call::SetRating(i, k, rating) => unit.set_rating((*i).into(), (*k).into(), (*rating).into()),
             Call::Show => Ok(()),
             Call::Page(room) => unit.page(&mut vec![0; page::LONGEST.min(*room as usize)]).map(|_| ()),
+            Call::Why(i, j) => unit.why((*i).into(), (*j).into()).map(|_| ()),
         }
     }
 }

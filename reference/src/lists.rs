@@ -58,6 +58,7 @@ fn call(random: &mut Random, held: &District) -> Call {
         }
         89..=92 => Call::Export(room(random, file::encode(held).len(), file::LONGEST)),
         93..=95 => Call::Page(room(random, (n + 3) * page::LINE, page::LONGEST)),
+        96..=97 => Call::Why(number(random, n), number(random, s)),
         _ => Call::Show,
     }
 }

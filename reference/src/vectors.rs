@@ -39,6 +39,7 @@ fn scripts() -> Vec<Vec<u8>> {
     ends_of_ranges(&mut cases);
     refused_exports(&mut cases);
     refused_pages(&mut cases);
+    refused_whys(&mut cases);
     what_a_refusal_leaves(&mut cases);
     long_lists(&mut cases);
     ends_of_fields(&mut cases);
@@ -90,7 +91,7 @@ fn beginnings(cases: &mut Cases) {
     // A file that claims more bytes than follow, and far more.
     cases.scripts.push([&whole[..], &[0, 1, 0, 0, 0, 0, 0, 0, 0, 0, 0, 0, 0]].concat());
     cases.scripts.push([&whole[..], &[0, 255, 255, 255, 255, 0, 0, 0, 0, 0, 0, 0, 0, 9]].concat());
-    for kind in [6, 7, 8, 128, 255] {
+    for kind in [6, 7, 8, 9, 128, 255] {
         cases.scripts.push([&whole[..], &[kind, 9, 9, 9, 9, 9, 9, 9, 9, 9, 9, 9, 9]].concat());
     }
     cases.list(&[Call::Show]);
@@ -383,6 +384,22 @@ fn refused_pages(cases: &mut Cases) {
     }
 }
 
+/// Why answers 6 and 7, the segment first, or gives a reason; it changes nothing.
+fn refused_whys(cases: &mut Cases) {
+    cases.list(&[Call::Why(1, 1)]);
+    let district = two_of_each();
+    for number in [0, 3, 257, u32::MAX] {
+        for call in [Call::Why(number, 1), Call::Why(2, number), Call::Why(number, number)] {
+            cases.after(&district, &[call]);
+        }
+    }
+    for call in [Call::Why(1, 1), Call::Why(1, 2), Call::Why(2, 1), Call::Why(2, 2)] {
+        cases.after(&district, &[Call::Bar(1, 2), Call::SetLimit(1, 9), call]);
+    }
+    cases.after(&district, &[Call::Why(3, 1), Call::Show]);
+    cases.after(&district, &[Call::Why(3, 1), Call::Why(1, 1)]);
+}
+
 /// Refused calls of every kind leave district and programme as they were.
 fn what_a_refusal_leaves(cases: &mut Cases) {
     let district = two_of_each();
@@ -395,6 +412,7 @@ fn what_a_refusal_leaves(cases: &mut Cases) {
         Call::SetRating(1, 1, 51),
         Call::Export(1),
         Call::Page(1),
+        Call::Why(1, 3),
     ];
     for call in &refused {
         cases.after(&district, &[call.clone(), Call::Show]);

@@ -57,6 +57,8 @@ fn vectors_answers_lists_of_calls() {
         load.clone(),
         encode(&[Call::Load(card_bytes()), Call::Bar(3, 1)]),
         encode(&[Call::Load(card_bytes()), Call::Bar(3, 1), Call::Show]),
+        encode(&[Call::Load(card_bytes()), Call::Why(2, 3)]),
+        encode(&[Call::Load(card_bytes()), Call::Why(2, 2)]),
         // No whole call is left: the load, then nothing.
         [&load[..], &[2, 2, 0, 0, 0, 2]].concat(),
         load[..load.len() - 1].to_vec(),
@@ -64,7 +66,8 @@ fn vectors_answers_lists_of_calls() {
     let mut input = Vec::new();
     lists.iter().for_each(|list| frames::put(&mut input, list));
     let nothing = "benefit 0\nceiling 0\nsteps 0 0 0\n";
-    let expected = [CARD_LISTING, "refused 6\n", CARD_LISTING, CARD_LISTING, nothing].concat();
+    let expected =
+        [CARD_LISTING, "refused 6\n", CARD_LISTING, "refused 7\n", CARD_LISTING, CARD_LISTING, nothing].concat();
     assert_eq!(String::from_utf8(output_of(vectors, &[], &input)).unwrap(), expected);
 }
 
