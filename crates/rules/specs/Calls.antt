@@ -1,6 +1,6 @@
--- Document 01, "The calls" and "Where a call is refused", with the page of document 02's request 2: what each call answers, and what unit and
+-- Document 01, "The calls" and "Where a call is refused", with the page and the reasons of document 02: what each call answers, and what unit and
 -- buffer then hold.
-use Prim.Native.Nat.{ℕ, _+_, _-_}
+use Prim.Native.Nat.{ℕ, zero, suc, _+_, _-_}
 use mathlib.Core.List.{List, [], _++_}
 use lib.Dec.{leb}
 use lib.ListN.{length, drop}
@@ -9,13 +9,17 @@ use Rattle.rules.specs.Format.{inside, limitRange, ratingRange}
 use Rattle.rules.specs.File.{Read, refused, found, decode, encode}
 use Rattle.rules.specs.Plan.{planOf}
 use Rattle.rules.specs.Page.{page, pageLength}
+use Rattle.rules.specs.Reasons.{reasonFor}
 use Rattle.rules.specs.Answers.{noSuchSegment, noSuchNumber, newOutOfRange, bufferTooShort, noRoomForPage, unless, oneTo, answerOf, accepting}
 use Rattle.rules.specs.declared.Edit.{Edit}
 use Rattle.rules.specs.declared.Edit.the-variants.{Bar, Unbar, SetLimit, SetRating}
 use Rattle.rules.specs.declared.Programme.{Programme}
 use Rattle.rules.specs.declared.Unit.{Unit}
+use Rattle.rules.specs.declared.Reason.{Reason}
 use Rattle.rules.specs.declared.Reply.{Reply}
 use Rattle.rules.specs.declared.Answer.{Answer}
+use Rattle.rules.specs.declared.Why.{Why}
+use Rattle.rules.specs.declared.Why.the-variants.{Because, Refused}
 
 -- ---- the refusal of each call, the first condition that it meets
 
@@ -87,7 +91,7 @@ loadOf u file = answered u (loadRefusal file) (districtIn file)
 unfoldable pub alterOf : Unit → Edit → Reply
 alterOf u e = answered u (editRefusal (u .district) e) (edited (u .district) e)
 
--- ---- export, page and show, which leave the unit as it is
+-- ---- export, page, show and why, which leave the unit as it is
 
 -- the answer of a call that writes into a buffer, and what that then holds
 pub record Export : Type 0 where
@@ -107,3 +111,12 @@ pageOf u buffer = exported (pageRefusal (u .district) buffer) (page (u .district
 
 unfoldable pub showOf : Unit → Programme
 showOf u = u .programme
+
+-- a reason where nothing refuses the question, else the refusal's number
+unfoldable pub explained : ℕ → Reason → Why
+explained zero reason = Because reason
+explained (suc n) reason = Refused (suc n)
+
+-- the refusals are those of a bar
+unfoldable pub whyOf : Unit → ℕ → ℕ → Why
+whyOf u i j = explained (barRefusal (u .district) i j) (reasonFor (u .district) (u .programme .strategies) i j)

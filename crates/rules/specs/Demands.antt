@@ -20,7 +20,7 @@ use Rattle.rules.specs.Plan.{reduced, filled, improved, programmeOf}
 use Rattle.rules.specs.Answers.{noSuchPoints}
 use Rattle.rules.specs.Survey.{blockOf, pointsOf, surveyRefusal, surveyOf}
 use Rattle.rules.specs.Calls.{loadRefusal, loadOf, Export, exportOf, showOf}
-use Rattle.rules.specs.Lists.{Call, Load, Alter, ExportTo, PageTo, Show, refusalOf, altered, lentTo, outcomeOf, districtAfter, unitAfter}
+use Rattle.rules.specs.Lists.{Call, Load, Alter, ExportTo, PageTo, Show, AskWhy, refusalOf, altered, lentTo, outcomeOf, districtAfter, unitAfter}
 use Rattle.rules.specs.declared.Programme.{Programme}
 use Rattle.rules.specs.declared.Unit.{Unit}
 use Rattle.rules.specs.declared.Answer.the-variants.{Accepted, Refused}
@@ -34,6 +34,7 @@ returned d (Alter e) = 0
 returned d (ExportTo buffer) = length (encode d)
 returned d (PageTo buffer) = pageLength d
 returned d Show = 0
+returned d (AskWhy i j) = 0
 
 -- of a unit in any state and any call; the programme that goes with the district held is Calls.unitOf's, and Demand 2 has it after any list
 pub record Settled (u : Unit) (c : Call) : Type 0 where

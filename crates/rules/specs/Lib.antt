@@ -7,6 +7,7 @@ pub mod Phases
 pub mod Ceiling
 pub mod Plan
 pub mod Page
+pub mod Reasons
 pub mod Answers
 pub mod Survey
 pub mod Calls

@@ -49,6 +49,25 @@ pub enum Edit {
     SetRating(usize, usize, usize),
 }
 
+// Why a segment has, or has not, a strategy. A minimum missed names distress and year, a limit passed the resource:
+// passed by the strategy alone, or beside what the other segments have.
+pub enum Reason {
+    InProgramme,
+    Barred,
+    MinimumMissed(usize, usize),
+    OverallMissed,
+    NoBenefit,
+    OverAlone(usize),
+    OverBeside(usize),
+    NoGreaterTotal,
+}
+
+// What the question why returns: a reason, or the number of a refusal.
+pub enum Why {
+    Because(Reason),
+    Refused(usize),
+}
+
 // What a call returns: a value (0, a length, points), or the number of a refusal.
 pub enum Answer {
     Accepted(usize),
