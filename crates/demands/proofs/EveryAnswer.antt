@@ -11,7 +11,7 @@ use Rattle.base.specs.Over.{between}
 use Rattle.rules.specs.District.{District}
 use Rattle.rules.specs.Answers.{noSuchPoints, unless, answerOf, accepting}
 use Rattle.rules.specs.Calls.{unitOf, answered, loadOf, alterOf, exported, exportOf, pageOf}
-use Rattle.rules.specs.Lists.{Load, Alter, ExportTo, PageTo, Show, refusalOf, altered, Outcome, outcomeOf, lentTo, replied, written}
+use Rattle.rules.specs.Lists.{Load, Alter, ExportTo, PageTo, Show, AskWhy, refusalOf, altered, Outcome, outcomeOf, lentTo, replied, written}
 use Rattle.rules.specs.Demands.{returned, EveryAnswer, EveryPoints}
 use Rattle.rules.specs.Survey.{blockOf, pointsOf, surveyRefusal, surveyOf}
 use Rattle.laws.proofs.Page.{page-length}
@@ -54,6 +54,12 @@ module _ (u : Unit) (bytes : List ℕ) where
   export-refused zero file m e = absurd (omega arith)
   export-refused (suc n) file m e = rw e
 
+-- a question, which is lent no bytes
+ask-refused : (u : Unit) (n m : ℕ) → n ≡ suc m → record { answer = answerOf n 0; unit = u; bytes = [] } ≡ refusedWith u [] (suc m)
+unfolding answerOf
+ask-refused u zero m e = absurd (omega arith)
+ask-refused u (suc n) m e = rw e
+
 pub every-answer : EveryAnswer
 unfolding refusalOf altered outcomeOf lentTo returned loadOf alterOf exportOf pageOf
 every-answer u (Load file) =
@@ -69,6 +75,7 @@ every-answer u (PageTo buffer) =
       refused = export-refused u buffer _ _;
     }
 every-answer u Show = record { accepted = λ e. refl; held = λ e. refl; refused = λ n e. absurd (omega arith) }
+every-answer u (AskWhy i j) = record { accepted = accepted-answer _ 0; held = λ e. refl; refused = ask-refused u _ }
 
 -- survey points
 

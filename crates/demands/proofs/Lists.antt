@@ -10,7 +10,7 @@ use Rattle.rules.specs.Table.{tableOf}
 use Rattle.rules.specs.Plan.{programmeOf, planOf}
 use Rattle.rules.specs.Answers.{accepting}
 use Rattle.rules.specs.Calls.{unitOf, freshUnit, answered, loadOf, alterOf, showOf}
-use Rattle.rules.specs.Lists.{Call, Load, Alter, ExportTo, PageTo, Show, refusalOf, altered, districtFrom, districtAfter, outcomeOf, unitFrom, unitAfter}
+use Rattle.rules.specs.Lists.{Call, Load, Alter, ExportTo, PageTo, Show, AskWhy, refusalOf, altered, districtFrom, districtAfter, outcomeOf, unitFrom, unitAfter}
 use Rattle.rules.specs.declared.Unit.{Unit}
 use Rattle.grammar.proofs.Edits.{edit-kept}
 use Rattle.grammar.proofs.Fresh.{fresh-in-range}
@@ -39,6 +39,7 @@ unit-next d (Alter e) = accepting-unit d (refusalOf d (Alter e)) (altered d (Alt
 unit-next d (ExportTo buffer) = rw (accepting-same d (refusalOf d (ExportTo buffer)))
 unit-next d (PageTo buffer) = rw (accepting-same d (refusalOf d (PageTo buffer)))
 unit-next d Show = rw (accepting-same d 0)
+unit-next d (AskWhy i j) = rw (accepting-same d (refusalOf d (AskWhy i j)))
 
 unit-from : (d : District) (cs : List Call) → unitFrom (unitOf d) cs ≡ unitOf (districtFrom d cs)
 unfolding unitFrom districtFrom
@@ -63,6 +64,7 @@ altered-in d (Alter e) ok none = edit-kept d e ok none
 altered-in d (ExportTo buffer) ok none = ok
 altered-in d (PageTo buffer) ok none = ok
 altered-in d Show ok none = ok
+altered-in d (AskWhy i j) ok none = ok
 
 next-in : (d : District) (c : Call) → inRange d ≡ true → inRange (next d c) ≡ true
 unfolding accepting
