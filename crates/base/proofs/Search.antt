@@ -1,6 +1,7 @@
 -- Laws of the search for the first of many.
 use Prim.Native.Nat.{ℕ, zero, suc, _≤_, _<_}
 use mathlib.Core.Path.{_≡_, refl, subst}
+use mathlib.Core.Logic.{_⊎_, inl, inr, ⊎-elim}
 use mathlib.Core.Bool.{Bool, true, false}
 use mathlib.Core.Option.{Option, none, some}
 use native.Mathlib.Omega.{arith}
@@ -18,6 +19,15 @@ orElse-right (some a) y e = cc
 
 pub orElse-none : {A : Type 0} (x y : Option A) → orElse x y ≡ none → (x ≡ none) × (y ≡ none)
 orElse-none x y e = (orElse-left x y e, orElse-right x y e)
+
+-- what is found of two is the first, or the second where the first is nothing
+orElse-found : {A : Type 0} (x y : Option A) {a : A} → orElse x y ≡ some a → (x ≡ some a) ⊎ ((x ≡ none) × (y ≡ some a))
+orElse-found (some b) y e = inl e
+orElse-found none y e = inr (refl, e)
+
+pub orElse-assoc : {A : Type 0} (x y z : Option A) → orElse (orElse x y) z ≡ orElse x (orElse y z)
+orElse-assoc (some a) y z = refl
+orElse-assoc none y z = refl
 
 pub only-none : {A : Type 0} (t : Bool) (x : A) → only t x ≡ none → t ≡ false
 only-none true x e = cc
@@ -50,6 +60,26 @@ first-at (suc n) f e k l h =
     up-to h
     (λ q. rw q (orElse-right (first n f) (f (suc n)) e))
     (λ u. first-at n f (orElse-left (first n f) (f (suc n)) e) k l u)
+
+-- where a search for the first ended: something is there, and nothing before it
+pub record Ended {A : Type 0} (n : ℕ) (f : ℕ → Option A) (a : A) : Type 0 where
+  pub at : ℕ
+  pub low : 1 ≤ at
+  pub high : at ≤ n
+  pub found : f at ≡ some a
+  pub before : (k : ℕ) → 1 ≤ k → k < at → f k ≡ none
+
+pub first-ended : {A : Type 0} (n : ℕ) (f : ℕ → Option A) (a : A) → first n f ≡ some a → Ended n f a
+unfolding first
+first-ended zero f a e = absurd (let z : _≡_ {A = ℕ} 0 1 = cc in omega arith)
+first-ended (suc n) f a e =
+    ⊎-elim
+    (λ here.
+    let w = first-ended n f a here in
+    record { at = w .at; low = w .low; high = omega arith; found = w .found; before = w .before })
+    (λ last.
+    record { at = suc n; low = omega arith; high = omega arith; found = last .1; before = λ k l h. first-at n f (last .0) k l (omega arith) })
+    (orElse-found (first n f) (f (suc n)) e)
 
 -- what holds of each that is something holds of the first
 module _ {A : Type 0} (Q : A → Type 0) where

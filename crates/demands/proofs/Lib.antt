@@ -5,3 +5,5 @@ pub mod TheRules
 pub mod OneClaim
 pub mod RatingsOnScale
 pub mod EveryPage
+pub mod EveryReason
+pub mod OneHolds

@@ -22,13 +22,13 @@ use Rattle.theorems.proofs.Covers.{covers}
 use Rattle.theorems.proofs.Entries.{has-both, limit-is}
 use Rattle.theorems.proofs.Totals.{Numbers, uses-are}
 
-module _ (d : District) (c : ℕ → ℕ) (feasible : Feasible d c) where
+module _ (d : District) (c : ℕ → ℕ) (permits : allPermitted d c ≡ true) where
   -- the strategy of a segment is nothing, or permitted
   given-by :
       (P : ℕ → Type 0) (i : ℕ) → 1 ≤ i → i ≤ segmentsOf d → P 0
       → ((j : ℕ) → 1 ≤ j → j ≤ strategiesOf d → permitted d i j ≡ true → c i ≡ j → P j) → P (c i)
   unfolding allPermitted permittedAt
-  given-by P i l h none some = go (c i) refl (all-at (segmentsOf d) (permittedAt d c) (feasible .permitted) i l h)
+  given-by P i l h none some = go (c i) refl (all-at (segmentsOf d) (permittedAt d c) permits i l h)
     where
       go : (j : ℕ) → c i ≡ j → (eqb (c i) 0 || (leb (c i) (strategiesOf d) && permitted d i (c i))) ≡ true → P j
       go zero e ok = none
@@ -36,9 +36,10 @@ module _ (d : District) (c : ℕ → ℕ) (feasible : Feasible d c) where
           let w = and-both (leb (suc j) (strategiesOf d)) (permitted d i (suc j)) (rw (e, ne-eqb (suc j) 0 (λ z. omega arith)) at ok) in
           some (suc j) (omega arith) (leb-true (suc j) (strategiesOf d) (w .0)) (w .1) e
 
-  numbers : Numbers d c
+  pub numbers : Numbers d c
   numbers i l h = given-by (λ j. j ≤ strategiesOf d) i l h (omega arith) (λ j lj hj ok e. hj)
 
+module _ (d : District) (c : ℕ → ℕ) (feasible : Feasible d c) where
   within-limit : (r : ℕ) → 1 ≤ r → r ≤ resourcesOf d → sum (segmentsOf d) (usageBy d c r) ≤ scaledLimit d r
   unfolding withinLimits withinLimit
   within-limit r lr hr =
@@ -48,8 +49,8 @@ module _ (d : District) (c : ℕ → ℕ) (feasible : Feasible d c) where
   unfolding tableOf
   feasible-rival =
       record {
-        numbers = numbers;
-        within = λ r lr hr. rw (← uses-are d c numbers r lr hr, limit-is d r lr hr) (within-limit r lr hr);
+        numbers = numbers d c (feasible .permitted);
+        within = λ r lr hr. rw (← uses-are d c (numbers d c (feasible .permitted)) r lr hr, limit-is d r lr hr) (within-limit r lr hr);
       }
 
   alone : (i : ℕ) → 1 ≤ i → i ≤ segmentsOf d → fitsAlone d i (c i) ≡ true
@@ -61,7 +62,7 @@ module _ (d : District) (c : ℕ → ℕ) (feasible : Feasible d c) where
   benefit-le : (i : ℕ) → 1 ≤ i → i ≤ segmentsOf d → benefit d i (c i) ≤ℤ pos (candidateBenefit d i (c i))
   unfolding benefit
   benefit-le i l h =
-      given-by (λ j. benefit d i j ≤ℤ pos (candidateBenefit d i j)) i l h (leZ-yes (le→leb 0 (candidateBenefit d i 0) (omega arith)))
+      given-by d c (feasible .permitted) (λ j. benefit d i j ≤ℤ pos (candidateBenefit d i j)) i l h (leZ-yes (le→leb 0 (candidateBenefit d i 0) (omega arith)))
       (λ j lj hj ok e. covers d i j (has-both d i j l h lj hj) ok (rw e at (alone i l h)))
 
   pub feasible-total : totalOf d c ≤ℤ pos (totalBy (tableOf d) c)

@@ -16,3 +16,5 @@ pub mod Promises
 pub mod Scale
 pub mod Lines
 pub mod Columns
+pub mod Reasons
+pub mod LastReason

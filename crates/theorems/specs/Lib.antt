@@ -1,3 +1,4 @@
 pub mod Rivals
 pub mod Scale
 pub mod Columns
+pub mod Reasons
