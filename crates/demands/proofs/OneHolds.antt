@@ -2,16 +2,11 @@
 -- first that holds.
 use Prim.Native.Nat.{ℕ, _≤_}
 use mathlib.Core.Path.{_≡_, refl}
-use mathlib.Core.Bool.{Bool, true, false}
+use mathlib.Core.Bool.{true}
 use mathlib.Core.Option.{Option, none, some}
 use native.Mathlib.Omega.{arith}
-use borrow.Author.Tests.{leb-true}
-use lib.Dec.{leb}
 use lib.ListN.{length}
-use Rattle.base.specs.Over.{between}
-use Rattle.base.proofs.Choice.{and-both}
-use Rattle.rules.specs.District.{District, mostSegments, segmentsOf, strategiesOf}
-use Rattle.rules.specs.Answers.{noSuchSegment, noSuchNumber}
+use Rattle.rules.specs.District.{District, mostSegments, segmentsOf}
 use Rattle.rules.specs.File.{inRange}
 use Rattle.rules.specs.Reasons.{orLast, hindrance, reasonFor}
 use Rattle.rules.specs.Calls.{barRefusal, showOf}
@@ -22,20 +17,11 @@ use Rattle.rules.specs.declared.Reason.{Reason}
 use Rattle.theorems.specs.Reasons.{Explained, OneHolds}
 use Rattle.theorems.proofs.Reasons.{explained-some}
 use Rattle.theorems.proofs.LastReason.{last-explained}
+use Rattle.grammar.proofs.Edits.{bar-numbers}
 use Rattle.grammar.proofs.InRanges.{in-ranges}
 use Rattle.demands.proofs.EveryReason.{why-accepted}
 use Rattle.demands.proofs.Lists.{after-in, district-after}
 use Rattle.demands.proofs.OneClaim.{one-claim}
-
--- a question that is not refused is about a segment and a strategy of the district
-asked-of : (d : District) (i j : ℕ) → barRefusal d i j ≡ 0 → (between 1 (segmentsOf d) i ≡ true) × (between 1 (strategiesOf d) j ≡ true)
-unfolding barRefusal
-asked-of d i j e = go (between 1 (segmentsOf d) i) refl (between 1 (strategiesOf d) j) refl
-  where
-    go : (s : Bool) → between 1 (segmentsOf d) i ≡ s → (t : Bool) → between 1 (strategiesOf d) j ≡ t → (between 1 (segmentsOf d) i ≡ true) × (between 1 (strategiesOf d) j ≡ true)
-    go true f true g = (f, g)
-    go true f false g = absurd (let z : _≡_ {A = ℕ} noSuchNumber 0 = rw (f, g) at e in omega arith)
-    go false f t g = absurd (let z : _≡_ {A = ℕ} noSuchSegment 0 = rw f at e in omega arith)
 
 module _ (d : District) (p : Programme) (i j : ℕ) (sound : Sound d p) (room : segmentsOf d ≤ length (p .strategies)) (ok : inRange d ≡ true) where
   reason-explained : barRefusal d i j ≡ 0 → Explained d (p .strategies) i j (reasonFor d (p .strategies) i j)
@@ -45,10 +31,8 @@ module _ (d : District) (p : Programme) (i j : ℕ) (sound : Sound d p) (room : 
       go : (o : Option Reason) → hindrance d (p .strategies) i j ≡ o → Explained d (p .strategies) i j (orLast o)
       go (some r) f = explained-some d (p .strategies) i j r f
       go none f =
-          let w = asked-of d i j e in
-          let x = and-both (leb 1 i) (leb i (segmentsOf d)) (w .0) in
-          let y = and-both (leb 1 j) (leb j (strategiesOf d)) (w .1) in
-          last-explained d p i j sound room (leb-true 1 i (x .0)) (leb-true i (segmentsOf d) (x .1)) (leb-true 1 j (y .0)) (leb-true j (strategiesOf d) (y .1)) f
+          let w = bar-numbers d i j e in
+          last-explained d p i j sound room (w .0) (w .1) (w .2) (w .3) f
 
 pub one-holds : OneHolds
 unfolding showOf

@@ -66,6 +66,13 @@ one-to x count n rest h e =
     let b = and-both (leb 1 x) (leb x count) (u .0) in
     (leb-true 1 x (b .0), leb-true x count (b .1), u .1)
 
+-- a bar that is not refused names a segment and a strategy of the district
+pub bar-numbers : (d : District) (i j : ℕ) → barRefusal d i j ≡ 0 → (1 ≤ i) × (i ≤ segmentsOf d) × (1 ≤ j) × (j ≤ strategiesOf d)
+bar-numbers d i j e =
+    let o = one-to i (segmentsOf d) noSuchSegment (oneTo j (strategiesOf d) noSuchNumber 0) (omega arith) e in
+    let p = one-to j (strategiesOf d) noSuchNumber 0 (omega arith) (o .2) in
+    (o .0, o .1, p .0, p .1)
+
 -- ---- limits
 
 limit-kept : (d : District) (r limit : ℕ) → inRange d ≡ true → limitRefusal d r limit ≡ 0 → inRange (withLimit d r limit) ≡ true
@@ -118,10 +125,7 @@ clear-below mask s n l = pick-all (λ (m : ℕ). m < 2 ^ s) (ltb n 16) (mask - b
 -- the bars of a segment are below 2 ^ S, and any number below is one that they may be
 module _ (d : District) (ok : inRange d ≡ true) (i j : ℕ) (e : barRefusal d i j ≡ 0) where
   numbers : (1 ≤ i) × (i ≤ segmentsOf d) × (1 ≤ j) × (j ≤ strategiesOf d)
-  numbers =
-      let o = one-to i (segmentsOf d) noSuchSegment (oneTo j (strategiesOf d) noSuchNumber 0) (omega arith) e in
-      let p = one-to j (strategiesOf d) noSuchNumber 0 (omega arith) (o .2) in
-      (o .0, o .1, p .0, p .1)
+  numbers = bar-numbers d i j e
 
   as-many : min (strategiesOf d) 16 ≡ strategiesOf d
   as-many = let S = strategies d (in-range d ok) .1 in min-eq-left (omega arith)
