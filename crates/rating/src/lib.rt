@@ -7,7 +7,8 @@ ghost use Rattle.base.specs.Over.{sum, sumZ, minZ, maxZ};
 ghost use Rattle.grammar.specs.Ranges.{Ranges};
 ghost use Rattle.rules.specs.District.{mostYears, gainsAt, percentsAt, minimaAt, barsAt, valueAt, limitPlace, greatestPlace, strategyPlace, pavementPlace, segmentPlace, ratingPlace, gainOf, yearsOf, distressesOf, barredIn};
 ghost use Rattle.rules.specs.Rating.{gain, survival, improvements, rating, effect, area, benefit, usage, scaledLimit, reaches, minimumReached, yearsReached, minimaReached, firstRating, overallReached, permitted, fitsAlone, candidate};
-ghost use Rattle.rules.specs.Table.{has, candidateBenefit, usageIn, limitIn};
+ghost use Rattle.rules.specs.Phases.{chosenUsage, used as Phases·used};
+ghost use Rattle.rules.specs.Table.{has, candidateBenefit, usageIn, limitIn, tableOf};
 ghost use Rattle.rating.specs.Areas.{areaIn, Treats};
 ghost use Rattle.rating.specs.Numbers.{Segment, SegmentOf, Strategy, Distress, Year, Pavement, Resource};
 use rules::District;
@@ -114,7 +115,7 @@ fn greater(a: i64, b: i64) -> i64
 }
 
 // The same on segment i, cut to what is left up to the greatest rating, and to the loss of the whole current one.
-fn gain(d: &District, i: usize, j: usize, k: usize) -> i64
+pub fn gain(d: &District, i: usize, j: usize, k: usize) -> i64
     requires { ⌜ Ranges (now d) × Segment i × Strategy j × Distress k ⌝ }
     ensures { λ g. ⌜ g ≡ gain (now (d .entry)) i j k ⌝ }
 {
@@ -183,7 +184,7 @@ fn area(d: &District, i: usize) -> u64
     (segment_at(d, i, LENGTH) * segment_at(d, i, WIDTH)) as u64
 }
 
-fn benefit(d: &District, i: usize, j: usize) -> i64
+pub fn benefit(d: &District, i: usize, j: usize) -> i64
     requires { ⌜ Ranges (now d) × Segment i × Strategy j ⌝ }
     ensures { λ b. ⌜ b ≡ benefit (now (d .entry)) i j ⌝ }
 {
@@ -192,14 +193,14 @@ fn benefit(d: &District, i: usize, j: usize) -> i64
 
 // ---- uses and limits
 
-fn usage(d: &District, i: usize, j: usize, r: usize) -> u64
+pub fn usage(d: &District, i: usize, j: usize, r: usize) -> u64
     requires { ⌜ Ranges (now d) × Segment i × Strategy j × Resource r ⌝ }
     ensures { λ u. ⌜ u ≡ usage (now (d .entry)) i j r ⌝ }
 {
     area(d, i) * (requirement_at(d, j, r) as u64)
 }
 
-fn scaled_limit(d: &District, r: usize) -> u64
+pub fn scaled_limit(d: &District, r: usize) -> u64
     requires { ⌜ Ranges (now d) × Resource r ⌝ }
     ensures { λ l. ⌜ l ≡ scaledLimit (now (d .entry)) r ⌝ }
 {
@@ -209,7 +210,7 @@ fn scaled_limit(d: &District, r: usize) -> u64
 // ---- permitted
 
 // Bit j − 1 of the segment's bars, by shift and mask.
-fn barred(d: &District, i: usize, j: usize) -> bool
+pub fn barred(d: &District, i: usize, j: usize) -> bool
     requires { ⌜ Segment i × Strategy j ⌝ }
     ensures { λ b. ⌜ b ≡ barredIn (now (d .entry)) i j ⌝ }
 {
@@ -235,7 +236,7 @@ fn rating(d: &District, i: usize, j: usize, k: usize, t: usize, g: i64) -> i64
     (1000000 * rating_at(d, i, k)) as i64 + g * (survival(d, i, j, k, t) as i64)
 }
 
-fn minimum_reached(d: &District, i: usize, j: usize, k: usize, t: usize, g: i64) -> bool
+pub fn minimum_reached(d: &District, i: usize, j: usize, k: usize, t: usize, g: i64) -> bool
     requires { ⌜ Ranges (now d) × SegmentOf (now d) i × Strategy j × Distress k × Year t × (g ≡ gain (now d) i j k) ⌝ }
     ensures { λ b. ⌜ b ≡ minimumReached (now (d .entry)) i j k t ⌝ }
 {
@@ -290,7 +291,7 @@ fn first_ratings(d: &District, i: usize, j: usize) -> i64
     sum
 }
 
-fn overall_reached(d: &District, i: usize, j: usize) -> bool
+pub fn overall_reached(d: &District, i: usize, j: usize) -> bool
     requires { ⌜ Ranges (now d) × SegmentOf (now d) i × Strategy j ⌝ }
     ensures { λ b. ⌜ b ≡ overallReached (now (d .entry)) i j ⌝ }
 {
@@ -408,4 +409,31 @@ pub fn limit_in(d: &District, r: usize) -> u64
         return scaled_limit(d, r);
     }
     0
+}
+
+// ---- what a programme uses of resource r; the strategies that it gives may be any numbers
+
+// By segment i.
+pub fn chosen_usage(d: &District, c: [usize; MOST_SEGMENTS], r: usize, i: usize) -> u64
+    requires { ⌜ Ranges (now d) × Resource r × Segment i ⌝ }
+    ensures { λ u. ⌜ u ≡ chosenUsage (tableOf (now (d .entry))) c r i ⌝ }
+{
+    let j = c[i - 1];
+    let a = area_in(d, i, j);
+    usage_in(d, j, r, a)
+}
+
+// By all segments.
+pub fn used(d: &District, c: [usize; MOST_SEGMENTS], r: usize) -> u64
+    requires { ⌜ Ranges (now d) × Resource r ⌝ }
+    ensures { λ u. ⌜ u ≡ Phases·used (tableOf (now (d .entry))) c r ⌝ }
+{
+    let segments = d[SEGMENT_COUNT];
+    let mut sum: u64 = 0;
+    let mut i: usize = 0;
+    while i < segments {
+        sum += chosen_usage(d, c, r, i + 1);
+        i += 1;
+    }
+    sum
 }
