@@ -1,9 +1,10 @@
 // The planning unit's calls. A call takes a unit and gives one back. It settles every input by itself:
 // its contract is an equality with the rules, refusals included, and has no `requires`.
 ghost use mathlib.Core.Path.{_≡_};
-ghost use Rattle.rules.specs.Calls.{freshUnit, unitOf, answered, loadOf, alterOf, exportOf, pageOf, showOf};
+ghost use Rattle.rules.specs.Calls.{freshUnit, unitOf, answered, loadOf, alterOf, exportOf, pageOf, showOf, whyOf};
 ghost use Rattle.rules.specs.Demands.{EveryAnswer, EveryPoints, TheRules, EveryFile, OneClaim};
 ghost use Rattle.theorems.specs.Columns.{EveryPage};
+ghost use Rattle.theorems.specs.Reasons.{EveryReason, OneHolds};
 ghost use Rattle.theorems.specs.Scale.{RatingsOnScale};
 use rules::Answer;
 use rules::District;
@@ -11,6 +12,7 @@ use rules::Edit;
 use rules::Programme;
 use rules::Reply;
 use rules::Unit;
+use rules::Why;
 
 // A unit that holds the district, with programme and ceiling worked out afresh.
 fn hold(d: District) -> Unit
@@ -50,6 +52,8 @@ pub fn fresh() -> Unit
     ensures claim { λ _. ⌜ OneClaim ⌝ }
     ensures scale { λ _. ⌜ RatingsOnScale ⌝ }
     ensures readable { λ _. ⌜ EveryPage ⌝ }
+    ensures reasons { λ _. ⌜ EveryReason ⌝ }
+    ensures explained { λ _. ⌜ OneHolds ⌝ }
 {
     hold(edits::fresh_district())
 }
@@ -101,4 +105,14 @@ pub fn show(u: Unit) -> Programme
     ensures { λ r. ⌜ r ≡ showOf u ⌝ }
 {
     u.programme
+}
+
+// Why a segment has, or has not, a strategy.
+pub fn why(u: Unit, segment: usize, strategy: usize) -> Why
+    ensures { λ r. ⌜ r ≡ whyOf u segment strategy ⌝ }
+{
+    let d = u.district;
+    let p = u.programme;
+    let c = p.strategies;
+    reasons::why(d, c, segment, strategy)
 }
