@@ -19,3 +19,4 @@ pub mod Marked
 pub mod Further
 pub mod Refusals
 pub mod Pages
+pub mod Explanations

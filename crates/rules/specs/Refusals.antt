@@ -6,8 +6,9 @@ use lib.ListN.{take, set, replicate}
 use Rattle.rules.specs.Calls.{barRefusal, limitRefusal, ratingRefusal, exportRefusal, pageRefusal, loadRefusal, districtIn, exportOf}
 use Rattle.rules.specs.Lists.{Load, Alter, ExportTo, PageTo, Show, unitAfter}
 use Rattle.rules.specs.declared.Edit.the-variants.{Bar, Unbar, SetLimit, SetRating}
-use Rattle.rules.specs.Results.{shown, shows, resultOf, WorkedCase, _⇒_, Agree}
+use Rattle.rules.specs.Results.{shown, shows, whyIn, resultOf, WorkedCase, _⇒_, Agree}
 use Rattle.rules.specs.Marked.{card}
+use Rattle.rules.specs.declared.Unit.{Unit}
 use Rattle.rules.specs.declared.Answer.the-variants.{Accepted}
 
 abbrev pub files : List (List ℕ)
@@ -76,6 +77,14 @@ callRefusals d =
 pub calls : callRefusals (districtIn card) ≡ 6 ∷ 6 ∷ 7 ∷ 7 ∷ 6 ∷ 0 ∷ 7 ∷ 7 ∷ 8 ∷ 0 ∷ 6 ∷ 6 ∷ 7 ∷ 7 ∷ 8 ∷ 0 ∷ 9 ∷ 0 ∷ 11 ∷ 0 ∷ []
 unfolding resultOf
 calls = refl
+
+-- why is refused as a bar is
+abbrev pub questions : Unit → List ℕ
+questions u = whyIn u 3 3 ++ whyIn u 0 1 ++ whyIn u 2 3 ++ whyIn u 2 0
+
+pub asked : questions (unitAfter (Load card ∷ [])) ≡ 0 ∷ 6 ∷ 0 ∷ 6 ∷ 0 ∷ 7 ∷ 0 ∷ 7 ∷ []
+unfolding resultOf
+asked = refl
 
 -- ---- lists of calls, refused ones among them
 

@@ -8,6 +8,9 @@ use lib.ListN.{take}
 use lib.IntN.{ℤ, pos}
 use Rattle.rules.specs.declared.Unit.{Unit}
 use Rattle.rules.specs.declared.Programme.{Programme}
+use Rattle.rules.specs.declared.Why.{Why}
+use Rattle.rules.specs.declared.Why.the-variants.{Because, Refused}
+use Rattle.base.specs.Choice.{pick}
 use Rattle.base.specs.Bits
 use Rattle.base.specs.Over
 use Rattle.base.specs.Search
@@ -21,14 +24,15 @@ use Rattle.rules.specs.Phases
 use Rattle.rules.specs.Ceiling
 use Rattle.rules.specs.Plan
 use Rattle.rules.specs.Page
+use Rattle.rules.specs.Reasons
 use Rattle.rules.specs.Answers
 use Rattle.rules.specs.Calls
 use Rattle.rules.specs.Survey
 use Rattle.rules.specs.Lists
 use Rattle.rules.specs.Writer
 
--- after the calls: what is shown, the page, or what segment 1 comes to under strategy 1 for distress 1: its rating in year 0; ratings, and survivals, in
--- years 1 to T; the effect
+-- after the calls: what is shown, the page, why for each strategy of each segment, or what segment 1 comes to under strategy 1 for distress 1:
+-- its rating in year 0; ratings, and survivals, in years 1 to T; the effect
 pub data Case : Type 0 where
   shown : List Lists.Call → Case
   paged : List Lists.Call → Case
@@ -36,6 +40,7 @@ pub data Case : Type 0 where
   ratings : List Lists.Call → Case
   survivals : List Lists.Call → Case
   effects : List Lists.Call → Case
+  whys : List Lists.Call → Case
 
 -- the district that is loaded, shown
 abbrev pub planned : Writer.Roads → Case
@@ -54,6 +59,23 @@ shownBy n p =
 abbrev pub printed : List String → List ℤ
 printed lines = map (λ b. pos b) (foldr (λ s rest. Text.text s ++ (10 ∷ rest)) [] lines)
 
+-- lists of numbers in a row
+abbrev pub inRow : List (List ℕ) → List ℤ
+inRow rows = map (λ x. pos x) (Writer.each (λ row. row) rows)
+
+-- an answer in numbers: a reason that holds, or 0 and the refusal
+unfoldable pub answeredIn : Unit → ℕ → ℕ → Why → List ℕ
+answeredIn u i j (Because reason) =
+    pick (Reasons.holds (u .district) (u .programme .strategies) i j reason) (Reasons.told reason) []
+answeredIn u i j (Refused n) = 0 ∷ n ∷ []
+
+unfoldable pub whyIn : Unit → ℕ → ℕ → List ℕ
+whyIn u i j = answeredIn u i j (Calls.whyOf u i j)
+
+-- of segment i
+unfoldable pub whysIn : Unit → ℕ → List ℕ
+whysIn u i = Writer.each (λ row. row) (Over.listed (District.strategiesOf (u .district)) (whyIn u i))
+
 unfoldable pub resultIn : Case → Unit → List ℤ
 resultIn (shown cs) u = shownBy (District.segmentsOf (u .district)) (Calls.showOf u)
 resultIn (paged cs) u = map (λ b. pos b) (Page.page (u .district) (Calls.showOf u))
@@ -61,6 +83,7 @@ resultIn (initialRating cs) u = Rating.rating (u .district) 1 1 1 0 ∷ []
 resultIn (ratings cs) u = Over.listed (District.yearsOf (u .district)) (Rating.rating (u .district) 1 1 1)
 resultIn (survivals cs) u = Over.listed (District.yearsOf (u .district)) (λ t. pos (Rating.survival (u .district) 1 1 1 t))
 resultIn (effects cs) u = Rating.effect (u .district) 1 1 ∷ []
+resultIn (whys cs) u = inRow (Over.listed (District.segmentsOf (u .district)) (whysIn u))
 
 unfoldable pub callsBefore : Case → List Lists.Call
 callsBefore (shown cs) = cs
@@ -69,10 +92,11 @@ callsBefore (initialRating cs) = cs
 callsBefore (ratings cs) = cs
 callsBefore (survivals cs) = cs
 callsBefore (effects cs) = cs
+callsBefore (whys cs) = cs
 
 unfoldable pub resultOf : Case → List ℤ
 unfolding
-    shownBy resultIn callsBefore
+    shownBy answeredIn whyIn whysIn resultIn callsBefore
     Writer.fileOf
     Bits.setBit Bits.clearBit
     Over.sum Over.sumZ Over.all Over.most Over.betterOf Over.best Over.minZ Over.maxZ Over.listedFrom
@@ -100,10 +124,11 @@ unfolding
     Plan.reduced Plan.filled Plan.improved Plan.programmeOf Plan.noProgramme Plan.planOf
     Page.rightAligned Page.line Page.miles Page.byResource Page.heading Page.segmentRow Page.totalRow Page.limitsRow Page.rows Page.lines
     Page.page Page.pageLength
+    Reasons.holds Reasons.hindrance Reasons.reasonFor
     Answers.answerOf Answers.accepting
     Calls.loadRefusalOf Calls.loadRefusal Calls.exportRefusal Calls.pageRefusal Calls.loadedOf
     Calls.districtIn Calls.unitOf Calls.freshUnit Calls.answered Calls.loadOf Calls.alterOf
-    Calls.exported Calls.exportOf Calls.pageOf Calls.showOf
+    Calls.exported Calls.exportOf Calls.pageOf Calls.showOf Calls.explained Calls.whyOf
     Survey.deductPoints Survey.blockOf Survey.pointsOf Survey.surveyRefusal Survey.surveyOf
     Lists.refusalOf Lists.altered Lists.districtFrom Lists.districtAfter Lists.lentTo Lists.outcomeOf Lists.unitFrom Lists.unitAfter
 resultOf c = resultIn c (Lists.unitAfter (callsBefore c))
