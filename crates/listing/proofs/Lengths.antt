@@ -7,7 +7,7 @@ use Rattle.base.specs.Text.{text, mostDigits, decimal}
 use Rattle.base.proofs.Text.{decimal-few}
 use Rattle.rules.specs.District.{mostSegments}
 use Rattle.rules.specs.declared.Programme.{Programme}
-use Rattle.listing.specs.Listing.{named, line, segmentLine, segmentLines, stepsLine, results, listing, refusal, longestLineOf, longestRefusal, longestSegmentLine, longestStepsLine, longestListing}
+use Rattle.listing.specs.Listing.{named, line, segmentLine, segmentLines, stepsLine, results, listing, refusal, missedLine, overLine, longestLineOf, longestRefusal, longestReason, longestSegmentLine, longestStepsLine, longestListing}
 
 pub named-few : (word : List ℕ) (n : ℕ) → length (named word n) ≤ length word + mostDigits
 unfolding named
@@ -23,6 +23,17 @@ line-fits word n room h = omega (arith, line-few word n)
 pub refusal-few : (n : ℕ) → length (refusal n) ≤ longestRefusal
 unfolding refusal text
 refusal-few n = line-few (text "refused ") n
+
+pub missed-fits : (k t room : ℕ) → longestReason ≤ room → length (missedLine k t) ≤ room
+unfolding missedLine text
+missed-fits k t room h =
+    let a = named (text "minimum rating missed: distress ") k in
+    let b = line (text ", year ") t in
+    omega (arith, length-append a b, named-few (text "minimum rating missed: distress ") k, line-few (text ", year ") t)
+
+pub over-fits : (r : ℕ) (end : List ℕ) (room : ℕ) → length end ≤ 40 → longestReason ≤ room → length (overLine r end) ≤ room
+unfolding overLine text
+over-fits r end room h few = omega (arith, length-append (named (text "over limit ") r) end, named-few (text "over limit ") r)
 
 segment-few : (i j : ℕ) → length (segmentLine i j) ≤ longestSegmentLine
 unfolding segmentLine text

@@ -8,6 +8,11 @@ use Rattle.rules.specs.declared.Unit.{Unit}
 use Rattle.rules.specs.declared.Programme.{Programme}
 use Rattle.rules.specs.declared.Answer.{Answer}
 use Rattle.rules.specs.declared.Answer.the-variants.{Accepted, Refused}
+use Rattle.rules.specs.declared.Reason.{Reason}
+use Rattle.rules.specs.declared.Reason.the-variants.{InProgramme, Barred, MinimumMissed, OverallMissed, NoBenefit, OverAlone, OverBeside, NoGreaterTotal}
+use Rattle.rules.specs.declared.Why as Why
+use Rattle.rules.specs.declared.Why.{Why}
+use Rattle.rules.specs.declared.Why.the-variants.{Because}
 
 -- a word and a number, and the same as a line
 unfoldable pub named : List ℕ → ℕ → List ℕ
@@ -60,6 +65,27 @@ unfoldable pub valued : List ℕ → Answer → List ℕ
 valued word (Accepted value) = line word value
 valued word (Refused n) = refusal n
 
+-- why: of a reason, a line with what it names
+unfoldable pub missedLine : ℕ → ℕ → List ℕ
+missedLine k t = named (text "minimum rating missed: distress ") k ++ line (text ", year ") t
+
+unfoldable pub overLine : ℕ → List ℕ → List ℕ
+overLine r end = named (text "over limit ") r ++ end
+
+unfoldable pub reasonLine : Reason → List ℕ
+reasonLine InProgramme = text "in the programme\n"
+reasonLine Barred = text "barred\n"
+reasonLine (MinimumMissed k t) = missedLine k t
+reasonLine OverallMissed = text "overall requirement missed\n"
+reasonLine NoBenefit = text "benefit not above 0\n"
+reasonLine (OverAlone r) = overLine r (text " alone\n")
+reasonLine (OverBeside r) = overLine r (text " beside the others\n")
+reasonLine NoGreaterTotal = text "fits, but the total would be no greater\n"
+
+unfoldable pub explained : Why → List ℕ
+explained (Because reason) = reasonLine reason
+explained (Why.Refused n) = refusal n
+
 -- what could not be done, and with which file
 unfoldable pub failed : List ℕ → List ℕ → List ℕ
 failed what path = what ++ (path ++ text "\n")
@@ -72,6 +98,9 @@ longestLineOf n = n + mostDigits + 1
 
 abbrev pub longestRefusal : ℕ
 longestRefusal = longestLineOf 8
+
+abbrev pub longestReason : ℕ
+longestReason = 32 + mostDigits + longestLineOf 7
 
 abbrev pub longestSegmentLine : ℕ
 longestSegmentLine = mostDigits + longestLineOf 1

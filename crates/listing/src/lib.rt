@@ -4,11 +4,13 @@ ghost use mathlib.Core.Path.{_≡_};
 ghost use Prim.Native.Nat.{_+_, _≤_, min};
 ghost use lib.ListN.{length, take};
 ghost use Rattle.base.specs.Text.{decimal, Writes, Put};
-ghost use Rattle.listing.specs.Listing.{named, line, segmentLine, segmentLines, stepsLine, results, listing, shown, refusal, done, planned, valued, failed, longestRefusal, longestListing};
+ghost use Rattle.listing.specs.Listing.{named, line, segmentLine, segmentLines, stepsLine, results, listing, shown, refusal, done, planned, valued, missedLine, overLine, reasonLine, explained, failed, longestRefusal, longestReason, longestListing};
 ghost use Rattle.rules.specs.District.{mostSegments};
 use rules::Answer;
 use rules::Programme;
+use rules::Reason;
 use rules::Unit;
+use rules::Why;
 use rules::places::MOST_SEGMENTS;
 use rules::places::SEGMENT_COUNT;
 
@@ -163,6 +165,50 @@ pub fn put_valued(out: &mut [u8], word: &[u8], answer: Answer) -> usize
     match answer {
         Answer::Accepted(value) => put_line(out, word, value),
         Answer::Refused(refusal) => put_refusal(out, refusal),
+    }
+}
+
+// ---- the answer to why
+
+fn put_missed(out: &mut [u8], distress: usize, year: usize) -> usize
+    requires { ⌜ length (missedLine distress year) ≤ length (now out) ⌝ }
+    ensures { λ r. ⌜ Put (missedLine distress year) (now (out .entry)) (now (out .exit)) r ⌝ }
+{
+    let at = put_named(out, b"minimum rating missed: distress ", distress);
+    at + put_line(&mut out[at..], b", year ", year)
+}
+
+fn put_over(out: &mut [u8], resource: usize, end: &[u8]) -> usize
+    requires { ⌜ length (overLine resource (now end)) ≤ length (now out) ⌝ }
+    ensures { λ r. ⌜ Put (overLine resource (now (end .entry))) (now (out .entry)) (now (out .exit)) r ⌝ }
+{
+    let at = put_named(out, b"over limit ", resource);
+    at + put(&mut out[at..], end)
+}
+
+fn put_reason(out: &mut [u8], reason: Reason) -> usize
+    requires { ⌜ longestReason ≤ length (now out) ⌝ }
+    ensures { λ r. ⌜ Put (reasonLine reason) (now (out .entry)) (now (out .exit)) r ⌝ }
+{
+    match reason {
+        Reason::InProgramme => put(out, b"in the programme\n"),
+        Reason::Barred => put(out, b"barred\n"),
+        Reason::MinimumMissed(distress, year) => put_missed(out, distress, year),
+        Reason::OverallMissed => put(out, b"overall requirement missed\n"),
+        Reason::NoBenefit => put(out, b"benefit not above 0\n"),
+        Reason::OverAlone(resource) => put_over(out, resource, b" alone\n"),
+        Reason::OverBeside(resource) => put_over(out, resource, b" beside the others\n"),
+        Reason::NoGreaterTotal => put(out, b"fits, but the total would be no greater\n"),
+    }
+}
+
+pub fn put_why(out: &mut [u8], why: Why) -> usize
+    requires { ⌜ longestReason ≤ length (now out) ⌝ }
+    ensures { λ r. ⌜ Put (explained why) (now (out .entry)) (now (out .exit)) r ⌝ }
+{
+    match why {
+        Why::Because(reason) => put_reason(out, reason),
+        Why::Refused(number) => put_refusal(out, number),
     }
 }
 
