@@ -1,11 +1,11 @@
 -- Laws of choices by tests. `search picks` finds the case of a definition that goes by tests.
 use Prim.Native.Nat.{ℕ, _≤_, _<_}
 use mathlib.Core.Path.{_≡_, refl, sym, _∙_}
-use mathlib.Core.Bool.{Bool, true, false, _&&_, _||_, and-false, true≢false}
+use mathlib.Core.Bool.{Bool, true, false, not, _&&_, _||_, and-false, true≢false}
 use mathlib.Core.Logic.{_⊎_, inl, inr}
 use native.Mathlib.Omega.{arith}
-use borrow.Author.Tests.{lt-ltb, le-ltb, le-leb, lt-leb, leb-true, eq-eqb, ne-eqb}
-use lib.Dec.{leb, eqb}
+use borrow.Author.Tests.{lt-ltb, le-ltb, le-leb, lt-leb, leb-true, leb-false, eq-eqb, ne-eqb}
+use lib.Dec.{leb, ltb, eqb}
 use Rattle.base.specs.Choice.{pick}
 use Rattle.base.specs.Over.{between}
 
@@ -58,6 +58,14 @@ leb-same a b c d to from = known (leb a b) refl (leb c d) refl
     known false e true f = le-leb a b (from (leb-true c d f)) ∙ sym f
     known false e false f = e ∙ sym f
 
+-- above a limit is not within it
+pub over-is : {x y limit n : ℕ} → x ≡ limit → y ≡ n → ltb x y ≡ not (leb n limit)
+over-is {x} {y} {limit} {n} p q = rw (p, q) (known (leb n limit) refl)
+  where
+    known : (t : Bool) → leb n limit ≡ t → ltb limit n ≡ not (leb n limit)
+    known true e = rw e (le-ltb limit n (leb-true n limit e))
+    known false e = rw e (lt-ltb limit n (leb-false n limit e))
+
 -- finds the case of a choice between such tests
 pub ruleset cases = (refl, pick-yes, pick-no, both, first-fails, second-fails, le-leb, lt-leb, eq-eqb, ne-eqb, lt-eqb, gt-eqb, arith)
 
@@ -74,3 +82,6 @@ and-both false t e = absurd (true≢false (sym e))
 pub or-either : (s t : Bool) → (s || t) ≡ true → (s ≡ true) ⊎ (t ≡ true)
 or-either true t e = inl refl
 or-either false t e = inr e
+
+pub between-in : (a b x : ℕ) → between a b x ≡ true → (a ≤ x) × (x ≤ b)
+between-in a b x e = let t = and-both (leb a x) (leb x b) e in (leb-true a x (t .0), leb-true x b (t .1))

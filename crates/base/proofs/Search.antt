@@ -1,9 +1,10 @@
 -- Laws of the search for the first of many.
-use Prim.Native.Nat.{ℕ, zero, suc, _≤_, _<_}
-use mathlib.Core.Path.{_≡_, refl, subst}
+use Prim.Native.Nat.{ℕ, zero, suc, _+_, _≤_, _<_}
+use mathlib.Core.Path.{_≡_, refl, ap, subst, _∙_}
 use mathlib.Core.Logic.{_⊎_, inl, inr, ⊎-elim}
 use mathlib.Core.Bool.{Bool, true, false}
 use mathlib.Core.Option.{Option, none, some}
+use native.Mathlib.Numerals.{add-one}
 use native.Mathlib.Omega.{arith}
 use Rattle.base.specs.Choice.{only}
 use Rattle.base.specs.Search.{first, orElse}
@@ -28,6 +29,14 @@ orElse-found none y e = inr (refl, e)
 pub orElse-assoc : {A : Type 0} (x y z : Option A) → orElse (orElse x y) z ≡ orElse x (orElse y z)
 orElse-assoc (some a) y z = refl
 orElse-assoc none y z = refl
+
+-- of two searches that come to the same
+pub or-by : {A : Type 0} {x a b p q : Option A} → x ≡ orElse a b → a ≡ p → b ≡ q → x ≡ orElse p q
+or-by e f g = rw (e, f, g)
+
+-- by a test that is the same
+pub only-by : {A : Type 0} (a : A) {x : Option A} {s t : Bool} → x ≡ only s a → s ≡ t → x ≡ only t a
+only-by a e f = e ∙ ap (λ (b : Bool). only b a) f
 
 pub only-none : {A : Type 0} (t : Bool) (x : A) → only t x ≡ none → t ≡ false
 only-none true x e = cc
@@ -60,6 +69,19 @@ first-at (suc n) f e k l h =
     up-to h
     (λ q. rw q (orElse-right (first n f) (f (suc n)) e))
     (λ u. first-at n f (orElse-left (first n f) (f (suc n)) e) k l u)
+
+-- a search that goes on to the end: what is found up to a number, and with one number more
+module _ {A : Type 0} (f : ℕ → Option A) where
+  pub first-start : none ≡ first 0 f
+  unfolding first
+  first-start = refl
+
+  pub first-next : (n : ℕ) {x y : Option A} → x ≡ first n f → y ≡ f (n + 1) → orElse x y ≡ first (n + 1) f
+  unfolding first
+  first-next n p q = rw (p, q, add-one)
+
+  pub first-end : (n m : ℕ) {x : Option A} → x ≡ first m f → m ≤ n → n ≤ m → x ≡ first n f
+  first-end n m e l h = let q : n ≡ m = omega arith in rw q e
 
 -- where a search for the first ended: something is there, and nothing before it
 pub record Ended {A : Type 0} (n : ℕ) (f : ℕ → Option A) (a : A) : Type 0 where

@@ -7,7 +7,7 @@ use lib.Dec.{lit<}
 use lib.ListN.{getD}
 use Rattle.base.specs.Choice.{pick}
 use Rattle.base.specs.Over.{between}
-use Rattle.base.proofs.Choice.{and-both, between-yes}
+use Rattle.base.proofs.Choice.{and-both, between-yes, between-in}
 use Rattle.base.proofs.Each.{each-listed}
 use Rattle.base.proofs.Listed.{listed-at, listed-length}
 use Rattle.grammar.specs.Ranges.{Ranges}
@@ -18,7 +18,7 @@ use Rattle.laws.specs.Tables.{FitAlone}
 use Rattle.theorems.proofs.Entries.{table-fit}
 use Rattle.tables.specs.Arrays.{entry, useEntry, benefitAt, usageAt, limitAt, tables, Tabled, columns, entries, useEntries}
 use Rattle.rating.specs.Numbers.{Segment, Resource}
-use Rattle.rating.proofs.Entries.{between-in, has-within, resource-within, candidate-benefit-le, usage-in-le, limit-in-le}
+use Rattle.rating.proofs.Entries.{has-within, resource-within, candidate-benefit-le, usage-in-le, limit-in-le}
 use Rattle.fill.specs.Lists.{sizeOf, benefitEntry, benefitList, usageEntry, usageList, limitList}
 
 -- ---- each entry, at its place

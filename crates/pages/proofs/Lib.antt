@@ -1,4 +1,3 @@
-pub mod Uses
 pub mod Texts
 pub mod Lines
 pub mod Given

@@ -29,31 +29,6 @@ fn whole_units(x: u64) -> usize
     ((x + 99999) / 100000) as usize
 }
 
-// Of resource r by segment i under the programme.
-fn chosen_usage(d: &District, c: [usize; MOST_SEGMENTS], r: usize, i: usize) -> u64
-    requires { ⌜ Ranges (now d) × Resource r × Segment i ⌝ }
-    ensures { λ u. ⌜ u ≡ chosenUsage (tableOf (now (d .entry))) c r i ⌝ }
-{
-    let j = c[i - 1];
-    let a = rating::area_in(d, i, j);
-    rating::usage_in(d, j, r, a)
-}
-
-// By all segments.
-fn used(d: &District, c: [usize; MOST_SEGMENTS], r: usize) -> u64
-    requires { ⌜ Ranges (now d) × Resource r ⌝ }
-    ensures { λ u. ⌜ u ≡ Phases·used (tableOf (now (d .entry))) c r ⌝ }
-{
-    let segments = d[SEGMENT_COUNT];
-    let mut sum: u64 = 0;
-    let mut i: usize = 0;
-    while i < segments {
-        sum += chosen_usage(d, c, r, i + 1);
-        i += 1;
-    }
-    sum
-}
-
 // ---- cells of a resource: blank where the district does not have it
 
 fn cell_of(d: &District, r: usize, n: usize) -> Cell
@@ -69,14 +44,14 @@ fn use_cell(d: &District, c: [usize; MOST_SEGMENTS], i: usize, r: usize) -> Cell
     requires { ⌜ Ranges (now d) × Resource r × Segment i ⌝ }
     ensures { λ cell. ⌜ Shows (now (d .entry)) (λ r. wholeUnits (chosenUsage (tableOf (now (d .entry))) c r i)) r cell ⌝ }
 {
-    cell_of(d, r, whole_units(chosen_usage(d, c, r, i)))
+    cell_of(d, r, whole_units(rating::chosen_usage(d, c, r, i)))
 }
 
 fn sum_cell(d: &District, c: [usize; MOST_SEGMENTS], r: usize) -> Cell
     requires { ⌜ Ranges (now d) × Resource r ⌝ }
     ensures { λ cell. ⌜ Shows (now (d .entry)) (λ r. wholeUnits (Phases·used (tableOf (now (d .entry))) c r)) r cell ⌝ }
 {
-    cell_of(d, r, whole_units(used(d, c, r)))
+    cell_of(d, r, whole_units(rating::used(d, c, r)))
 }
 
 fn limit_cell(d: &District, r: usize) -> Cell

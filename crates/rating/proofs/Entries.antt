@@ -9,7 +9,7 @@ use lib.Dec.{leb}
 use lib.IntN.{natAbs}
 use Rattle.base.specs.Choice.{pick}
 use Rattle.base.specs.Over.{between}
-use Rattle.base.proofs.Choice.{and-both}
+use Rattle.base.proofs.Choice.{and-both, between-in}
 use Rattle.rules.specs.District.{District, segmentsOf, strategiesOf, resourcesOf, requirementOf}
 use Rattle.grammar.specs.Ranges.{Ranges}
 use Rattle.rules.specs.Rating.{area, benefit, usage, scaledLimit, candidate}
@@ -22,9 +22,6 @@ use Rattle.rating.proofs.Bounds.{benefit-abs, usage-le, limit-le}
 pub usage-of : (d : District) (i j r : ℕ) → 1 ≤ j → area d i * requirementOf d j r ≡ usage d i j r
 unfolding usage
 usage-of d i (suc j) r h = refl
-
-pub between-in : (a b x : ℕ) → between a b x ≡ true → (a ≤ x) × (x ≤ b)
-between-in a b x e = let t = and-both (leb a x) (leb x b) e in (leb-true a x (t .0), leb-true x b (t .1))
 
 pub has-in : (d : District) (i j : ℕ) → has d i j ≡ true → SegmentOf d i × ((1 ≤ j) × (j ≤ strategiesOf d))
 has-in d i j e =

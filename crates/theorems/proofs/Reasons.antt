@@ -6,12 +6,12 @@ use mathlib.Core.List.{List, [], _∷_}
 use mathlib.Core.Logic.{_⊎_, inl, inr, ⊎-elim}
 use mathlib.Core.Option.{Option, none, some}
 use native.Mathlib.Omega.{arith}
-use borrow.Author.Tests.{ltb-true, eqb-true, leb-true, lt-ltb}
-use lib.Dec.{leb, ltb, eqb}
+use borrow.Author.Tests.{ltb-true, eqb-true, lt-ltb}
+use lib.Dec.{ltb, eqb}
 use lib.ListN.{getD, drop}
 use Rattle.base.specs.Over.{between}
 use Rattle.base.specs.Search.{orElse, first}
-use Rattle.base.proofs.Choice.{and-both, or-either, between-yes}
+use Rattle.base.proofs.Choice.{and-both, or-either, between-yes, between-in}
 use Rattle.base.proofs.Search.{orElse-assoc, only-none, only-some, first-at, first-some, first-ended}
 use Rattle.rules.specs.District.{District, yearsOf, distressesOf, resourcesOf}
 use Rattle.rules.specs.Reasons.{told, holds, given, hindrance}
@@ -179,17 +179,15 @@ module _ (d : District) (c : List ℕ) (i j : ℕ) where
         (n : ℕ) (f : ℕ → Reason) → ((m : ℕ) → values (f m) ≡ m ∷ []) → 1 ≤ n → n ≤ 7 → part n ≡ first (resourcesOf d) (λ m. given d c i j (f m))
         → (m : ℕ) → between 1 (resourcesOf d) m ≡ true → before (n ∷ m ∷ []) (told r) ≡ true → holds d c i j (f m) ≡ false
     of-resource n f tells l h is m named b =
-        let range = and-both (leb 1 m) (leb m (resourcesOf d)) named in
-        let low = leb-true 1 m (range .0) in
-        let high = leb-true m (resourcesOf d) (range .1) in
+        let range = between-in 1 (resourcesOf d) m named in
         after n (m ∷ []) r b
-        (λ less. only-none (holds d c i j (f m)) (f m) (first-at (resourcesOf d) (λ x. given d c i j (f x)) (sym is ∙ reached .passed n l h less) m low high))
+        (λ less. only-none (holds d c i j (f m)) (f m) (first-at (resourcesOf d) (λ x. given d c i j (f x)) (sym is ∙ reached .passed n l h less) m (range .0) (range .1)))
         (λ e more.
         let w = first-ended (resourcesOf d) (λ x. given d c i j (f x)) r (sym is ∙ at n h e) in
         let it : f (w .at) ≡ r = only-some (holds d c i j (f (w .at))) (w .found) .1 in
         let less = subst (λ (ys : List ℕ). before (m ∷ []) ys ≡ true) (sym (ap values it) ∙ tells (w .at)) more in
         before-cases m (w .at) [] [] less
-        (λ earlier. only-none (holds d c i j (f m)) (f m) (w .before m low earlier))
+        (λ earlier. only-none (holds d c i j (f m)) (f m) (w .before m (range .0) earlier))
         (λ q no. not-ended [] no))
 
     of-minimum : (k t : ℕ) → 1 ≤ k → k ≤ distressesOf d → 1 ≤ t → t ≤ yearsOf d → before (3 ∷ k ∷ t ∷ []) (told r) ≡ true → holds d c i j (MinimumMissed k t) ≡ false
@@ -217,9 +215,9 @@ module _ (d : District) (c : List ℕ) (i j : ℕ) where
     none-before Barred named b = plain 2 Barred (omega arith) (omega arith) refl b
     none-before (MinimumMissed k t) named b =
         let w = and-both (between 1 (distressesOf d) k) (between 1 (yearsOf d) t) named in
-        let x = and-both (leb 1 k) (leb k (distressesOf d)) (w .0) in
-        let y = and-both (leb 1 t) (leb t (yearsOf d)) (w .1) in
-        of-minimum k t (leb-true 1 k (x .0)) (leb-true k (distressesOf d) (x .1)) (leb-true 1 t (y .0)) (leb-true t (yearsOf d) (y .1)) b
+        let x = between-in 1 (distressesOf d) k (w .0) in
+        let y = between-in 1 (yearsOf d) t (w .1) in
+        of-minimum k t (x .0) (x .1) (y .0) (y .1) b
     none-before OverallMissed named b = plain 4 OverallMissed (omega arith) (omega arith) refl b
     none-before NoBenefit named b = plain 5 NoBenefit (omega arith) (omega arith) refl b
     none-before (OverAlone m) named b = of-resource 6 OverAlone (λ x. refl) (omega arith) (omega arith) refl m named b

@@ -6,9 +6,9 @@ use lib.IntN.{ℤ, pos}
 use lib.Signed.{leZ}
 use mir.Syntax.{w64}
 use Rattle.base.proofs.Integers.{told}
+use Rattle.base.proofs.Search.{or-by, only-by}
 use Rattle.rules.specs.Reasons.{holds, hindrance}
 use Rattle.rules.specs.declared.Reason.the-variants.{Barred, OverallMissed, NoBenefit}
-use Rattle.reasons.proofs.Laws.{or-by, only-by}
 use Rattle.reasons.proofs.hindrance.Statement.{statement}
 use Rattle.reasons.proofs.hindrance.Tie as tie
 

@@ -5,11 +5,11 @@ use mathlib.Core.List.{List}
 use native.Mathlib.Omega.{arith}
 use borrow.Author.Needs.{needs}
 use Rattle.base.specs.Search.{first}
+use Rattle.base.proofs.Search.{first-start, first-next, first-end}
 use Rattle.rules.specs.District.{yearsOf}
 use Rattle.rules.specs.Reasons.{given}
 use Rattle.rules.specs.declared.Reason.the-variants.{MinimumMissed}
 use Rattle.reasons.specs.Search.{optionOf}
-use Rattle.reasons.proofs.Laws.{first-start, first-next, first-end}
 use Rattle.reasons.proofs.missed_minimum.Statement.{statement}
 use Rattle.reasons.proofs.missed_minimum.Tie as tie
 

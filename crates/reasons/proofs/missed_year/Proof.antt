@@ -8,10 +8,10 @@ use borrow.Author.Needs.{needs}
 use mir.Syntax.{w64}
 use Rattle.base.specs.Search.{first}
 use Rattle.base.proofs.Integers.{told}
+use Rattle.base.proofs.Search.{first-start, first-next, first-end, only-by}
 use Rattle.rules.specs.Reasons.{holds, given}
 use Rattle.rules.specs.declared.Reason.the-variants.{MinimumMissed}
 use Rattle.reasons.specs.Search.{optionOf}
-use Rattle.reasons.proofs.Laws.{first-start, first-next, first-end, only-by}
 use Rattle.reasons.proofs.missed_year.Statement.{statement}
 use Rattle.reasons.proofs.missed_year.Tie as tie
 

@@ -5,11 +5,12 @@ use mathlib.Core.List.{List}
 use native.Mathlib.Omega.{arith}
 use borrow.Author.Needs.{needs}
 use Rattle.base.specs.Search.{first}
+use Rattle.base.proofs.Choice.{over-is}
+use Rattle.base.proofs.Search.{first-start, first-next, first-end, only-by}
 use Rattle.rules.specs.Rating.{fitsLimit}
 use Rattle.rules.specs.Reasons.{holds, given}
 use Rattle.rules.specs.declared.Reason.the-variants.{OverAlone}
 use Rattle.reasons.specs.Search.{optionOf}
-use Rattle.reasons.proofs.Laws.{first-start, first-next, first-end, only-by, over-is}
 use Rattle.reasons.proofs.over_alone.Statement.{statement}
 use Rattle.reasons.proofs.over_alone.Tie as tie
 

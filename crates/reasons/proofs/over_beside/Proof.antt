@@ -7,6 +7,7 @@ use borrow.Author.Needs.{needs}
 use lib.Dec.{ltb}
 use Rattle.base.specs.Choice.{only}
 use Rattle.base.specs.Search.{first}
+use Rattle.base.proofs.Search.{first-start, first-next, first-end, only-by}
 use Rattle.rules.specs.District.{resourcesOf}
 use Rattle.rules.specs.Phases.{used}
 use Rattle.rules.specs.Rating.{scaledLimit}
@@ -14,7 +15,6 @@ use Rattle.rules.specs.Reasons.{holds}
 use Rattle.rules.specs.Table.{tableOf}
 use Rattle.rules.specs.declared.Reason.the-variants.{OverBeside}
 use Rattle.reasons.specs.Search.{optionOf}
-use Rattle.reasons.proofs.Laws.{first-start, first-next, first-end, only-by}
 use Rattle.reasons.proofs.over_beside.Statement.{statement}
 use Rattle.reasons.proofs.over_beside.Tie as tie
 

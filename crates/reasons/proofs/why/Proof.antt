@@ -8,7 +8,7 @@ use Rattle.grammar.proofs.Edits.{bar-numbers}
 use Rattle.grammar.proofs.InRanges.{in-ranges}
 use Rattle.rules.specs.Calls.{barRefusal}
 use Rattle.rules.specs.File.{inRange}
-use Rattle.reasons.proofs.Laws.{refused-as, because, out-of-range, in-its-range}
+use Rattle.reasons.proofs.Answers.{refused-as, because, out-of-range, in-its-range}
 use Rattle.reasons.proofs.why.Statement.{statement}
 use Rattle.reasons.proofs.why.Tie as tie
 

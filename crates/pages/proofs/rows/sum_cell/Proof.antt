@@ -4,7 +4,7 @@ use mathlib.Core.Path.{_∙_, ap}
 use native.Mathlib.Omega.{arith}
 use Rattle.rules.specs.Page.{wholeUnits}
 use Rattle.pages.proofs.Texts.{shows-same}
-use Rattle.pages.proofs.Uses.{used-le}
+use Rattle.rating.proofs.Uses.{used-le}
 use borrow.Author.Needs.{needs}
 use Rattle.pages.proofs.rows.sum_cell.Statement.{statement}
 use Rattle.pages.proofs.rows.sum_cell.Tie as tie

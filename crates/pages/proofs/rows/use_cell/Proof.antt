@@ -4,7 +4,7 @@ use mathlib.Core.Path.{_∙_, ap}
 use native.Mathlib.Omega.{arith}
 use Rattle.rules.specs.Page.{wholeUnits}
 use Rattle.pages.proofs.Texts.{shows-same}
-use Rattle.pages.proofs.Uses.{chosen-le}
+use Rattle.rating.proofs.Uses.{chosen-le}
 use borrow.Author.Needs.{needs}
 use Rattle.pages.proofs.rows.use_cell.Statement.{statement}
 use Rattle.pages.proofs.rows.use_cell.Tie as tie
