@@ -6,27 +6,27 @@ use lib.ListN.{replicate}
 use Rattle.base.specs.Text.{text}
 use Rattle.rules.specs.declared.Edit.the-variants.{Bar, Unbar, SetLimit, SetRating}
 use Rattle.command.specs.declared.Command.{Command}
-use Rattle.command.specs.declared.Command.the-variants.{Nothing, Unknown, Load, Export, Alter, Show, Points, Page}
+use Rattle.command.specs.declared.Command.the-variants.{Nothing, Unknown, Load, Export, Alter, Show, Points, Page, Why}
 use Rattle.command.specs.Reading.{same, isSpace, isOf, every, wordOf, restOf, numberFrom, numberIn, firstNumber, afterNumber, withNumber, arguments, placed, pathOf, isPath, row, rows, taken, meant, called, isComment, commandIn}
 
 pub lines : List (List ℕ)
 unfolding text
 lines =
-    text "load a b" ∷ text "export x" ∷ text "bar 1 2" ∷ text "unbar 3 4" ∷ text "limit 1 007" ∷ text "rating 1 2 3" ∷ text "show" ∷ text "points 8 3 3 1" ∷ text "page"
+    text "load a b" ∷ text "export x" ∷ text "bar 1 2" ∷ text "unbar 3 4" ∷ text "limit 1 007" ∷ text "rating 1 2 3" ∷ text "show" ∷ text "points 8 3 3 1" ∷ text "page" ∷ text "why 2 1"
     ∷ text "limit 1 18446744073709551615" ∷ text "limit 1 18446744073709551616" ∷ text "limit 1 000000000000000000001" ∷ text "limit 1 -1"
     ∷ text "" ∷ text " \t\r" ∷ text "# bar 1 2" ∷ text " # bar 1 2" ∷ (35 ∷ replicate 600 32) ∷ replicate 513 32 ∷ replicate 512 32
     ∷ text "bar 1  2" ∷ text "bar  1 2" ∷ text " bar 1 2" ∷ text "bar 1 2 " ∷ text "bar" ∷ text "bar 1" ∷ text "bar 1 2 3" ∷ text "bar1 2" ∷ text "barn 1 2" ∷ text "Bar 1 2" ∷ text "ba 1 2"
-    ∷ text "show " ∷ text "show 1" ∷ text "shows" ∷ text "points 8 3 3" ∷ text "points 8 3 3 1 0" ∷ text "rating 1 2 3\r" ∷ text "page 1" ∷ text "pages"
+    ∷ text "show " ∷ text "show 1" ∷ text "shows" ∷ text "points 8 3 3" ∷ text "points 8 3 3 1 0" ∷ text "rating 1 2 3\r" ∷ text "page 1" ∷ text "pages" ∷ text "why" ∷ text "why 2" ∷ text "why 2 1 1"
     ∷ text "load  a" ∷ text "load " ∷ text "load" ∷ text "loads a" ∷ text "load\ta" ∷ text "export" ∷ text "exports x"
     ∷ (text "load " ++ replicate 255 120) ∷ (text "load " ++ replicate 256 120) ∷ (text "load " ++ (0 ∷ [])) ∷ (255 ∷ []) ∷ []
 
 pub readings : List Command
 readings =
-    Load ∷ Export ∷ Alter (Bar 1 2) ∷ Alter (Unbar 3 4) ∷ Alter (SetLimit 1 7) ∷ Alter (SetRating 1 2 3) ∷ Show ∷ Points 8 3 3 1 ∷ Page
+    Load ∷ Export ∷ Alter (Bar 1 2) ∷ Alter (Unbar 3 4) ∷ Alter (SetLimit 1 7) ∷ Alter (SetRating 1 2 3) ∷ Show ∷ Points 8 3 3 1 ∷ Page ∷ Why 2 1
     ∷ Alter (SetLimit 1 18446744073709551615) ∷ Unknown ∷ Unknown ∷ Unknown
     ∷ Nothing ∷ Nothing ∷ Nothing ∷ Unknown ∷ Nothing ∷ Unknown ∷ Nothing
     ∷ Unknown ∷ Unknown ∷ Unknown ∷ Unknown ∷ Unknown ∷ Unknown ∷ Unknown ∷ Unknown ∷ Unknown ∷ Unknown ∷ Unknown
-    ∷ Unknown ∷ Unknown ∷ Unknown ∷ Unknown ∷ Unknown ∷ Unknown ∷ Unknown ∷ Unknown
+    ∷ Unknown ∷ Unknown ∷ Unknown ∷ Unknown ∷ Unknown ∷ Unknown ∷ Unknown ∷ Unknown ∷ Unknown ∷ Unknown ∷ Unknown
     ∷ Load ∷ Unknown ∷ Unknown ∷ Unknown ∷ Unknown ∷ Unknown ∷ Unknown
     ∷ Load ∷ Unknown ∷ Unknown ∷ Unknown ∷ []
 

@@ -120,6 +120,7 @@ rows =
     ∷ row "show" Name.Show (Numbers 0)
     ∷ row "points" Name.Points (Numbers 4)
     ∷ row "page" Name.Page (Numbers 0)
+    ∷ row "why" Name.Why (Numbers 2)
     ∷ []
 
 -- the command of a name, with its numbers
@@ -133,6 +134,7 @@ made Name.Rating v = Command.Alter (SetRating (v 0) (v 1) (v 2))
 made Name.Show v = Command.Show
 made Name.Points v = Command.Points (v 0) (v 1) (v 2) (v 3)
 made Name.Page v = Command.Page
+made Name.Why v = Command.Why (v 0) (v 1)
 
 -- the command of the first of some rows, where there is one
 unfoldable pub firstMade : List Row → (ℕ → ℕ) → Command

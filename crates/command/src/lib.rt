@@ -20,6 +20,7 @@ pub enum Command {
     Show,
     Points(usize, usize, usize, usize),
     Page,
+    Why(usize, usize),
 }
 
 pub enum Name {
@@ -32,6 +33,7 @@ pub enum Name {
     Show,
     Points,
     Page,
+    Why,
 }
 
 // What a word takes: so many numbers, or a path.
@@ -43,7 +45,7 @@ pub enum Takes {
 // A word, with blanks behind it up to 8 bytes; what it names; and what it takes.
 pub struct Row(pub [u8; 8], pub Name, pub Takes);
 
-const WORDS: usize = 9;
+const WORDS: usize = 10;
 
 const ROWS: [Row; WORDS] = [
     Row(*b"load    ", Name::Load, Takes::Path),
@@ -55,6 +57,7 @@ const ROWS: [Row; WORDS] = [
     Row(*b"show    ", Name::Show, Takes::Numbers(0)),
     Row(*b"points  ", Name::Points, Takes::Numbers(4)),
     Row(*b"page    ", Name::Page, Takes::Numbers(0)),
+    Row(*b"why     ", Name::Why, Takes::Numbers(2)),
 ];
 
 pub enum Kind {
@@ -287,6 +290,7 @@ fn make(name: Name, numbers: [usize; 4]) -> Command
         Name::Show => Command::Show,
         Name::Points => Command::Points(a, b, c, d),
         Name::Page => Command::Page,
+        Name::Why => Command::Why(a, b),
     }
 }
 

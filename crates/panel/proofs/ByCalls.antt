@@ -11,7 +11,7 @@ use Rattle.demands.proofs.OneClaim.{one-claim}
 use Rattle.demands.proofs.TheRules.{the-rules}
 use Rattle.command.specs.Reading.{commandIn}
 use Rattle.command.specs.declared.Command.{Command}
-use Rattle.command.specs.declared.Command.the-variants.{Nothing, Unknown, Load, Export, Alter, Show, Points, Page}
+use Rattle.command.specs.declared.Command.the-variants.{Nothing, Unknown, Load, Export, Alter, Show, Points, Page, Why}
 use Rattle.panel.specs.Console.{after, Loads, read, unopened, unread, Exports, written, unwritten, LineLeads, load, export, other}
 use Rattle.panel.specs.Lines.{ByCalls}
 
@@ -43,6 +43,7 @@ by-calls-after (Alter e) r = by-calls-call (Lists.Alter e) r
 by-calls-after Show r = r
 by-calls-after (Points c d e s) r = r
 by-calls-after Page r = r
+by-calls-after (Why i j) r = r
 
 by-calls-load : {u v : Unit} {path bs : List ℕ} → Loads u path v bs → ByCalls u → ByCalls v
 unfolding outcomeOf

@@ -4,14 +4,14 @@ use mathlib.Core.List.{List, []}
 use mathlib.Core.Path.{_≡_}
 use lib.ListN.{length}
 use Rattle.base.specs.Text.{text, Put}
-use Rattle.rules.specs.Calls.{loadOf, alterOf, exportOf}
+use Rattle.rules.specs.Calls.{loadOf, alterOf, exportOf, whyOf}
 use Rattle.rules.specs.File.{longestFile}
 use Rattle.rules.specs.Survey.{surveyOf}
 use Rattle.rules.specs.declared.Unit.{Unit}
 use Rattle.command.specs.Reading.{pathOf, commandIn}
 use Rattle.command.specs.declared.Command.{Command}
-use Rattle.command.specs.declared.Command.the-variants.{Nothing, Unknown, Load, Export, Alter, Show, Points, Page}
-use Rattle.listing.specs.Listing.{done, shown, valued, failed}
+use Rattle.command.specs.declared.Command.the-variants.{Nothing, Unknown, Load, Export, Alter, Show, Points, Page, Why}
+use Rattle.listing.specs.Listing.{done, shown, valued, explained, failed}
 use Rattle.pages.specs.Printed.{pageHeld, longestPage}
 use Rattle.panel.specs.declared.Said.{Said}
 
@@ -30,6 +30,7 @@ said u (Alter e) = done (alterOf u e .answer)
 said u Show = shown u
 said u (Points c d e s) = valued (text "points ") (surveyOf c d e s)
 said u Page = pageHeld u
+said u (Why i j) = explained (whyOf u i j)
 
 unfoldable pub after : Unit → Command → Unit
 after u Nothing = u
@@ -40,6 +41,7 @@ after u (Alter e) = alterOf u e .unit
 after u Show = u
 after u (Points c d e s) = u
 after u Page = u
+after u (Why i j) = u
 
 -- the unit v, and bs over the front of a buffer that held `old` and then holds `new`
 pub record Says (v : Unit) (bs old new : List ℕ) (r : Said) : Type 0 where

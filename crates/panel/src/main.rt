@@ -61,6 +61,10 @@ fn obey(u: Unit, command: Command, out: &mut [u8]) -> Said
             unit: u,
             length: listing::put_valued(out, b"points ", survey::survey_points(c, d, e, s)),
         },
+        Command::Why(i, j) => Said {
+            unit: u,
+            length: listing::put_why(out, unit::why(u, i, j)),
+        },
         Command::Unknown => Said {
             unit: u,
             length: listing::put(out, b"unknown command\n"),

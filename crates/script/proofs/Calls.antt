@@ -5,23 +5,40 @@ use mathlib.Core.List.{List, _∷_}
 use native.Mathlib.Nat.{min-le-right}
 use native.Mathlib.Omega.{arith}
 use lib.ListN.{length, take, replicate, length-replicate}
+use Rattle.rules.specs.Answers.{answerOf}
+use Rattle.rules.specs.Calls.{explained}
 use Rattle.rules.specs.Lists.{Call, Show}
+use Rattle.rules.specs.declared.Answer.the-variants.{Accepted, Refused}
+use Rattle.rules.specs.declared.Reason.{Reason}
+use Rattle.rules.specs.declared.Why.the-variants.{Because, Refused as Why·Refused}
 use Rattle.rules.specs.declared.Edit.{Edit}
 use Rattle.command.specs.declared.Command as Command
 use Rattle.command.specs.declared.Command.{Command}
 use Rattle.script.specs.Script.{callOf}
 
 -- a command without a call of its own
-pub shown-else : (c : Command) (n : ℕ) (file : List ℕ) → ¬ (c ≡ Command.Load) → ¬ (c ≡ Command.Export) → ((e : Edit) → ¬ (c ≡ Command.Alter e)) → ¬ (c ≡ Command.Page) → callOf c n file ≡ Show
+pub shown-else : (c : Command) (n : ℕ) (file : List ℕ) → ¬ (c ≡ Command.Load) → ¬ (c ≡ Command.Export) → ((e : Edit) → ¬ (c ≡ Command.Alter e)) → ¬ (c ≡ Command.Page) → ((i j : ℕ) → ¬ (c ≡ Command.Why i j)) → callOf c n file ≡ Show
 unfolding callOf
-shown-else Command.Load n file l x a p = absurd (l refl)
-shown-else Command.Export n file l x a p = absurd (x refl)
-shown-else (Command.Alter e) n file l x a p = absurd (a e refl)
-shown-else Command.Show n file l x a p = refl
-shown-else (Command.Points code degree extent seal) n file l x a p = refl
-shown-else Command.Page n file l x a p = absurd (p refl)
-shown-else Command.Nothing n file l x a p = refl
-shown-else Command.Unknown n file l x a p = refl
+shown-else Command.Load n file l x a p w = absurd (l refl)
+shown-else Command.Export n file l x a p w = absurd (x refl)
+shown-else (Command.Alter e) n file l x a p w = absurd (a e refl)
+shown-else Command.Show n file l x a p w = refl
+shown-else (Command.Points code degree extent seal) n file l x a p w = refl
+shown-else Command.Page n file l x a p w = absurd (p refl)
+shown-else (Command.Why i j) n file l x a p w = absurd (w i j refl)
+shown-else Command.Nothing n file l x a p w = refl
+shown-else Command.Unknown n file l x a p w = refl
+
+-- the answer of a question that has a reason, and of one that is refused
+pub answer-because : (n : ℕ) (q : Reason) {r : Reason} → Because r ≡ explained n q → Accepted 0 ≡ answerOf n 0
+unfolding explained answerOf
+answer-because zero q e = refl
+answer-because (suc n) q e = absurd (let z : _≡_ {A = ℕ} 0 1 = cc in omega arith)
+
+pub answer-refused : (n : ℕ) (q : Reason) (m : ℕ) → Why·Refused m ≡ explained n q → Refused m ≡ answerOf n 0
+unfolding explained answerOf
+answer-refused zero q m e = absurd (let z : _≡_ {A = ℕ} 0 1 = cc in omega arith)
+answer-refused (suc n) q m e = cc
 
 -- the front of bytes that are all the same
 same-front : (x n m : ℕ) → n ≤ m → take n (replicate m x) ≡ replicate n x

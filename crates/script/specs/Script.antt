@@ -9,7 +9,7 @@ use Rattle.base.specs.Bytes.{numberOf}
 use Rattle.base.specs.Choice.{pick}
 use Rattle.rules.specs.Calls.{freshUnit}
 use Rattle.rules.specs.File.{longestFile}
-use Rattle.rules.specs.Lists.{Call, Load, Alter, ExportTo, PageTo, Show, Outcome, outcomeOf}
+use Rattle.rules.specs.Lists.{Call, Load, Alter, ExportTo, PageTo, Show, AskWhy, Outcome, outcomeOf}
 use Rattle.pages.specs.Printed.{longestPage}
 use Rattle.rules.specs.declared.Reply.{Reply}
 use Rattle.rules.specs.declared.Answer.{Answer}
@@ -43,6 +43,7 @@ callOf (Command.Alter e) n file = Alter e
 callOf Command.Show n file = Show
 callOf (Command.Points code degree extent seal) n file = Show
 callOf Command.Page n file = PageTo (replicate (min n longestPage) 0)
+callOf (Command.Why i j) n file = AskWhy i j
 callOf Command.Nothing n file = Show
 callOf Command.Unknown n file = Show
 

@@ -3,7 +3,8 @@ ghost use mathlib.Core.Path.{_≡_};
 ghost use Prim.Native.Nat.{_+_, _≤_, min};
 ghost use lib.ListN.{length, replicate};
 ghost use Rattle.pages.specs.Printed.{longestPage};
-ghost use Rattle.rules.specs.Calls.{showOf, exportOf, pageOf};
+ghost use Rattle.rules.specs.Answers.{answerOf};
+ghost use Rattle.rules.specs.Calls.{barRefusal, showOf, exportOf, pageOf};
 ghost use Rattle.rules.specs.Demands.{Sound};
 ghost use Rattle.rules.specs.File.{longestFile};
 ghost use Rattle.rules.specs.Lists.{outcomeOf, districtAfter, unitAfter};
@@ -13,6 +14,7 @@ use pages::LONGEST_PAGE;
 use rules::Answer;
 use rules::Reply;
 use rules::Unit;
+use rules::Why;
 use rules::records::LONGEST_FILE;
 
 // The command of a call, from its kind and its numbers.
@@ -61,6 +63,17 @@ fn paged(u: Unit, n: usize) -> Answer
     unit::page(u, &mut buffer[..room])
 }
 
+// What why answers, its reason left out.
+fn asked(u: Unit, segment: usize, strategy: usize) -> Answer
+    ensures { λ r. ⌜ r ≡ answerOf (barRefusal (u .district) segment strategy) 0 ⌝ }
+{
+    let why = unit::why(u, segment, strategy);
+    match why {
+        Why::Because(_) => Answer::Accepted(0),
+        Why::Refused(n) => Answer::Refused(n),
+    }
+}
+
 // One call: its answer, and the unit after it.
 fn make(u: Unit, command: Command, n: usize, bytes: &[u8]) -> Reply
     ensures { λ r. ⌜ r ≡ replyOf (outcomeOf u (callOf command n (now (bytes .entry)))) ⌝ }
@@ -74,6 +87,10 @@ fn make(u: Unit, command: Command, n: usize, bytes: &[u8]) -> Reply
         Command::Alter(e) => unit::alter(u, e),
         Command::Page => Reply {
             answer: paged(u, n),
+            unit: u,
+        },
+        Command::Why(i, j) => Reply {
+            answer: asked(u, i, j),
             unit: u,
         },
         _ => Reply {

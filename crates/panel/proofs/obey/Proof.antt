@@ -23,20 +23,24 @@ unfolding said after text
 returns-4 c = rw (c .before .before .before .before .before .before .before .command2 .given .1) record { unit = refl; put = rw (c .before .before .before .survey-points .ensures) at (c .before .before .put-valued .ensures) }
 
 returns-5 : tie.Need-returns-5
-unfolding said after text
-returns-5 c = rw (c .before .before .before .before .before .enum-told3 .given .1) record { unit = refl; put = c .before .before .put .ensures }
+unfolding said after
+returns-5 c = rw (c .before .before .before .before .before .before .command3 .given .1) record { unit = refl; put = rw (c .before .before .before .why .ensures) at (c .before .before .put-why .ensures) }
 
 returns-6 : tie.Need-returns-6
-unfolding said after
-returns-6 c = rw (c .before .enum-told4 .given .1, c .silent .ensures .1) record { unit = c .silent .ensures .0; put = record { count = refl; bytes = refl } }
+unfolding said after text
+returns-6 c = rw (c .before .before .before .before .before .enum-told3 .given .1) record { unit = refl; put = c .before .before .put .ensures }
 
 returns-7 : tie.Need-returns-7
 unfolding said after
-returns-7 c = rw (c .before .enum-told5 .given .1, c .silent2 .ensures .1) record { unit = c .silent2 .ensures .0; put = record { count = refl; bytes = refl } }
+returns-7 c = rw (c .before .enum-told4 .given .1, c .silent .ensures .1) record { unit = c .silent .ensures .0; put = record { count = refl; bytes = refl } }
 
 returns-8 : tie.Need-returns-8
 unfolding said after
-returns-8 c = rw (c .before .enum-told6 .given .1, c .silent3 .ensures .1) record { unit = c .silent3 .ensures .0; put = record { count = refl; bytes = refl } }
+returns-8 c = rw (c .before .enum-told5 .given .1, c .silent2 .ensures .1) record { unit = c .silent2 .ensures .0; put = record { count = refl; bytes = refl } }
+
+returns-9 : tie.Need-returns-9
+unfolding said after
+returns-9 c = rw (c .before .enum-told6 .given .1, c .silent3 .ensures .1) record { unit = c .silent3 .ensures .0; put = record { count = refl; bytes = refl } }
 
 pub obey-spec : {M : Type 1} → statement M
 obey-spec =
@@ -50,6 +54,9 @@ obey-spec =
     (λ c. search needs)
     (λ c κs. search needs)
     (λ c. search needs)
+    (λ c. search needs)
+    (λ c κs. search needs)
+    (λ c κs. search needs)
     (λ c. search needs)
     (λ c κs. search needs)
     (λ c κs. search needs)
@@ -72,6 +79,8 @@ obey-spec =
     returns-4
     (λ c. search needs)
     returns-5
+    (λ c. search needs)
     returns-6
     returns-7
-    returns-8)
+    returns-8
+    returns-9)

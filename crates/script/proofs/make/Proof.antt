@@ -25,16 +25,20 @@ returns-4 : tie.Need-returns-4
 unfolding callOf outcomeOf
 returns-4 c = rw (c .before .enum-told3 .given .1, c .paged .ensures)
 
+returns-5 : tie.Need-returns-5
+unfolding callOf outcomeOf
+returns-5 c = rw (c .before .before .command2 .given .1, c .asked .ensures)
+
 -- the places of the other commands among all
 abbrev others : List ℕ
 others = 0 ∷ 1 ∷ 5 ∷ 6 ∷ []
 
-returns-5 : tie.Need-returns-5
+returns-6 : tie.Need-returns-6
 unfolding outcomeOf
-returns-5 c =
-    let k = c .match .keys5 in
+returns-6 c =
+    let k = c .match .keys6 in
     let a = c .before .before .args in
-    rw (shown-else (a .command) (a .n) (a .bytes .now) (λ l. miss others 2 tt (rw l at k)) (λ x. miss others 3 tt (rw x at k)) (λ e l. miss others 4 tt (rw l at k)) (λ p. miss others 7 tt (rw p at k)))
+    rw (shown-else (a .command) (a .n) (a .bytes .now) (λ l. miss others 2 tt (rw l at k)) (λ x. miss others 3 tt (rw x at k)) (λ e l. miss others 4 tt (rw l at k)) (λ p. miss others 7 tt (rw p at k)) (λ i j w. miss others 8 tt (rw w at k)))
 
 pub make-spec : {M : Type 1} → statement M
 make-spec =
@@ -48,8 +52,11 @@ make-spec =
     (λ c κs. search needs)
     (λ c. search needs)
     (λ c κs. search needs)
+    (λ c. search needs)
+    (λ c κs. search needs)
     returns
     returns-2
     returns-3
     returns-4
-    returns-5)
+    returns-5
+    returns-6)
