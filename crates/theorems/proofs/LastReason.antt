@@ -12,7 +12,7 @@ use lib.ListN.{length}
 use lib.Signed.{leZ}
 use Rattle.base.proofs.Choice.{both, between-yes}
 use Rattle.base.proofs.All.{all-true, all-at}
-use Rattle.rules.specs.District.{District, mostSegments, segmentsOf, strategiesOf, yearsOf, distressesOf, resourcesOf, barredIn}
+use Rattle.rules.specs.District.{District, segmentsOf, strategiesOf, yearsOf, distressesOf, resourcesOf, barredIn}
 use Rattle.rules.specs.Rating.{scaledLimit, minimumReached, yearsReached, minimaReached, overallReached, permitted, totalOf}
 use Rattle.rules.specs.Table.{tableOf}
 use Rattle.rules.specs.Phases.{strategyAt, used, holds as limitHolds, within}

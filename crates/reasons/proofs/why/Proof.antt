@@ -6,7 +6,6 @@ use borrow.Author.Needs.{needs}
 use borrow.Author.Tests.{not-true, not-false}
 use Rattle.grammar.proofs.Edits.{bar-numbers}
 use Rattle.grammar.proofs.InRanges.{in-ranges}
-use Rattle.rules.specs.Calls.{barRefusal}
 use Rattle.rules.specs.File.{inRange}
 use Rattle.reasons.proofs.Answers.{refused-as, because, out-of-range, in-its-range}
 use Rattle.reasons.proofs.why.Statement.{statement}
