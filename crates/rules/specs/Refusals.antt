@@ -4,7 +4,7 @@ use mathlib.Core.Path.{_≡_, refl}
 use mathlib.Core.List.{List, [], _∷_, _++_, map}
 use lib.ListN.{take, set, replicate}
 use Rattle.rules.specs.Calls.{barRefusal, limitRefusal, ratingRefusal, exportRefusal, pageRefusal, loadRefusal, districtIn, exportOf}
-use Rattle.rules.specs.Lists.{Load, Alter, ExportTo, PageTo, Show, unitAfter}
+use Rattle.rules.specs.Lists.{Load, Alter, ExportTo, PageTo, Show, AskWhy, refusalOf, unitAfter}
 use Rattle.rules.specs.declared.Edit.the-variants.{Bar, Unbar, SetLimit, SetRating}
 use Rattle.rules.specs.Results.{shown, shows, whyIn, resultOf, WorkedCase, _⇒_, Agree}
 use Rattle.rules.specs.Marked.{card}
@@ -72,9 +72,12 @@ callRefusals d =
     ∷ exportRefusal d card
     ∷ pageRefusal d (replicate 404 0)
     ∷ pageRefusal d (replicate 405 0)
+    -- why, in a list of calls
+    ∷ refusalOf d (AskWhy 3 1)
+    ∷ refusalOf d (AskWhy 1 3)
     ∷ []
 
-pub calls : callRefusals (districtIn card) ≡ 6 ∷ 6 ∷ 7 ∷ 7 ∷ 6 ∷ 0 ∷ 7 ∷ 7 ∷ 8 ∷ 0 ∷ 6 ∷ 6 ∷ 7 ∷ 7 ∷ 8 ∷ 0 ∷ 9 ∷ 0 ∷ 11 ∷ 0 ∷ []
+pub calls : callRefusals (districtIn card) ≡ 6 ∷ 6 ∷ 7 ∷ 7 ∷ 6 ∷ 0 ∷ 7 ∷ 7 ∷ 8 ∷ 0 ∷ 6 ∷ 6 ∷ 7 ∷ 7 ∷ 8 ∷ 0 ∷ 9 ∷ 0 ∷ 11 ∷ 0 ∷ 6 ∷ 7 ∷ []
 unfolding resultOf
 calls = refl
 
@@ -93,8 +96,8 @@ lists =
     -- barred twice; barred and unbarred, and unbarred what is not barred
     shown (Load card ∷ Alter (Bar 2 2) ∷ Alter (Bar 2 2) ∷ []) ⇒ shows (2 ∷ 1 ∷ []) 7_200_000 7_200_000 7_200_000 0 0 0
     ∷ shown (Load card ∷ Alter (Unbar 1 1) ∷ Alter (Bar 2 2) ∷ Alter (Unbar 2 2) ∷ Alter (Unbar 2 2) ∷ []) ⇒ shows (2 ∷ 1 ∷ []) 7_200_000 7_200_000 7_500_170 1 0 0
-    -- refused calls in between; export, page and show
-    ∷ shown (Load card ∷ Load [] ∷ Alter (Bar 3 1) ∷ Alter (SetLimit 2 0) ∷ Alter (SetLimit 1 1_000_000_000) ∷ Alter (SetRating 1 1 21) ∷ Alter (Unbar 1 3) ∷ ExportTo [] ∷ PageTo [] ∷ Show ∷ [])
+    -- refused calls in between; export, page, show and why
+    ∷ shown (Load card ∷ Load [] ∷ Alter (Bar 3 1) ∷ Alter (SetLimit 2 0) ∷ Alter (SetLimit 1 1_000_000_000) ∷ Alter (SetRating 1 1 21) ∷ Alter (Unbar 1 3) ∷ ExportTo [] ∷ PageTo [] ∷ Show ∷ AskWhy 3 1 ∷ AskWhy 1 1 ∷ [])
     ⇒ shows (2 ∷ 1 ∷ []) 7_200_000 7_200_000 7_500_170 1 0 0
     -- loaded again; nothing but refused calls
     ∷ shown (Load card ∷ Alter (SetLimit 1 0) ∷ Load card ∷ []) ⇒ shows (2 ∷ 1 ∷ []) 7_200_000 7_200_000 7_500_170 1 0 0
