@@ -1,67 +1,49 @@
--- Reasons, computed from these rules: two districts in which each of the eight comes up, and the card's. What each comes to is an independent
--- program's (reference/). All indexes are 100, so that a percent is what survives; a segment has an area of 100, so that a requirement of 1,000
--- uses one unit.
-use Prim.Native.Nat.{ℕ, _*_}
+-- Reasons, computed from these rules: two districts whose answers take an order among the reasons and firsts among numbers, and the card's. What
+-- each comes to is an independent program's (reference/); crates/worked has two in which each of the eight comes up. All indexes are 100, so that
+-- a percent is what survives; a segment has an area of 100, so that a requirement of 1,000 uses one unit.
 use mathlib.Core.Path.{refl}
 use mathlib.Core.List.{List, [], _∷_}
-use lib.IntN.{ℤ, pos}
+use lib.IntN.{pos}
 use Rattle.rules.specs.Lists.{Load, Alter}
 use Rattle.rules.specs.declared.Edit.the-variants.{Bar, SetLimit}
-use Rattle.rules.specs.Writer.{Strategy, Roads, minus, strategy, nothingDemanded, segment, fileOf}
+use Rattle.rules.specs.Writer.{Roads, strategy, nothingDemanded, segment, fileOf}
 use Rattle.rules.specs.Results.{whys, inRow, resultOf, WorkedCase, _⇒_, Agree}
 use Rattle.rules.specs.Marked.{card}
 
--- two distress types and two years: units of resource 2, gains, percents
-abbrev lasting : ℕ → List ℤ → List (List ℕ) → Strategy
-lasting units gains percents = record { requirements = 1000 ∷ 1000 * units ∷ []; gains = gains; percents = percents }
-
--- demands decide: minimum ratings missed for either distress type in either year, overall requirements, benefits of 0 and below
-abbrev pub demanding : Roads
-demanding =
+-- demands decide: both distress types miss a minimum, the first in two years and the second in an earlier one; one that is barred misses too;
+-- one of no benefit misses the overall requirement
+abbrev pub missing : Roads
+missing =
     record {
-      years = 2;
-      limits = 10 ∷ 10 ∷ [];
+      years = 3;
+      limits = 10 ∷ [];
       greatest = 20 ∷ 20 ∷ [];
       strategies =
-          lasting 1 (pos 8 ∷ pos 8 ∷ []) ((100 ∷ 80 ∷ []) ∷ (100 ∷ 60 ∷ []) ∷ [])
-          ∷ lasting 1 (pos 10 ∷ pos 10 ∷ []) ((100 ∷ 100 ∷ []) ∷ (100 ∷ 100 ∷ []) ∷ [])
-          ∷ lasting 1 (pos 8 ∷ pos 1 ∷ []) ((100 ∷ 40 ∷ []) ∷ (100 ∷ 50 ∷ []) ∷ [])
-          ∷ lasting 1 (pos 1 ∷ pos 6 ∷ []) ((100 ∷ 100 ∷ []) ∷ (100 ∷ 100 ∷ []) ∷ [])
-          ∷ lasting 1 (pos 8 ∷ pos 1 ∷ []) ((100 ∷ 80 ∷ []) ∷ (100 ∷ 50 ∷ []) ∷ [])
-          ∷ lasting 1 (pos 8 ∷ pos 4 ∷ []) ((100 ∷ 80 ∷ []) ∷ (50 ∷ 0 ∷ []) ∷ [])
-          ∷ lasting 1 (pos 4 ∷ pos 2 ∷ []) ((100 ∷ 100 ∷ []) ∷ (100 ∷ 100 ∷ []) ∷ [])
-          ∷ lasting 1 [] ((100 ∷ 100 ∷ []) ∷ (100 ∷ 100 ∷ []) ∷ [])
-          ∷ lasting 1 (pos 5 ∷ minus 5 ∷ []) ((100 ∷ 0 ∷ []) ∷ (0 ∷ 100 ∷ []) ∷ [])
-          ∷ lasting 11 (pos 6 ∷ minus 6 ∷ []) ((100 ∷ 0 ∷ []) ∷ (0 ∷ 100 ∷ []) ∷ [])
+          record { requirements = 1000 ∷ []; gains = pos 8 ∷ pos 1 ∷ []; percents = (100 ∷ 40 ∷ 40 ∷ []) ∷ (100 ∷ 50 ∷ 50 ∷ []) ∷ [] }
+          ∷ record { requirements = 1000 ∷ []; gains = []; percents = [] }
           ∷ [];
       pavements =
-          record { overall = 28; minima = (12 ∷ 14 ∷ []) ∷ (12 ∷ 11 ∷ []) ∷ [] }
-          ∷ record { overall = 26; minima = [] ∷ (9 ∷ 4 ∷ []) ∷ [] }
+          record { overall = 28; minima = (12 ∷ 14 ∷ 14 ∷ []) ∷ (12 ∷ 11 ∷ 11 ∷ []) ∷ [] }
+          ∷ record { overall = 26; minima = [] ∷ (9 ∷ 4 ∷ 4 ∷ []) ∷ [] }
           ∷ [];
       segments =
-          record { pavement = 1; traffic = 100; environment = 100; length = 100; width = 1; barred = 8 ∷ []; ratings = 10 ∷ 10 ∷ [] }
-          ∷ record { pavement = 2; traffic = 100; environment = 100; length = 100; width = 1; barred = 2 ∷ []; ratings = 15 ∷ 10 ∷ [] }
+          record { pavement = 1; traffic = 100; environment = 100; length = 100; width = 1; barred = 2 ∷ []; ratings = 10 ∷ 10 ∷ [] }
+          ∷ record { pavement = 2; traffic = 100; environment = 100; length = 100; width = 1; barred = []; ratings = 15 ∷ 10 ∷ [] }
           ∷ [];
     }
 
--- limits decide: each of three passed alone, or beside what the other segment has
-abbrev pub limiting : Roads
-limiting =
+-- limits decide: both passed beside what the other segment has, one alone; and one strategy fits in the place of another
+abbrev pub passing : Roads
+passing =
     record {
       years = 1;
-      limits = 10 ∷ 10 ∷ 10 ∷ [];
+      limits = 10 ∷ 10 ∷ [];
       greatest = 50 ∷ [];
       strategies =
-          strategy (5000 ∷ 4000 ∷ 3000 ∷ []) (pos 20) 100
-          ∷ strategy (6000 ∷ 6000 ∷ 6000 ∷ []) (pos 24) 100
-          ∷ strategy (11000 ∷ []) (pos 40) 100
-          ∷ strategy (0 ∷ 11000 ∷ 12000 ∷ []) (pos 40) 100
-          ∷ strategy (5000 ∷ 4000 ∷ 3000 ∷ []) (pos 20) 100
-          ∷ strategy (10000 ∷ []) (pos 10) 100
-          ∷ strategy (1000 ∷ 7000 ∷ 8000 ∷ []) (pos 35) 100
-          ∷ strategy (4000 ∷ 4000 ∷ 3000 ∷ []) (pos 15) 100
-          ∷ strategy (0 ∷ 0 ∷ 8000 ∷ []) (pos 25) 100
-          ∷ strategy (0 ∷ 6001 ∷ []) (pos 12) 100
+          strategy (5000 ∷ 4000 ∷ []) (pos 20) 100
+          ∷ strategy (6000 ∷ 7000 ∷ []) (pos 24) 100
+          ∷ strategy (0 ∷ 11000 ∷ []) (pos 40) 100
+          ∷ strategy (4000 ∷ 4000 ∷ []) (pos 15) 100
           ∷ [];
       pavements = nothingDemanded ∷ [];
       segments = segment 100 1 [] ∷ segment 100 1 [] ∷ [];
@@ -69,17 +51,10 @@ limiting =
 
 abbrev pub explanations : List WorkedCase
 explanations =
-    whys (Load (fileOf demanding) ∷ [])
-    ⇒ inRow
-    ((8 ∷ []) ∷ (1 ∷ []) ∷ (3 ∷ 1 ∷ 2 ∷ []) ∷ (3 ∷ 1 ∷ 1 ∷ []) ∷ (3 ∷ 2 ∷ 1 ∷ []) ∷ (3 ∷ 2 ∷ 2 ∷ []) ∷ (4 ∷ []) ∷ (2 ∷ []) ∷ (3 ∷ 1 ∷ 2 ∷ []) ∷ (3 ∷ 1 ∷ 2 ∷ [])
-    ∷ (1 ∷ []) ∷ (2 ∷ []) ∷ (8 ∷ []) ∷ (8 ∷ []) ∷ (8 ∷ []) ∷ (8 ∷ []) ∷ (8 ∷ []) ∷ (4 ∷ []) ∷ (5 ∷ []) ∷ (5 ∷ [])
-    ∷ [])
+    whys (Load (fileOf missing) ∷ []) ⇒ inRow ((3 ∷ 1 ∷ 2 ∷ []) ∷ (2 ∷ []) ∷ (1 ∷ []) ∷ (4 ∷ []) ∷ [])
     -- both segments have strategy 1
-    ∷ whys (Load (fileOf limiting) ∷ [])
-    ⇒ inRow
-    ((1 ∷ []) ∷ (7 ∷ 1 ∷ []) ∷ (6 ∷ 1 ∷ []) ∷ (6 ∷ 2 ∷ []) ∷ (8 ∷ []) ∷ (7 ∷ 1 ∷ []) ∷ (7 ∷ 2 ∷ []) ∷ (8 ∷ []) ∷ (7 ∷ 3 ∷ []) ∷ (7 ∷ 2 ∷ [])
-    ∷ (1 ∷ []) ∷ (7 ∷ 1 ∷ []) ∷ (6 ∷ 1 ∷ []) ∷ (6 ∷ 2 ∷ []) ∷ (8 ∷ []) ∷ (7 ∷ 1 ∷ []) ∷ (7 ∷ 2 ∷ []) ∷ (8 ∷ []) ∷ (7 ∷ 3 ∷ []) ∷ (7 ∷ 2 ∷ [])
-    ∷ [])
+    ∷ whys (Load (fileOf passing) ∷ [])
+    ⇒ inRow ((1 ∷ []) ∷ (7 ∷ 1 ∷ []) ∷ (6 ∷ 2 ∷ []) ∷ (8 ∷ []) ∷ (1 ∷ []) ∷ (7 ∷ 1 ∷ []) ∷ (6 ∷ 2 ∷ []) ∷ (8 ∷ []) ∷ [])
     -- the card: segments of two sizes, and with limit 59 one that has nothing
     ∷ whys (Load card ∷ []) ⇒ inRow ((8 ∷ []) ∷ (1 ∷ []) ∷ (1 ∷ []) ∷ (7 ∷ 1 ∷ []) ∷ [])
     ∷ whys (Load card ∷ Alter (SetLimit 1 59) ∷ []) ⇒ inRow ((7 ∷ 1 ∷ []) ∷ (6 ∷ 1 ∷ []) ∷ (1 ∷ []) ∷ (6 ∷ 1 ∷ []) ∷ [])
