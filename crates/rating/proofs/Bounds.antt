@@ -14,7 +14,7 @@ use Rattle.base.proofs.Integers.{abs-add, abs-neg, abs-min, abs-max, abs-mul-le
 use Rattle.laws.proofs.Survival.{survival-le}
 use Rattle.grammar.specs.Ranges.{Ranges}
 use Rattle.rules.specs.District.{District, mostStrategies, gainsAt, valueAt, strategyPlace, segmentPlace, distressesOf, yearsOf, greatestOf, gainOf, pavementOf, ratingOf}
-use Rattle.rules.specs.Rating.{cappedGain, gain, survival, improvement, improvements, rating, effect, area, benefit, usage, scaledLimit}
+use Rattle.rules.specs.Rating.{cappedGain, gain, survival, improvement, rating, bothEnds, credit, credits, effect, area, benefit, usage, scaledLimit}
 use Rattle.rating.specs.Numbers.{Segment, SegmentOf, Pavement, Strategy, Distress, Resource}
 
 -- a byte whose signed number is small
@@ -25,6 +25,10 @@ byte-small b h = go (ltb b 128) refl (ltb b 256) refl
     go true e u f = omega (arith, ltb-true b 128 e)
     go false e true f = omega (arith, ltb-true b 256 f)
     go false e false f = let z : natAbs (pos b -ℤ pos 256) ≤ 50 = rw e at h in omega (arith, rw f at z)
+
+pub both-ends-le : (d : District) (i j k t : ℕ) → bothEnds d i j k t ≤ 2_000_000
+unfolding bothEnds
+both-ends-le d i j k t = omega (arith, survival-le d i j k (t - 1), survival-le d i j k t)
 
 module _ (d : District) (ok : Ranges d) where
   pub byte-le : (j k : ℕ) → Strategy j → Distress k → valueAt d (strategyPlace j + gainsAt + (k - 1)) ≤ 306
@@ -56,18 +60,22 @@ module _ (d : District) (ok : Ranges d) where
   rating-abs i j k t p q s =
       omega (arith, current-le i k p s, improvement-abs i j k t p q s, abs-add (pos (1_000_000 * ratingOf d i k)) (improvement d i j k t))
 
-  pub improvements-abs : (i j k : ℕ) → Segment i → Strategy j → Distress k → natAbs (improvements d i j k) ≤ 500_000_000
-  unfolding improvements
-  improvements-abs i j k p q s =
+  pub credit-abs : (i j k t : ℕ) → Segment i → Strategy j → Distress k → natAbs (credit d i j k t) ≤ 100_000_000
+  unfolding credit
+  credit-abs i j k t p q s = abs-mul-le (gain d i j k) (pos (bothEnds d i j k t)) (gain-abs i j k p q s) (both-ends-le d i j k t)
+
+  pub credits-abs : (i j k : ℕ) → Segment i → Strategy j → Distress k → natAbs (credits d i j k) ≤ 1_000_000_000
+  unfolding credits
+  credits-abs i j k p q s =
       let y = ok .years in
-      omega (arith, sumZ-abs (yearsOf d) 50_000_000 (improvement d i j k) (λ t l h. improvement-abs i j k t p q s))
+      omega (arith, sumZ-abs (yearsOf d) 100_000_000 (credit d i j k) (λ t l h. credit-abs i j k t p q s))
 
   pub effect-abs : (i j : ℕ) → Segment i → Strategy j → natAbs (effect d i j) ≤ 450_000
   unfolding effect
   effect-abs i j p q =
       let n = ok .distresses in
-      rw (abs-quot (sumZ (distressesOf d) (improvements d i j)) 10_000)
-      (omega (arith, sumZ-abs (distressesOf d) 500_000_000 (improvements d i j) (λ k l h. improvements-abs i j k p q (l, omega arith))))
+      rw (abs-quot (sumZ (distressesOf d) (credits d i j)) 20_000)
+      (omega (arith, sumZ-abs (distressesOf d) 1_000_000_000 (credits d i j) (λ k l h. credits-abs i j k p q (l, omega arith))))
 
   pub area-le : (i : ℕ) → Segment i → area d i ≤ 1_999_800
   unfolding area

@@ -6,7 +6,7 @@ ghost use Rattle.base.specs.Choice.{pick};
 ghost use Rattle.base.specs.Over.{sum, sumZ, minZ, maxZ};
 ghost use Rattle.grammar.specs.Ranges.{Ranges};
 ghost use Rattle.rules.specs.District.{mostYears, gainsAt, percentsAt, minimaAt, barsAt, valueAt, limitPlace, greatestPlace, strategyPlace, pavementPlace, segmentPlace, ratingPlace, gainOf, yearsOf, distressesOf, barredIn};
-ghost use Rattle.rules.specs.Rating.{gain, survival, improvements, rating, effect, area, benefit, usage, scaledLimit, reaches, minimumReached, yearsReached, minimaReached, firstRating, overallReached, permitted, fitsAlone, candidate};
+ghost use Rattle.rules.specs.Rating.{gain, survival, bothEnds, credits, rating, effect, area, benefit, usage, scaledLimit, reaches, minimumReached, yearsReached, minimaReached, firstRating, overallReached, permitted, fitsAlone, candidate};
 ghost use Rattle.rules.specs.Phases.{chosenUsage, used as Phases·used};
 ghost use Rattle.rules.specs.Table.{has, candidateBenefit, usageIn, limitIn, tableOf};
 ghost use Rattle.rating.specs.Areas.{areaIn, Treats};
@@ -139,25 +139,28 @@ fn survival(d: &District, i: usize, j: usize, k: usize, t: usize) -> usize
 
 // ---- effect, area, benefit
 
-// What is left of a gain in each year, summed over the years.
+// What is left of a gain at both ends of each year, summed over the years; at the start of year 1 all of it is.
 fn survivals(d: &District, i: usize, j: usize, k: usize) -> usize
     requires { ⌜ Ranges (now d) × Segment i × Strategy j × Distress k ⌝ }
-    ensures { λ s. ⌜ s ≡ sum (yearsOf (now (d .entry))) (survival (now (d .entry)) i j k) ⌝ }
+    ensures { λ s. ⌜ s ≡ sum (yearsOf (now (d .entry))) (bothEnds (now (d .entry)) i j k) ⌝ }
 {
     let years = d[YEAR_COUNT];
     let mut total: usize = 0;
+    let mut start: usize = 1000000;
     let mut t = 0;
     while t < years {
-        total += survival(d, i, j, k, t + 1);
+        let end = survival(d, i, j, k, t + 1);
+        total += start + end;
+        start = end;
         t += 1;
     }
     total
 }
 
-// What the gain adds over the years: it is a factor that all years share.
-fn improvements(d: &District, i: usize, j: usize, k: usize) -> i64
+// What the gain is credited with over the years: it is a factor that all years share.
+fn credits(d: &District, i: usize, j: usize, k: usize) -> i64
     requires { ⌜ Ranges (now d) × Segment i × Strategy j × Distress k ⌝ }
-    ensures { λ z. ⌜ z ≡ improvements (now (d .entry)) i j k ⌝ }
+    ensures { λ z. ⌜ z ≡ credits (now (d .entry)) i j k ⌝ }
 {
     gain(d, i, j, k) * (survivals(d, i, j, k) as i64)
 }
@@ -171,10 +174,10 @@ fn effect(d: &District, i: usize, j: usize) -> i64
     let mut sum: i64 = 0;
     let mut k = 0;
     while k < distresses {
-        sum = sum + improvements(d, i, j, k + 1);
+        sum = sum + credits(d, i, j, k + 1);
         k += 1;
     }
-    sum / 10000
+    sum / 20000
 }
 
 fn area(d: &District, i: usize) -> u64

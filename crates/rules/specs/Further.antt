@@ -260,19 +260,19 @@ cutDecides =
 abbrev pub furtherCases : List WorkedCase
 furtherCases =
     -- M9 with a second year
-    effects (Load (fileOf (oneSegment 101 (pos 1) (90 ∷ 90 ∷ []))) ∷ []) ⇒ (pos 179 ∷ [])
+    effects (Load (fileOf (oneSegment 101 (pos 1) (90 ∷ 90 ∷ []))) ∷ []) ⇒ (pos 184 ∷ [])
     -- rating 5 and gain 15 in year 0, whatever the indexes and percents
     ∷ initialRating (Load (fileOf (oneSegment 1_000 (pos 15) (0 ∷ []))) ∷ []) ⇒ (pos 20_000_000 ∷ [])
     -- segment 2 has the greater benefit and the smaller ratio
-    ∷ shown (Load card ∷ Alter (SetRating 2 1 9) ∷ []) ⇒ shows (2 ∷ 1 ∷ []) 7_200_000 7_200_000 8_940_986 1 0 0
-    ∷ planned fourSegments ⇒ shows (1 ∷ 2 ∷ 0 ∷ 1 ∷ []) 72_366_927 38_408_400 96_383_157 3 1 2
-    ∷ planned tiedSegments ⇒ shows (3 ∷ 0 ∷ 2 ∷ 3 ∷ []) 4_820_000 3_960_000 5_551_230 8 1 2
-    ∷ planned twoLimits ⇒ shows (1 ∷ 1 ∷ 0 ∷ []) 1_280_000 1_280_000 1_710_059 2 1 0
-    ∷ planned minima ⇒ shows (0 ∷ 0 ∷ 1 ∷ 0 ∷ []) 32_374_800 15_125_160 41_838_146 2 0 1
-    ∷ planned overall ⇒ shows (0 ∷ 1 ∷ []) 5_700_000 5_700_000 5_700_000 0 0 0
-    ∷ planned exactMinimum ⇒ shows (0 ∷ 0 ∷ 1 ∷ []) 32_940_000 28_620_000 45_092_745 1 0 1
+    ∷ shown (Load card ∷ Alter (SetRating 2 1 9) ∷ []) ⇒ shows (2 ∷ 1 ∷ []) 8_250_000 8_250_000 10_014_076 1 0 0
+    ∷ planned fourSegments ⇒ shows (1 ∷ 2 ∷ 0 ∷ 1 ∷ []) 111_572_863 38_908_450 127_252_761 3 1 2
+    ∷ planned tiedSegments ⇒ shows (3 ∷ 2 ∷ 2 ∷ 2 ∷ []) 7_550_000 6_960_000 7_787_678 8 0 1
+    ∷ planned twoLimits ⇒ shows (1 ∷ 1 ∷ 0 ∷ []) 2_240_000 2_240_000 2_993_508 2 1 0
+    ∷ planned minima ⇒ shows (0 ∷ 0 ∷ 1 ∷ 0 ∷ []) 38_239_800 18_258_160 49_138_864 2 0 1
+    ∷ planned overall ⇒ shows (0 ∷ 1 ∷ []) 6_650_000 6_650_000 6_650_000 0 0 0
+    ∷ planned exactMinimum ⇒ shows (0 ∷ 0 ∷ 1 ∷ []) 33_570_000 29_310_000 46_098_262 1 0 1
     ∷ planned twicePicked ⇒ shows (0 ∷ 1 ∷ 1 ∷ 1 ∷ []) 21_000_000 21_000_000 21_005_600 3 2 0
-    ∷ planned roundedRatios ⇒ shows (1 ∷ 0 ∷ []) 65 63 128 1 0 1
+    ∷ planned roundedRatios ⇒ shows (1 ∷ 0 ∷ []) 82 82 163 1 0 0
     ∷ planned roundedShares ⇒ shows (1 ∷ 0 ∷ 1 ∷ []) 9_000 9_000 17_001 2 1 0
     ∷ planned singleChanges ⇒ shows (1 ∷ 0 ∷ 1 ∷ []) 15_600 10_400 20_000 5 0 2
     ∷ planned equalCeilings ⇒ shows (2 ∷ 0 ∷ []) 27_000 6_000 30_000 1 0 1
@@ -280,9 +280,9 @@ furtherCases =
     -- nothing in year 3. Without the cut it comes to −4, and −3.4, −1 and 2.
     ∷ initialRating (Load fogSeal ∷ Alter (SetRating 1 1 2) ∷ []) ⇒ (pos 0 ∷ [])
     ∷ ratings (Load fogSeal ∷ Alter (SetRating 1 1 2) ∷ []) ⇒ (pos 200_000 ∷ pos 1_000_000 ∷ pos 2_000_000 ∷ [])
-    ∷ effects (Load fogSeal ∷ Alter (SetRating 1 1 2) ∷ []) ⇒ (minus 280 ∷ [])
-    ∷ planned bothCuts ⇒ shows (1 ∷ []) 640_000 640_000 640_000 0 0 0
-    ∷ planned cutDecides ⇒ shows (2 ∷ 2 ∷ []) 2_880_000 2_880_000 2_880_000 0 0 0
+    ∷ effects (Load fogSeal ∷ Alter (SetRating 1 1 2) ∷ []) ⇒ (minus 380 ∷ [])
+    ∷ planned bothCuts ⇒ shows (1 ∷ []) 620_000 620_000 620_000 0 0 0
+    ∷ planned cutDecides ⇒ shows (2 ∷ 2 ∷ []) 2_840_000 2_840_000 2_840_000 0 0 0
     ∷ []
 
 pub further : Agree furtherCases

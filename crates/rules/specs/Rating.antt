@@ -1,6 +1,6 @@
 -- Document 01, "Rating and benefit": of segment i, strategy j, distress k and year t of a district d. Gain, survival, rating, effect, area,
 -- benefit, use, permitted and candidate are the document's terms.
-use Prim.Native.Nat.{ℕ, zero, suc, _-_, _*_}
+use Prim.Native.Nat.{ℕ, zero, suc, _+_, _-_, _*_}
 use mathlib.Core.Bool.{Bool, not, _&&_, _||_}
 use lib.Dec.{leb, eqb}
 use lib.IntN.{ℤ, pos, negℤ, _+ℤ_, _-ℤ_, _*ℤ_}
@@ -29,13 +29,21 @@ improvement d i j k t = gain d i j k *ℤ pos (survival d i j k t)
 unfoldable pub rating : District → ℕ → ℕ → ℕ → ℕ → ℤ
 rating d i j k t = pos (1_000_000 * ratingOf d i k) +ℤ improvement d i j k t
 
+-- Work is done during the year (document 02, request 5): what is left of the gain at the start and at the end of year t, together.
+unfoldable pub bothEnds : District → ℕ → ℕ → ℕ → ℕ → ℕ
+bothEnds d i j k t = survival d i j k (t - 1) + survival d i j k t
+
+-- twice what year t is credited with, in millionths: that is the mean of its two ends
+unfoldable pub credit : District → ℕ → ℕ → ℕ → ℕ → ℤ
+credit d i j k t = gain d i j k *ℤ pos (bothEnds d i j k t)
+
 -- over years 1 to T
-unfoldable pub improvements : District → ℕ → ℕ → ℕ → ℤ
-improvements d i j k = sumZ (yearsOf d) (improvement d i j k)
+unfoldable pub credits : District → ℕ → ℕ → ℕ → ℤ
+credits d i j k = sumZ (yearsOf d) (credit d i j k)
 
 -- Effect: summed over all distress types too, and only then divided, toward zero.
 unfoldable pub effect : District → ℕ → ℕ → ℤ
-effect d i j = quotZ (sumZ (distressesOf d) (improvements d i j)) (pos 10_000)
+effect d i j = quotZ (sumZ (distressesOf d) (credits d i j)) (pos 20_000)
 
 -- in hundredths of a mile-foot
 unfoldable pub area : District → ℕ → ℕ

@@ -94,13 +94,13 @@ asked = refl
 abbrev pub lists : List WorkedCase
 lists =
     -- barred twice; barred and unbarred, and unbarred what is not barred
-    shown (Load card ∷ Alter (Bar 2 2) ∷ Alter (Bar 2 2) ∷ []) ⇒ shows (2 ∷ 1 ∷ []) 7_200_000 7_200_000 7_200_000 0 0 0
-    ∷ shown (Load card ∷ Alter (Unbar 1 1) ∷ Alter (Bar 2 2) ∷ Alter (Unbar 2 2) ∷ Alter (Unbar 2 2) ∷ []) ⇒ shows (2 ∷ 1 ∷ []) 7_200_000 7_200_000 7_500_170 1 0 0
+    shown (Load card ∷ Alter (Bar 2 2) ∷ Alter (Bar 2 2) ∷ []) ⇒ shows (2 ∷ 1 ∷ []) 8_250_000 8_250_000 8_250_000 0 0 0
+    ∷ shown (Load card ∷ Alter (Unbar 1 1) ∷ Alter (Bar 2 2) ∷ Alter (Unbar 2 2) ∷ Alter (Unbar 2 2) ∷ []) ⇒ shows (2 ∷ 1 ∷ []) 8_250_000 8_250_000 8_438_555 1 0 0
     -- refused calls in between; export, page, show and why
     ∷ shown (Load card ∷ Load [] ∷ Alter (Bar 3 1) ∷ Alter (SetLimit 2 0) ∷ Alter (SetLimit 1 1_000_000_000) ∷ Alter (SetRating 1 1 21) ∷ Alter (Unbar 1 3) ∷ ExportTo [] ∷ PageTo [] ∷ Show ∷ AskWhy 3 1 ∷ AskWhy 1 1 ∷ [])
-    ⇒ shows (2 ∷ 1 ∷ []) 7_200_000 7_200_000 7_500_170 1 0 0
+    ⇒ shows (2 ∷ 1 ∷ []) 8_250_000 8_250_000 8_438_555 1 0 0
     -- loaded again; nothing but refused calls
-    ∷ shown (Load card ∷ Alter (SetLimit 1 0) ∷ Load card ∷ []) ⇒ shows (2 ∷ 1 ∷ []) 7_200_000 7_200_000 7_500_170 1 0 0
+    ∷ shown (Load card ∷ Alter (SetLimit 1 0) ∷ Load card ∷ []) ⇒ shows (2 ∷ 1 ∷ []) 8_250_000 8_250_000 8_438_555 1 0 0
     ∷ shown (Load [] ∷ Alter (Bar 1 1) ∷ []) ⇒ shows [] 0 0 0 0 0 0
     ∷ []
 
