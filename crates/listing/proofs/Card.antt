@@ -11,15 +11,15 @@ pub card : Programme
 card =
     record {
       strategies = 2 ∷ 1 ∷ replicate 62 0;
-      total = 7_200_000;
-      «after_pickups» = 7_200_000;
-      ceiling = 7_500_170;
+      total = 8_250_000;
+      «after_pickups» = 8_250_000;
+      ceiling = 8_438_555;
       steps = 1;
       pickups = 0;
       changes = 0;
     }
 
-pub card-listed : listing card 2 ≡ text "1 2\n2 1\nbenefit 7200000\nceiling 7500170\nsteps 1 0 0\n"
+pub card-listed : listing card 2 ≡ text "1 2\n2 1\nbenefit 8250000\nceiling 8438555\nsteps 1 0 0\n"
 unfolding card text digitsOf decimal named line segmentLine segmentLines stepsLine results listing
 card-listed = refl
 

@@ -42,9 +42,9 @@ tiedSegments =
       limits = 148 ∷ 251 ∷ [];
       greatest = 50 ∷ [];
       strategies =
-          strategy (3000 ∷ 2000 ∷ []) (pos 10) 16
-          ∷ strategy (1000 ∷ 1000 ∷ []) (pos 10) 16
-          ∷ strategy (2000 ∷ 3000 ∷ []) (pos 10) 75
+          strategy (3000 ∷ 2000 ∷ []) (pos 2) 60
+          ∷ strategy (1000 ∷ 1000 ∷ []) (pos 2) 60
+          ∷ strategy (2000 ∷ 3000 ∷ []) (pos 10) 50
           ∷ [];
       pavements = nothingDemanded ∷ [];
       segments =
@@ -155,8 +155,8 @@ roundedRatios =
       limits = 1 ∷ [];
       greatest = 50 ∷ [];
       strategies =
-          strategy (60000 ∷ []) (pos 1) 65
-          ∷ strategy (70000 ∷ []) (pos 1) 63
+          strategy (60000 ∷ []) (pos 1) 30
+          ∷ strategy (70000 ∷ []) (pos 1) 26
           ∷ [];
       pavements = nothingDemanded ∷ [];
       segments =
@@ -257,6 +257,46 @@ cutDecides =
           ∷ [];
     }
 
+-- Strategy 1 is the better one by both ends of the years, strategy 2 by the later ones alone. In year 2 strategy 1 misses the minimum of
+-- segment 2, and in year 1 strategy 2 misses the overall requirement of segment 3; the means of those years would reach both.
+abbrev pub endsDecide : Roads
+endsDecide =
+    record {
+      years = 2;
+      limits = 1000 ∷ [];
+      greatest = 20 ∷ [];
+      strategies =
+          record { requirements = 1000 ∷ []; gains = pos 10 ∷ []; percents = (100 ∷ 0 ∷ []) ∷ [] }
+          ∷ record { requirements = 1000 ∷ []; gains = pos 10 ∷ []; percents = (60 ∷ 60 ∷ []) ∷ [] }
+          ∷ [];
+      pavements =
+          nothingDemanded
+          ∷ record { overall = 0; minima = (0 ∷ 6 ∷ []) ∷ [] }
+          ∷ record { overall = 12; minima = [] }
+          ∷ [];
+      segments =
+          segment 100 20 (5 ∷ [])
+          ∷ record { pavement = 2; traffic = 100; environment = 100; length = 100; width = 20; barred = []; ratings = 5 ∷ [] }
+          ∷ record { pavement = 3; traffic = 100; environment = 100; length = 100; width = 20; barred = 1 ∷ []; ratings = 5 ∷ [] }
+          ∷ [];
+    }
+
+-- With either strategy the gain and the loss come to the same by both ends of the years, and nothing is taken; by the later ends alone
+-- strategy 2 gains more, by the earlier ones strategy 1.
+abbrev pub evenedOut : Roads
+evenedOut =
+    record {
+      years = 2;
+      limits = 1000 ∷ [];
+      greatest = 20 ∷ 20 ∷ [];
+      strategies =
+          record { requirements = 1000 ∷ []; gains = pos 5 ∷ minus 5 ∷ []; percents = (50 ∷ 0 ∷ []) ∷ (0 ∷ 100 ∷ []) ∷ [] }
+          ∷ record { requirements = 1000 ∷ []; gains = pos 5 ∷ minus 5 ∷ []; percents = (0 ∷ 100 ∷ []) ∷ (50 ∷ 0 ∷ []) ∷ [] }
+          ∷ [];
+      pavements = nothingDemanded ∷ [];
+      segments = segment 100 20 (10 ∷ 10 ∷ []) ∷ [];
+    }
+
 abbrev pub furtherCases : List WorkedCase
 furtherCases =
     -- M9 with a second year
@@ -266,13 +306,13 @@ furtherCases =
     -- segment 2 has the greater benefit and the smaller ratio
     ∷ shown (Load card ∷ Alter (SetRating 2 1 9) ∷ []) ⇒ shows (2 ∷ 1 ∷ []) 8_250_000 8_250_000 10_014_076 1 0 0
     ∷ planned fourSegments ⇒ shows (1 ∷ 2 ∷ 0 ∷ 1 ∷ []) 111_572_863 38_908_450 127_252_761 3 1 2
-    ∷ planned tiedSegments ⇒ shows (3 ∷ 2 ∷ 2 ∷ 2 ∷ []) 7_550_000 6_960_000 7_787_678 8 0 1
+    ∷ planned tiedSegments ⇒ shows (3 ∷ 0 ∷ 2 ∷ 3 ∷ []) 4_820_000 3_960_000 5_551_230 8 1 2
     ∷ planned twoLimits ⇒ shows (1 ∷ 1 ∷ 0 ∷ []) 2_240_000 2_240_000 2_993_508 2 1 0
     ∷ planned minima ⇒ shows (0 ∷ 0 ∷ 1 ∷ 0 ∷ []) 38_239_800 18_258_160 49_138_864 2 0 1
     ∷ planned overall ⇒ shows (0 ∷ 1 ∷ []) 6_650_000 6_650_000 6_650_000 0 0 0
     ∷ planned exactMinimum ⇒ shows (0 ∷ 0 ∷ 1 ∷ []) 33_570_000 29_310_000 46_098_262 1 0 1
     ∷ planned twicePicked ⇒ shows (0 ∷ 1 ∷ 1 ∷ 1 ∷ []) 21_000_000 21_000_000 21_005_600 3 2 0
-    ∷ planned roundedRatios ⇒ shows (1 ∷ 0 ∷ []) 82 82 163 1 0 0
+    ∷ planned roundedRatios ⇒ shows (1 ∷ 0 ∷ []) 65 63 128 1 0 1
     ∷ planned roundedShares ⇒ shows (1 ∷ 0 ∷ 1 ∷ []) 9_000 9_000 17_001 2 1 0
     ∷ planned singleChanges ⇒ shows (1 ∷ 0 ∷ 1 ∷ []) 15_600 10_400 20_000 5 0 2
     ∷ planned equalCeilings ⇒ shows (2 ∷ 0 ∷ []) 27_000 6_000 30_000 1 0 1
@@ -283,6 +323,12 @@ furtherCases =
     ∷ effects (Load fogSeal ∷ Alter (SetRating 1 1 2) ∷ []) ⇒ (minus 380 ∷ [])
     ∷ planned bothCuts ⇒ shows (1 ∷ []) 620_000 620_000 620_000 0 0 0
     ∷ planned cutDecides ⇒ shows (2 ∷ 2 ∷ []) 2_840_000 2_840_000 2_840_000 0 0 0
+    -- document 02, request 5: the years of M7 count 95, 80, 55 and 20 percent
+    ∷ effects (Load (fileOf (oneSegment 100 (pos 15) (90 ∷ 70 ∷ 40 ∷ 0 ∷ []))) ∷ []) ⇒ (pos 3_750 ∷ [])
+    -- two years whose ends have an odd sum, in millionths: halved year by year it comes to 174
+    ∷ effects (Load (fileOf (oneSegment 125 (pos 1) (99 ∷ 70 ∷ []))) ∷ []) ⇒ (pos 175 ∷ [])
+    ∷ planned endsDecide ⇒ shows (1 ∷ 2 ∷ 0 ∷ []) 5_800_000 5_800_000 5_800_000 0 0 0
+    ∷ planned evenedOut ⇒ shows (0 ∷ []) 0 0 0 0 0 0
     ∷ []
 
 pub further : Agree furtherCases

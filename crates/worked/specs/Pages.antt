@@ -31,28 +31,28 @@ pages =
     paged (Load card ∷ [])
     ⇒ printed
     (headingLine
-    ∷ " 1  1.00  20  2        4800000        60                                        "
-    ∷ " 2  2.00  20  1        2400000        40                                        "
-    ∷ "                       7200000       100                                        "
+    ∷ " 1  1.00  20  2        5250000        60                                        "
+    ∷ " 2  2.00  20  1        3000000        40                                        "
+    ∷ "                       8250000       100                                        "
     ∷ "                                     130                                        "
     ∷ [])
     ∷ paged (Load card ∷ Alter (SetLimit 1 59) ∷ [])
     ⇒ printed
     (headingLine
     ∷ " 1  1.00  20  0              0         0                                        "
-    ∷ " 2  2.00  20  1        2400000        40                                        "
-    ∷ "                       2400000        40                                        "
+    ∷ " 2  2.00  20  1        3000000        40                                        "
+    ∷ "                       3000000        40                                        "
     ∷ "                                      59                                        "
     ∷ [])
-    -- the total after phase 3, where phase 2 ends with 38,408,400
+    -- the total after phase 3, where phase 2 ends with 38,908,450
     ∷ paged (Load (fileOf fourSegments) ∷ [])
     ⇒ printed
     (headingLine
-    ∷ " 1  4.90  42  1       10495800       117                                        "
-    ∷ " 2  6.13   5  2         294240        28                                        "
+    ∷ " 1  4.90  42  1       17595900       117                                        "
+    ∷ " 2  6.13   5  2         300370        28                                        "
     ∷ " 3 45.43 167  0              0         0                                        "
-    ∷ " 4 14.37  73  1       61576887       592                                        "
-    ∷ "                      72366927       736                                        "
+    ∷ " 4 14.37  73  1       93676593       592                                        "
+    ∷ "                     111572863       736                                        "
     ∷ "                                     746                                        "
     ∷ [])
     ∷ paged (Load (fileOf widest) ∷ [])
