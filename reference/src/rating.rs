@@ -31,15 +31,21 @@ pub fn rating(district: &District, segment: &Segment, strategy: &Strategy, k: us
     MILLION * i64::from(segment.ratings[k]) + gain(district, segment, strategy, k) * survives
 }
 
-/// Gains over all distress types and years 1 to T. The division comes once,
-/// after the sum, and cuts toward zero (as Rust's does).
+/// Gains over all distress types and years 1 to T. The work is done during the
+/// year, so a year counts with the mean of what survives at its start and at its
+/// end; year 1 starts right after the work. Halving is left to the division,
+/// which comes once, after the sum, and cuts toward zero (as Rust's does).
 pub fn effect(district: &District, segment: &Segment, strategy: &Strategy) -> i64 {
     let mut sum = 0;
     for (k, row) in strategy.survival.chunks_exact(district.years).enumerate() {
-        let lasting: i64 = row.iter().map(|&percent| survival(segment, percent)).sum();
-        sum += gain(district, segment, strategy, k) * lasting;
+        let mut start = MILLION;
+        for &percent in row {
+            let end = survival(segment, percent);
+            sum += gain(district, segment, strategy, k) * (start + end);
+            start = end;
+        }
     }
-    sum / 10_000
+    sum / 20_000
 }
 
 /// Hundredths of a mile times feet.

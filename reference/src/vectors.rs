@@ -46,6 +46,7 @@ fn scripts() -> Vec<Vec<u8>> {
     files_cut(&mut cases);
     losses(&mut cases);
     losses_cut(&mut cases);
+    ends_of_years(&mut cases);
     readings(&mut cases);
     cases.scripts
 }
@@ -186,7 +187,7 @@ fn negative_gains(cases: &mut Cases) {
         }
         cases.district(&district);
     }
-    // An effect of -89 and of 89: indexes 101 and 101, 90 percent, gain -1 and 1.
+    // An effect of -94 and of 94: indexes 101 and 101, 90 percent, gain -1 and 1.
     let mut district = plain(&[100], &[(-1, &none), (1, &none)], &[(1, 5)]);
     district.greatest[0] = 20;
     (district.segments[0].traffic, district.segments[0].environment) = (101, 101);
@@ -518,6 +519,43 @@ fn losses_cut(cases: &mut Cases) {
     kept.iter().flatten().for_each(|district| cases.district(district));
 }
 
+/// A year counts with what survives at its start and at its end; demands look
+/// at its end.
+fn ends_of_years(cases: &mut Cases) {
+    // A gain that lasts in some of the years: what survives a year counts there and in the next.
+    for percents in [&[0][..], &[60], &[100, 0], &[0, 100], &[0, 0], &[90, 70, 40, 0], &[0, 100, 0, 100]] {
+        cases.district(&lasting(&[percents], 100));
+    }
+    // Ends whose sum is odd in millionths, twice: nothing of it is left over in all.
+    cases.district(&lasting(&[&[99, 70]], 125));
+    // All survives at the start of year 1 and nothing at its end, whatever the mean of the percents says.
+    cases.district(&lasting(&[&[40, 0]], 200));
+    // Of two strategies one is the better by the ends, the other one by both.
+    cases.district(&lasting(&[&[100, 0], &[60, 60]], 100));
+    cases.district(&lasting(&[&[60, 60], &[100, 0]], 100));
+    // The first strategy leaves nothing at the end of year 2 and a mean of 5, the second one 6 at both ends.
+    for minimum in [0, 1, 5, 6, 7, 8] {
+        let mut district = lasting(&[&[100, 0], &[60, 60]], 100);
+        district.types[0].minimum[1] = minimum;
+        cases.district(&district);
+    }
+    // At the end of year 1 the two leave 10 and 6, with means of 10 and 8.
+    for overall in [6, 7, 8, 9, 10, 11] {
+        let mut district = lasting(&[&[100, 0], &[60, 60]], 100);
+        district.types[0].overall = overall;
+        cases.after(&district, &[Call::Bar(1, 1)]);
+        cases.district(&district);
+    }
+    // A loss counts 50 for each point, at the start of year 1 alone, a gain 110: benefits below, at and above 0.
+    for (loss, gain) in [(-12, 5), (-11, 5), (-10, 5), (-50, 50)] {
+        cases.district(&losing(&[[loss, gain]], [0, 0, 60, 0], [50, 0]));
+    }
+    // Nothing is left at the end of any year, and still there is a benefit; none where nothing is gained.
+    let mut district = plain(&[100], &[(1, &[0]), (0, &[0])], &[(1, 49), (1, 50)]);
+    district.strategies.iter_mut().for_each(|strategy| strategy.survival[0] = 0);
+    cases.district(&district);
+}
+
 /// Small districts that a wrong reading of one rule plans otherwise: see `wrong/`.
 fn readings(cases: &mut Cases) {
     for district in [
@@ -525,10 +563,12 @@ fn readings(cases: &mut Cases) {
         small(&[4], &[(&[56_441], 3, 100)], &[(7, 1, 0), (1, 1, 0)]),
         small(&[1], &[(&[9_395], 1, 100)], &[(4, 1, 0), (7, 1, 0)]),
         small(&[599], &[(&[40_000], 2, 100)], &[(246, 3, 0), (300, 3, 0)]),
-        small(&[1], &[(&[60_000], 1, 65), (&[70_000], 1, 63)], &[(1, 1, 2), (1, 1, 1)]),
+        small(&[1], &[(&[60_000], 1, 30), (&[70_000], 1, 26)], &[(1, 1, 2), (1, 1, 1)]),
         // A surplus of the exact use, rounded up and rounded down.
         small(&[8], &[(&[57_151], 5, 100)], &[(7, 1, 0), (8, 1, 0)]),
         small(&[4], &[(&[56_441], 1, 100)], &[(7, 1, 0), (1, 1, 0)]),
+        // A surplus where the shares, rounded up, are over 10,000 and the use just meets the limit.
+        small(&[3, 3], &[(&[100_000, 0], 1, 0), (&[1_000, 2_000], 50, 100)], &[(1, 1, 2), (10, 10, 0), (10, 10, 0)]),
         // Phase 2: of equal benefits the lower strategy before the lower segment.
         small(&[6], &[(&[82], 1, 100), (&[121], 2, 100)], &[(290, 10, 0), (100, 10, 0), (300, 10, 0), (200, 10, 0)]),
         // Phase 3: single changes by strategy before segment; in pairs nothing as the last of the second.
@@ -664,6 +704,20 @@ fn plain(limits: &[u32], strategies: &[(i8, &[u32])], segments: &[(u16, u8)]) ->
             })
             .collect(),
     }
+}
+
+/// A mile of rating 0 with both indexes the same, and strategies with a gain of
+/// 10 that lasts by these percents.
+fn lasting(percents: &[&[u8]], index: u16) -> District {
+    let strategies: Vec<(i8, &[u32])> = percents.iter().map(|_| (10, &[1_000][..])).collect();
+    let mut district = plain(&[100], &strategies, &[(1, 0)]);
+    district.years = percents[0].len();
+    for (made, percents) in district.strategies.iter_mut().zip(percents) {
+        made.survival = percents.to_vec();
+    }
+    district.types[0].minimum = vec![0; district.years];
+    (district.segments[0].traffic, district.segments[0].environment) = (index, index);
+    district
 }
 
 /// A mile with ratings of two distress types of at most 50 over two years, and

@@ -29,18 +29,18 @@ fn the_card_at_work() {
     let input = b"# the card\n\nload card.bin\nshow\nbar 2 2\nshow\nunbar 2 2\nlimit 1 180\nshow\n\
         rating 2 1 20\nshow\npoints 6 3 1 0\nexport out.bin\nload out.bin\nshow";
     let expected = format!(
-        "ok\n{CARD_LISTING}ok\n1 2\n2 1\nbenefit 7200000\nceiling 7200000\nsteps 0 0 0\n\
-         ok\nok\n1 2\n2 2\nbenefit 8000000\nceiling 8000000\nsteps 0 0 0\n\
-         ok\n1 2\n2 0\nbenefit 4800000\nceiling 4800000\nsteps 0 0 0\n\
-         points 7\nok 87\nok\n1 2\n2 0\nbenefit 4800000\nceiling 4800000\nsteps 0 0 0\n"
+        "ok\n{CARD_LISTING}ok\n1 2\n2 1\nbenefit 8250000\nceiling 8250000\nsteps 0 0 0\n\
+         ok\nok\n1 2\n2 2\nbenefit 8750000\nceiling 8750000\nsteps 0 0 0\n\
+         ok\n1 2\n2 0\nbenefit 5250000\nceiling 5250000\nsteps 0 0 0\n\
+         points 7\nok 87\nok\n1 2\n2 0\nbenefit 5250000\nceiling 5250000\nsteps 0 0 0\n"
     );
     assert_eq!(answers("card", input), expected);
 }
 
 #[test]
 fn a_page_shows_what_is_held_and_changes_nothing() {
-    let barred = CARD_PAGE.replace("130", " 60").replace("100", " 60").replace("7200000", "4800000");
-    let barred = barred.replace(" 1        2400000        40", " 0              0         0");
+    let barred = CARD_PAGE.replace("130", " 60").replace("100", " 60").replace("8250000", "5250000");
+    let barred = barred.replace(" 1        3000000        40", " 0              0         0");
     let expected = format!("ok\n{CARD_PAGE}{CARD_LISTING}{CARD_PAGE}ok\nok\n{barred}");
     assert_eq!(answers("page", b"load card.bin\npage\nshow\npage\nlimit 1 60\nbar 2 1\npage\n"), expected);
 }

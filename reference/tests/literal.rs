@@ -63,10 +63,10 @@ impl Rules<'_> {
         let mut sum = 0;
         for k in 0..self.d.greatest.len() {
             for t in 1..=self.d.years {
-                sum += self.gain(i, j, k) * self.survival(i, j, k, t);
+                sum += self.gain(i, j, k) * (self.survival(i, j, k, t - 1) + self.survival(i, j, k, t));
             }
         }
-        let effect = if sum < 0 { -(-sum / 10_000) } else { sum / 10_000 };
+        let effect = if sum < 0 { -(-sum / 20_000) } else { sum / 20_000 };
         self.area(i) * effect
     }
 

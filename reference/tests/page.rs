@@ -30,7 +30,7 @@ fn check(district: &District, lines: &[&str]) {
 
 #[test]
 fn the_card() {
-    // Areas 2,000 and 4,000; effects 15 x 160 and 5 x 120; uses 2,000 x 3 and 4,000 x 1 hundredths.
+    // Areas 2,000 and 4,000; effects 15 x 175 and 5 x 150; uses 2,000 x 3 and 4,000 x 1 hundredths.
     assert_eq!(page_of(&card()), CARD_PAGE);
     assert_eq!(page::answer(&card_bytes()), CARD_PAGE);
     assert_eq!(page::answer(&card_bytes()[..86]), "refused 1\n");
@@ -160,12 +160,12 @@ fn the_page_follows_the_calls() {
     unit.set_limit(1, 39).unwrap();
     let mut buffer = [0; LONGEST];
     let length = unit.page(&mut buffer).unwrap();
-    // Strategy 1 on segment 1: area 2,000, effect 5 x 120, and 20 units; segment 2 would need 40.
+    // Strategy 1 on segment 1: area 2,000, effect 5 x 150, and 20 units; segment 2 would need 40.
     let expected = [
         HEADING,
-        " 1  1.00  20  1        1200000        20                                        \n",
+        " 1  1.00  20  1        1500000        20                                        \n",
         " 2  2.00  20  0              0         0                                        \n",
-        "                       1200000        20                                        \n",
+        "                       1500000        20                                        \n",
         "                                      39                                        \n",
     ];
     assert_eq!(String::from_utf8_lossy(&buffer[..length]), expected.concat());

@@ -1,7 +1,7 @@
 //! The eight reasons, worked out by hand on two small districts and the card.
 //!
-//! In both districts a gain counts 100 in the effect for each year in which all
-//! of it lasts, and a benefit is 100 times the effect.
+//! In both districts a point of gain counts in the effect with the percents of a
+//! year's start and end, halved, and a benefit is 100 times the effect.
 
 mod common;
 
@@ -41,7 +41,7 @@ fn demands_that_are_missed() {
         &unit,
         1,
         &[
-            // 18 and 16.4, 18 and 14.8; effect 8 x 180 + 8 x 160, less than the one held.
+            // 18 and 16.4, 18 and 14.8; effect 8 x 190 + 8 x 180, less than the one held.
             NoGreater,
             // 20 all along: effect 4,000, the greatest.
             InTheProgramme,
@@ -57,7 +57,9 @@ fn demands_that_are_missed() {
             OverallMissed,
             // Ratings stay 10 and 10, which misses everything.
             Barred,
-            // 15 and 10, 10 and 5.
+            // 12.5 and 10, 10 and 5.
+            minimum(1, 2),
+            // 13 and 10, 10 and 4.
             minimum(1, 2),
             // 16 and 10, 10 and 4.
             minimum(1, 2),
@@ -74,11 +76,11 @@ fn benefits_that_are_not_above_0() {
         &unit,
         2,
         &[
-            // Effect 5 x 180 + 8 x 160 = 2,180.
+            // Effect 5 x 190 + 8 x 180 = 2,390.
             InTheProgramme,
             // Effect 5 x 200 + 10 x 200 = 3,000 would be more.
             Barred,
-            // Effects 5 x 140 + 150, 200 + 1,200, 5 x 180 + 150, 5 x 180 + 4 x 50, 800 + 400.
+            // Effects 5 x 170 + 175, 200 + 1,200, 5 x 190 + 175, 5 x 190 + 4 x 100, 800 + 400.
             NoGreater,
             NoGreater,
             NoGreater,
@@ -86,10 +88,12 @@ fn benefits_that_are_not_above_0() {
             NoGreater,
             // 25 in all; the benefit is 0 too.
             OverallMissed,
-            // 20 and 15, 10 and 5: 30 in all; effect 500 - 500. In year 0 distress 2 has 5, which counts for nothing.
+            // 17.5 and 15, 10 and 5: 27.5 in all; effect 500 - 500. In year 0 distress 2 has 5, which no minimum looks at.
             BenefitNotAbove0,
-            // 20 and 15, 10 and 4: effect 500 - 600. Its 11 units of resource 2 are over the limit too.
+            // 17.5 and 15, 10 and 4: effect 500 - 600. Its 11 units of resource 2 are over the limit too.
             BenefitNotAbove0,
+            // 20 and 15, 10 and 4: effect 750 - 600. By the ends of the years alone it would be 500 - 600.
+            NoGreater,
         ],
     );
 }

@@ -14,13 +14,13 @@ pub const CARD: &str = "06 00 01 00 02 02 02 01 01 01
     0B 00 06 00 01 64 00 64 00 C8 00 14 00 00 0F
     00 00 07 00";
 
-pub const CARD_LISTING: &str = "1 2\n2 1\nbenefit 7200000\nceiling 7500170\nsteps 1 0 0\n";
+pub const CARD_LISTING: &str = "1 2\n2 1\nbenefit 8250000\nceiling 8438555\nsteps 1 0 0\n";
 
 pub const CARD_PAGE: &str = concat!(
     "NO MILES  FT ST        BENEFIT        R1        R2        R3        R4          \n",
-    " 1  1.00  20  2        4800000        60                                        \n",
-    " 2  2.00  20  1        2400000        40                                        \n",
-    "                       7200000       100                                        \n",
+    " 1  1.00  20  2        5250000        60                                        \n",
+    " 2  2.00  20  1        3000000        40                                        \n",
+    "                       8250000       100                                        \n",
     "                                     130                                        \n",
 );
 
