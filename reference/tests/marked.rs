@@ -126,8 +126,8 @@ fn m9_effect_is_cut_toward_zero() {
     assert_eq!(effect(101, 1, &[90, 90]), 184);
 }
 
-/// A year counts with the mean of what survives at its start and at its end; the
-/// end of one is the start of the next, and nothing follows the last.
+/// A year counts with the mean of two survivals, that of its start and that of
+/// its end. Each end is the next year's start, and nothing follows the last.
 #[test]
 fn years_count_with_both_ends() {
     for (percents, of_a_point) in [

@@ -139,7 +139,8 @@ fn survival(d: &District, i: usize, j: usize, k: usize, t: usize) -> usize
 
 // ---- effect, area, benefit
 
-// What is left of a gain at the start and at the end of each year, summed over the years. At the start of year 1 it is all of it.
+// What is left of a gain at the start and at the end of each year, summed over the years. All of it is there when
+// year 1 starts.
 fn survivals(d: &District, i: usize, j: usize, k: usize) -> usize
     requires { ⌜ Ranges (now d) × Segment i × Strategy j × Distress k ⌝ }
     ensures { λ s. ⌜ s ≡ sum (yearsOf (now (d .entry))) (bothEnds (now (d .entry)) i j k) ⌝ }

@@ -297,6 +297,20 @@ evenedOut =
       segments = segment 100 20 (10 ∷ 10 ∷ []) ∷ [];
     }
 
+-- in one year 99 percent of the one gain is left, and 69 percent of the other
+abbrev pub oddTypes : Roads
+oddTypes =
+    record {
+      years = 1;
+      limits = 0 ∷ [];
+      greatest = 20 ∷ 20 ∷ [];
+      strategies = record { requirements = []; gains = pos 1 ∷ pos 1 ∷ []; percents = (99 ∷ []) ∷ (69 ∷ []) ∷ [] } ∷ [];
+      pavements = nothingDemanded ∷ [];
+      segments =
+          record { pavement = 1; traffic = 125; environment = 125; length = 100; width = 20; barred = []; ratings = 5 ∷ 5 ∷ [] }
+          ∷ [];
+    }
+
 abbrev pub furtherCases : List WorkedCase
 furtherCases =
     -- M9 with a second year
@@ -327,6 +341,8 @@ furtherCases =
     ∷ effects (Load (fileOf (oneSegment 100 (pos 15) (90 ∷ 70 ∷ 40 ∷ 0 ∷ []))) ∷ []) ⇒ (pos 3_750 ∷ [])
     -- two years whose ends have an odd sum, in millionths: halved year by year it comes to 174
     ∷ effects (Load (fileOf (oneSegment 125 (pos 1) (99 ∷ 70 ∷ []))) ∷ []) ⇒ (pos 175 ∷ [])
+    -- two distress types whose sums are odd: halved type by type it comes to 174
+    ∷ effects (Load (fileOf oddTypes) ∷ []) ⇒ (pos 175 ∷ [])
     ∷ planned endsDecide ⇒ shows (1 ∷ 2 ∷ 0 ∷ []) 5_800_000 5_800_000 5_800_000 0 0 0
     ∷ planned evenedOut ⇒ shows (0 ∷ []) 0 0 0 0 0 0
     ∷ []

@@ -25,7 +25,7 @@ survival d i j k (suc t) = 1_000_000 - trafficOf d i * environmentOf d i * (100 
 unfoldable pub improvement : District → ℕ → ℕ → ℕ → ℕ → ℤ
 improvement d i j k t = gain d i j k *ℤ pos (survival d i j k t)
 
--- the rating in year t, in millionths
+-- the rating at the end of year t, in millionths: the one that minimum and overall requirements look at
 unfoldable pub rating : District → ℕ → ℕ → ℕ → ℕ → ℤ
 rating d i j k t = pos (1_000_000 * ratingOf d i k) +ℤ improvement d i j k t
 
@@ -33,7 +33,7 @@ rating d i j k t = pos (1_000_000 * ratingOf d i k) +ℤ improvement d i j k t
 unfoldable pub bothEnds : District → ℕ → ℕ → ℕ → ℕ → ℕ
 bothEnds d i j k t = survival d i j k (t - 1) + survival d i j k t
 
--- twice what year t is credited with, in millionths: that is the mean of its two ends
+-- in millionths, twice the credit of year t, which is the gain times the mean of the two
 unfoldable pub credit : District → ℕ → ℕ → ℕ → ℕ → ℤ
 credit d i j k t = gain d i j k *ℤ pos (bothEnds d i j k t)
 
@@ -41,7 +41,7 @@ credit d i j k t = gain d i j k *ℤ pos (bothEnds d i j k t)
 unfoldable pub credits : District → ℕ → ℕ → ℕ → ℤ
 credits d i j k = sumZ (yearsOf d) (credit d i j k)
 
--- Effect: summed over all distress types too, and only then divided, toward zero.
+-- Effect: summed over all distress types too, and only then divided, toward zero: by 10,000, and by 2 for the means.
 unfoldable pub effect : District → ℕ → ℕ → ℤ
 effect d i j = quotZ (sumZ (distressesOf d) (credits d i j)) (pos 20_000)
 

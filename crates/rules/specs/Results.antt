@@ -108,8 +108,8 @@ unfolding
     Format.ranged Format.fieldAt
     File.readNumbers File.readRecord File.readRecords File.decode File.numberBytes File.recordsBytes File.encode File.numbersInRange
     File.recordsInRange File.inRange
-    Rating.cappedGain Rating.gain Rating.survival Rating.improvement Rating.rating Rating.bothEnds Rating.credit Rating.credits Rating.effect Rating.area Rating.benefit Rating.usage
-    Rating.scaledLimit Rating.reaches Rating.minimumReached Rating.yearsReached Rating.minimaReached Rating.firstRating
+    Rating.cappedGain Rating.gain Rating.survival Rating.improvement Rating.rating Rating.bothEnds Rating.credit Rating.credits
+    Rating.effect Rating.area Rating.benefit Rating.usage Rating.scaledLimit Rating.reaches Rating.minimumReached Rating.yearsReached Rating.minimaReached Rating.firstRating
     Rating.overallReached Rating.permitted Rating.fitsLimit Rating.fitsAlone Rating.candidate Rating.usageBy Rating.withinLimit
     Rating.withinLimits Rating.benefitBy Rating.totalOf
     Table.candidateBenefit Table.usageIn Table.limitIn Table.tableOf
