@@ -45,6 +45,13 @@ noSuchPoints = 10
 abbrev pub noRoomForPage : ℕ
 noRoomForPage = 11
 
+-- of request 6: a value that is no reading, and points where there is none
+abbrev pub noReading : ℕ
+noReading = 12
+
+abbrev pub windowEmpty : ℕ
+windowEmpty = 13
+
 -- ---- how one comes about
 
 -- refusal n where the test fails, else what the later tests say

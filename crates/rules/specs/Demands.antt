@@ -21,6 +21,8 @@ use Rattle.rules.specs.Answers.{noSuchPoints}
 use Rattle.rules.specs.Survey.{blockOf, pointsOf, surveyRefusal, surveyOf}
 use Rattle.rules.specs.Calls.{loadRefusal, loadOf, Export, exportOf, showOf}
 use Rattle.rules.specs.Lists.{Call, Load, Alter, ExportTo, PageTo, Show, AskWhy, refusalOf, altered, lentTo, outcomeOf, districtAfter, unitAfter}
+use Rattle.rules.specs.Meter.{heardAfter}
+use Rattle.rules.specs.Offices.{Held, OfficeCall, Plan, Send, AskRoughness, officeRefusal, lentBytes, officeOutcome, heldAfter, unitCalls, sentIn}
 use Rattle.rules.specs.declared.Programme.{Programme}
 use Rattle.rules.specs.declared.Unit.{Unit}
 use Rattle.rules.specs.declared.Answer.the-variants.{Accepted, Refused}
@@ -140,3 +142,30 @@ pub record Claim (cs : List Call) : Type 0 where
 
 abbrev pub OneClaim : Type 0
 OneClaim = (cs : List Call) → Claim cs
+
+-- ---- all calls of an office, those of its unit and those of its meter
+
+unfoldable pub officeReturned : Held → OfficeCall → ℕ
+officeReturned o (Plan c) = returned (o .unit .district) c
+officeReturned o (Send s) = 0
+officeReturned o AskRoughness = 0
+
+-- demand 1, of what is held in any state and any call
+pub record OfficeSettled (o : Held) (c : OfficeCall) : Type 0 where
+  pub accepted : officeRefusal o c ≡ 0 → officeOutcome o c .answer ≡ Accepted (officeReturned o c)
+  pub refused :
+      (n : ℕ) → officeRefusal o c ≡ suc n
+      → officeOutcome o c ≡ record { answer = Refused (suc n); held = o; bytes = lentBytes c }
+
+-- after any list of calls the unit is the one that its own calls lead to, so that demands 2 and 3 hold of it, and the meter has heard its own
+-- records and nothing else
+pub record OfficeClaim (cs : List OfficeCall) : Type 0 where
+  pub unit : heldAfter cs .unit ≡ unitAfter (unitCalls cs)
+  pub heard : heldAfter cs .heard ≡ heardAfter (sentIn cs)
+  pub claim : Claim (unitCalls cs)
+
+abbrev pub EveryOfficeAnswer : Type 0
+EveryOfficeAnswer = (o : Held) (c : OfficeCall) → OfficeSettled o c
+
+abbrev pub EveryOffice : Type 0
+EveryOffice = (cs : List OfficeCall) → OfficeClaim cs

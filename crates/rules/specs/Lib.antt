@@ -10,8 +10,10 @@ pub mod Page
 pub mod Reasons
 pub mod Answers
 pub mod Survey
+pub mod Meter
 pub mod Calls
 pub mod Lists
+pub mod Offices
 pub mod Demands
 pub mod Writer
 pub mod Results
@@ -20,3 +22,4 @@ pub mod Further
 pub mod Refusals
 pub mod Pages
 pub mod Explanations
+pub mod Metered
