@@ -5,8 +5,10 @@
 //! file follows and whose first number is the file's length; 1 an export, whose
 //! first number is its room, cut to that of the longest file; 2 bar, 3 unbar,
 //! 4 set limit, 5 set rating, 6 a show; 8 a page, whose first number is its
-//! room, cut to that of the longest page; 9 why, which answers its refusal only.
-//! Survey points, 7, change nothing and count as a show, as does any other kind.
+//! room, cut to that of the longest page; 9 why; 10 an index reading and 11 a
+//! mile marker, whose first number is the record's bits; 12 a lost sample; 13
+//! roughness. Of why and of roughness only the refusal is answered. Survey
+//! points, 7, change nothing and count as a show, as does any other kind.
 //! The list ends where no whole call is left.
 
 use crate::file;
@@ -28,6 +30,10 @@ pub enum Call {
     Show,
     Page(u32),
     Why(u32, u32),
+    Index(u32),
+    Marker(u32),
+    Lost,
+    Roughness,
 }
 
 impl Call {
@@ -49,6 +55,10 @@ impl Call {
             Call::Show => head(6, [0; 3]),
             Call::Page(room) => head(8, [*room, 0, 0]),
             Call::Why(i, j) => head(9, [*i, *j, 0]),
+            Call::Index(bits) => head(10, [*bits, 0, 0]),
+            Call::Marker(bits) => head(11, [*bits, 0, 0]),
+            Call::Lost => head(12, [0; 3]),
+            Call::Roughness => head(13, [0; 3]),
         }
     }
 
@@ -68,6 +78,10 @@ impl Call {
             5 => Call::SetRating(a, b, c),
             8 => Call::Page(a),
             9 => Call::Why(a, b),
+            10 => Call::Index(a),
+            11 => Call::Marker(a),
+            12 => Call::Lost,
+            13 => Call::Roughness,
             _ => Call::Show,
         };
         Some((call, rest))
@@ -84,6 +98,10 @@ impl Call {
             Call::Show => Ok(()),
             Call::Page(room) => unit.page(&mut vec![0; page::LONGEST.min(*room as usize)]).map(|_| ()),
             Call::Why(i, j) => unit.why((*i).into(), (*j).into()).map(|_| ()),
+            Call::Index(bits) => unit.index(*bits),
+            Call::Marker(bits) => unit.marker(*bits),
+            Call::Lost => unit.lost(),
+            Call::Roughness => unit.roughness().map(|_| ()),
         }
     }
 }

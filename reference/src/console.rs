@@ -5,6 +5,7 @@
 //! - A PATH is all the rest of its line after `load ` or `export `: 1 to 255
 //!   bytes, blanks among them or at its ends too, but no NUL byte.
 //! - A number is one to 20 digits (zeros in front are fine) within 64 bits.
+//! - The bits of a reading or a marker are a number within 32 bits.
 //! - A line is blank if it holds only blanks, tabs and carriage returns.
 //! - A line of more than 512 bytes (its line feed not counted) is an unknown
 //!   command, even a blank one, unless it begins with `#`.
@@ -15,6 +16,7 @@
 //!   goes wrong on the way answers `cannot write`, and the new file is removed.
 
 use crate::listing::listing;
+use crate::meter::Roughness;
 use crate::page;
 use crate::refusal::Refusal;
 use crate::survey;
@@ -121,10 +123,19 @@ fn obey(unit: &mut Unit, line: &[u8], base: &Path) -> Option<Vec<u8>> {
                 Err(refusal) => refused(refusal),
             });
         }
+        (b"roughness", []) => {
+            return Some(match unit.roughness() {
+                Ok(Roughness { points, marker }) => format!("points {points} marker {marker}\n").into_bytes(),
+                Err(refusal) => refused(refusal),
+            });
+        }
         (b"bar", &[i, j]) => unit.bar(i, j),
         (b"unbar", &[i, j]) => unit.unbar(i, j),
         (b"limit", &[r, v]) => unit.set_limit(r, v),
         (b"rating", &[i, k, v]) => unit.set_rating(i, k, v),
+        (b"index", &[bits]) => unit.index(u32::try_from(bits).ok()?),
+        (b"marker", &[bits]) => unit.marker(u32::try_from(bits).ok()?),
+        (b"lost", []) => unit.lost(),
         _ => return None,
     };
     Some(ok_or_refused(done))

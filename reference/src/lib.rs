@@ -13,6 +13,7 @@ pub mod frames;
 pub mod listing;
 pub mod lists;
 pub mod make;
+pub mod meter;
 pub mod options;
 pub mod page;
 pub mod phases;

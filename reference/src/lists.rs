@@ -4,6 +4,7 @@ use crate::calls::{encode, Call};
 use crate::district::{District, LIMIT_MOST, RATING_MOST};
 use crate::file;
 use crate::make;
+use crate::meter;
 use crate::page;
 use crate::random::Random;
 
@@ -14,7 +15,12 @@ pub fn any_list(random: &mut Random) -> Vec<u8> {
         return random.bytes(length);
     }
     let count = random.size(0, 40);
-    let mut bytes = encode(&list(random, count));
+    let mut calls = list(random, count);
+    if random.chance(20) {
+        let count = random.size(1, 200);
+        calls.extend(records(random, count));
+    }
+    let mut bytes = encode(&calls);
     if random.chance(10) {
         bytes.truncate(random.size(0, bytes.len()));
     }
@@ -58,9 +64,112 @@ fn call(random: &mut Random, held: &District) -> Call {
         }
         89..=92 => Call::Export(room(random, file::encode(held).len(), file::LONGEST)),
         93..=95 => Call::Page(room(random, (n + 3) * page::LINE, page::LONGEST)),
-        96..=97 => Call::Why(number(random, n), number(random, s)),
-        _ => Call::Show,
+        96 => Call::Why(number(random, n), number(random, s)),
+        97 => Call::Show,
+        98 => random.pick(&[Call::Lost, Call::Roughness]).clone(),
+        _ => {
+            let bits = bits(random);
+            random.pick(&[Call::Index(bits), Call::Index(bits), Call::Marker(bits)]).clone()
+        }
     }
+}
+
+/// Bits of a record at the ends of what a reading is, and of every kind of float
+/// that is none.
+pub const SPECIAL: [u32; 39] = [
+    // Zero and minus zero.
+    0x0000_0000,
+    0x8000_0000,
+    // One 1024th; a step below and above it; half of it, and one and a half; two and three of them.
+    0x3a80_0000,
+    0x3a7f_ffff,
+    0x3a80_0001,
+    0x3a00_0000,
+    0x3ac0_0000,
+    0x3b00_0000,
+    0x3b40_0000,
+    // One; a step below and above it; half a 1024th more, and a whole one more.
+    0x3f80_0000,
+    0x3f7f_ffff,
+    0x3f80_0001,
+    0x3f80_1000,
+    0x3f80_2000,
+    // Four, and half a 1024th less and more.
+    0x4080_0000,
+    0x407f_f800,
+    0x4080_0400,
+    // The greatest reading, half a 1024th more, the last float below 8, 8 and what follows, 16, the greatest float.
+    0x40ff_f800,
+    0x40ff_fc00,
+    0x40ff_ffff,
+    0x4100_0000,
+    0x4100_0001,
+    0x4180_0000,
+    0x7f7f_ffff,
+    // Below 0: a 1024th, one, the greatest reading's opposite.
+    0xba80_0000,
+    0xbf80_0000,
+    0xc0ff_f800,
+    // Subnormal, the least and the greatest, of both signs, and the least normal one.
+    0x0000_0001,
+    0x007f_ffff,
+    0x8000_0001,
+    0x807f_ffff,
+    0x0080_0000,
+    // Infinite, of both signs.
+    0x7f80_0000,
+    0xff80_0000,
+    // No numbers: the usual one, with a payload, signalling, of the other sign, all ones.
+    0x7fc0_0000,
+    0x7fc0_1234,
+    0x7f80_0001,
+    0xffc0_0000,
+    0xffff_ffff,
+];
+
+/// The bits of a reading of so many 1024ths.
+pub fn reading(parts: u32) -> u32 {
+    (parts as f32 / 1_024.0).to_bits()
+}
+
+/// Bits of a record: special ones, readings and what is beside them, any.
+fn bits(random: &mut Random) -> u32 {
+    match random.below(4) {
+        0 => *random.pick(&SPECIAL),
+        1 => reading(random.below(8_192) as u32),
+        2 => reading(random.below(8_193) as u32).wrapping_add(*random.pick(&[1, u32::MAX, 1 << 31])),
+        _ => random.draw() as u32,
+    }
+}
+
+/// So many records of the survey van, with points asked for between them. Most
+/// often the mean of all readings is kept at the begin of a row: there, or
+/// about a 1024th of the sum beside it.
+pub fn records(random: &mut Random, count: usize) -> Vec<Call> {
+    let row: u32 = *random.pick(&[47, 35, 33, 31, 29, 27]);
+    let (markers, close) = (*random.pick(&[0, 1, 5]), random.chance(70));
+    let (mut sum, mut taken) = (0, 0);
+    let mut record = || {
+        if random.chance(markers) {
+            (sum, taken) = (0, 0);
+            return Call::Marker(bits(random));
+        }
+        let bits = match random.below(30) {
+            0 => return Call::Lost,
+            1 => bits(random),
+            2..=9 => return Call::Roughness,
+            _ if close => {
+                let wanted = row * 1_024 * (taken + 1) / 10 + random.below(3) as u32;
+                reading(wanted.saturating_sub(sum + 1).min(8_191))
+            }
+            _ => reading(random.below(8_192) as u32),
+        };
+        if let Some(parts) = meter::reading(bits) {
+            (sum, taken) = (sum + parts, taken + 1);
+        }
+        Call::Index(bits)
+    };
+    (0..count).map(|_| record()).collect()
 }
 
 /// A number from 1 to `most`, now and then one that is not.

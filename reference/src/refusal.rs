@@ -24,6 +24,10 @@ pub enum Refusal {
     Survey = 10,
     /// The page buffer is shorter than the page.
     Page = 11,
+    /// An index reading is no whole number of 1024ths from 0 to below 8.
+    Reading = 12,
+    /// Points where no reading is kept.
+    NoReading = 13,
 }
 
 impl Refusal {

@@ -1,8 +1,10 @@
-//! The planning unit: one district, its plan, and the calls.
+//! The planning unit: one district and its plan, a roughness meter beside them,
+//! and the calls.
 
 use crate::ceiling;
 use crate::district::*;
 use crate::file;
+use crate::meter::{Meter, Roughness};
 use crate::page;
 use crate::phases;
 use crate::refusal::Refusal;
@@ -45,16 +47,13 @@ pub fn plan(district: &District) -> Plan {
 pub struct Unit {
     district: District,
     plan: Plan,
+    meter: Meter,
 }
 
 impl Unit {
     pub fn fresh() -> Unit {
-        Unit::holding(District::fresh())
-    }
-
-    fn holding(district: District) -> Unit {
-        let plan = plan(&district);
-        Unit { district, plan }
+        let district = District::fresh();
+        Unit { plan: plan(&district), district, meter: Meter::fresh() }
     }
 
     pub fn district(&self) -> &District {
@@ -62,7 +61,8 @@ impl Unit {
     }
 
     pub fn load(&mut self, bytes: &[u8]) -> Result<(), Refusal> {
-        *self = Unit::holding(file::decode(bytes)?);
+        self.district = file::decode(bytes)?;
+        self.replan();
         Ok(())
     }
 
@@ -131,6 +131,28 @@ impl Unit {
     pub fn why(&self, segment: u64, strategy: u64) -> Result<Reason, Refusal> {
         let (i, j) = self.segment_and_strategy(segment, strategy)?;
         Ok(why::why(&self.district, &self.plan.strategies, i, j))
+    }
+
+    /// An index reading of the survey van.
+    pub fn index(&mut self, bits: u32) -> Result<(), Refusal> {
+        self.meter.index(bits)
+    }
+
+    /// A mile marker, which is never refused.
+    pub fn marker(&mut self, bits: u32) -> Result<(), Refusal> {
+        self.meter.mark(bits);
+        Ok(())
+    }
+
+    /// A lost sample, which is never refused either.
+    pub fn lost(&mut self) -> Result<(), Refusal> {
+        self.meter.lose();
+        Ok(())
+    }
+
+    /// Points of the readings kept, and the bits of the last marker.
+    pub fn roughness(&self) -> Result<Roughness, Refusal> {
+        self.meter.roughness()
     }
 
     fn replan(&mut self) {
