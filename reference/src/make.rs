@@ -1,7 +1,9 @@
 //! Makes districts, damaged files and panel scripts at random.
 
+use crate::calls::Call;
 use crate::district::*;
 use crate::file;
+use crate::lists;
 use crate::random::Random;
 use crate::rating;
 use crate::unit::{plan, Plan};
@@ -766,9 +768,41 @@ fn asking_script(random: &mut Random) -> Script {
     Script { text, files: vec![("d0.bin".to_string(), file::encode(&made))], folders: vec!["folder".to_string()] }
 }
 
+/// Records of the survey van, points asked for between them, and now and then
+/// any other line: a load, an edit, one that is no command.
+fn metering_script(random: &mut Random) -> Script {
+    let shape = small_shape(random, 4, 3);
+    let mut files = vec![("d0.bin".to_string(), file::encode(&district(random, shape)))];
+    files.push(("bad.bin".to_string(), damaged_file(random)));
+    let mut text = Vec::new();
+    let count = random.size(1, 300);
+    for record in lists::records(random, count) {
+        if random.chance(4) {
+            text.extend(script_line(random, &files, [4, 3, 3, 3, 2, 3]));
+            text.push(b'\n');
+        }
+        text.extend(record_line(&record).into_bytes());
+        text.push(b'\n');
+    }
+    text.extend(b"roughness\nshow\n");
+    Script { text, files, folders: vec!["folder".to_string()] }
+}
+
+/// A record, or a question for points, as a command.
+fn record_line(record: &Call) -> String {
+    match record {
+        Call::Index(bits) => format!("index {bits}"),
+        Call::Marker(bits) => format!("marker {bits}"),
+        Call::Lost => "lost".to_string(),
+        _ => "roughness".to_string(),
+    }
+}
+
 pub fn script(random: &mut Random) -> Script {
-    if random.chance(40) {
-        return asking_script(random);
+    match random.below(100) {
+        0..=34 => return asking_script(random),
+        35..=54 => return metering_script(random),
+        _ => {}
     }
     let mut files = Vec::new();
     let mut largest = [4, 3, 3, 3, 2, 3];
@@ -848,7 +882,9 @@ fn script_line(random: &mut Random, files: &[(String, Vec<u8>)], largest: [usize
         64..=68 => "show".to_string(),
         69..=71 => "page".to_string(),
         72..=75 => format!("why {} {}", numeral(random, n), numeral(random, s)),
-        76..=87 => {
+        76..=80 => record_line(&lists::records(random, 1)[0]),
+        81 => format!("{} {}", random.pick(&["index", "marker"]), numeral(random, u32::MAX.into())),
+        82..=88 => {
             let code = numeral(random, 8);
             let degree = random.below(4);
             let extent = numeral(random, 3);
@@ -923,6 +959,18 @@ fn odd_line(random: &mut Random) -> Vec<u8> {
                 b"points",
                 b"why 1",
                 b"why 1 1 1",
+                b"index",
+                b"index ",
+                b"index 0 0",
+                b"index 4294967296",
+                b"Index 0",
+                b"marker",
+                b"marker -1",
+                b"marker 18446744073709551615",
+                b"lost 0",
+                b"lost ",
+                b"roughness 1",
+                b"roughness ",
                 b"quit",
                 b"load\td0.bin",
                 b" # no remark",

@@ -40,6 +40,7 @@ fn scripts() -> Vec<Vec<u8>> {
     refused_exports(&mut cases);
     refused_pages(&mut cases);
     refused_whys(&mut cases);
+    records(&mut cases);
     what_a_refusal_leaves(&mut cases);
     long_lists(&mut cases);
     ends_of_fields(&mut cases);
@@ -80,7 +81,7 @@ fn load(district: &District) -> Call {
 
 // ---- groups
 
-/// No call, or none that is there whole; kinds that are a show, and a page with room enough.
+/// No call, or none that is there whole; kinds that are a show, and others whose numbers are large.
 fn beginnings(cases: &mut Cases) {
     let whole = encode(&[load(&two_of_each())]);
     let more = encode(&[load(&two_of_each()), Call::SetLimit(1, 10)]);
@@ -92,7 +93,7 @@ fn beginnings(cases: &mut Cases) {
     // A file that claims more bytes than follow, and far more.
     cases.scripts.push([&whole[..], &[0, 1, 0, 0, 0, 0, 0, 0, 0, 0, 0, 0, 0]].concat());
     cases.scripts.push([&whole[..], &[0, 255, 255, 255, 255, 0, 0, 0, 0, 0, 0, 0, 0, 9]].concat());
-    for kind in [6, 7, 8, 9, 128, 255] {
+    for kind in [6, 7, 8, 9, 10, 11, 12, 13, 14, 128, 255] {
         cases.scripts.push([&whole[..], &[kind, 9, 9, 9, 9, 9, 9, 9, 9, 9, 9, 9, 9]].concat());
     }
     cases.list(&[Call::Show]);
@@ -401,6 +402,60 @@ fn refused_whys(cases: &mut Cases) {
     cases.after(&district, &[Call::Why(3, 1), Call::Why(1, 1)]);
 }
 
+/// Readings are accepted or answer 12; roughness answers 13 where none is kept. A
+/// list does not show points, so these are stored with the console.
+fn records(cases: &mut Cases) {
+    let one = Call::Index(lists::reading(1_024));
+    let marker = Call::Marker(0x7fc0_1234);
+    cases.list(&[Call::Roughness]);
+    cases.list(&[Call::Lost]);
+    cases.list(&[Call::Lost, Call::Roughness]);
+    cases.list(std::slice::from_ref(&marker));
+    cases.list(&[marker.clone(), Call::Roughness]);
+    cases.list(&[marker.clone(), one.clone(), Call::Roughness]);
+    cases.list(&[one.clone(), Call::Lost, Call::Roughness]);
+    cases.list(&[one.clone(), Call::Roughness, Call::Roughness]);
+    cases.list(&[one.clone(), marker.clone(), Call::Roughness]);
+    cases.list(&[one.clone(), marker.clone(), Call::Lost, Call::Roughness]);
+    // What is no reading changes nothing: none is kept, or the one before it is. A marker may be anything.
+    for bits in lists::SPECIAL {
+        cases.list(&[Call::Index(bits)]);
+        cases.list(&[Call::Index(bits), Call::Roughness]);
+        cases.list(&[one.clone(), Call::Index(bits), Call::Roughness]);
+        cases.list(&[one.clone(), Call::Marker(bits), Call::Roughness]);
+    }
+    // As many readings as are kept, more, and twice as many; then a marker.
+    for count in [63, 64, 65, 66, 128, 129, 200] {
+        let many: Vec<Call> = (1..=count).map(|at| Call::Index(lists::reading(8_192 - 37 * at))).collect();
+        cases.list(&[&many[..], &[Call::Roughness]].concat());
+        cases.list(&[&many[..], &[marker.clone(), Call::Roughness]].concat());
+    }
+    // Loads and edits, refused ones too, leave what is kept.
+    let district = two_of_each();
+    let others = [
+        load(&district),
+        Call::Bar(1, 1),
+        Call::SetLimit(1, 9),
+        Call::SetRating(1, 1, 6),
+        Call::Unbar(1, 1),
+        Call::Load(Vec::new()),
+        Call::Bar(3, 1),
+        Call::Export(1),
+        Call::Page(1),
+        Call::Why(1, 3),
+    ];
+    for count in 1..=others.len() {
+        let before = std::slice::from_ref(&one);
+        cases.list(&[before, &others[..count], &[Call::Roughness]].concat());
+    }
+    cases.list(&[&others[..], &[Call::Roughness]].concat());
+    // Records leave district and programme.
+    for record in [one, marker, Call::Lost] {
+        cases.after(&district, &[Call::SetLimit(1, 9), record.clone()]);
+        cases.after(&district, &[Call::SetLimit(1, 9), record, Call::Index(u32::MAX), Call::Show]);
+    }
+}
+
 /// Refused calls of every kind leave district and programme as they were.
 fn what_a_refusal_leaves(cases: &mut Cases) {
     let district = two_of_each();
@@ -414,6 +469,8 @@ fn what_a_refusal_leaves(cases: &mut Cases) {
         Call::Export(1),
         Call::Page(1),
         Call::Why(1, 3),
+        Call::Index(u32::MAX),
+        Call::Roughness,
     ];
     for call in &refused {
         cases.after(&district, &[call.clone(), Call::Show]);

@@ -70,6 +70,21 @@ fn reasons() {
     fs::remove_dir_all(&folder).unwrap();
 }
 
+/// Records, their refusals, and points with the last marker; all that is no
+/// record leaves the window.
+#[test]
+fn records() {
+    let input = b"roughness\nlost\nindex 2147483648\nroughness\nmarker 2143294004\nroughness\n\
+        index 1082654720\nroughness\nload card.bin\nbar 1 1\nindex 1090519040\nindex 2143294004\nlost\nroughness\n\
+        index 00000000001082654720\nindex 0\nroughness\nmarker 4294967295\nindex 4294967295\nroughness\n\
+        index 1080033280\nroughness\nshow\n";
+    let expected = "refused 13\nok\nok\npoints 50 marker 0\nok\nrefused 13\n\
+        ok\npoints 5 marker 2143294004\nok\nok\nrefused 12\nrefused 12\nok\npoints 5 marker 2143294004\n\
+        ok\nok\npoints 40 marker 2143294004\nok\nrefused 12\nrefused 13\n\
+        ok\npoints 5 marker 4294967295\n1 2\n2 1\nbenefit 8250000\nceiling 8438555\nsteps 1 0 0\n";
+    assert_eq!(answers("records", input), expected);
+}
+
 #[test]
 fn refusals_and_failures() {
     let folder = folder("failures");
@@ -141,6 +156,31 @@ fn lines_that_are_no_commands() {
         "why 1 1 1",
         "why 1 x",
         "whys 1 1",
+        "index",
+        "index ",
+        "index x",
+        "index -1",
+        "index 1.0",
+        "index 0 0",
+        "index 4294967296",
+        "index 18446744073709551615",
+        "index 18446744073709551616",
+        "index 000000000000000000000",
+        "Index 0",
+        "indexes 0",
+        "marker",
+        "marker 4294967296",
+        "marker 9223372036854775808",
+        "marker 0 0",
+        "marker  0",
+        "lost 1",
+        "lost ",
+        " lost",
+        "lost\r",
+        "roughness 1",
+        "roughness ",
+        "Roughness",
+        "rough",
         "quit",
         " # x",
         "show\r",

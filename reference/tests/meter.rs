@@ -174,6 +174,8 @@ fn rows_of_sixty_four_readings() {
     assert_eq!(points(&taken(&all)), 5);
 }
 
+/// For every count the least sum that reaches a row, and a 1024th less. Means
+/// as floats of 32 bits, against the floats closest to the rows, say the same.
 #[test]
 fn points_of_every_sum_near_a_row() {
     for count in 1..=64u32 {
@@ -182,6 +184,8 @@ fn points_of_every_sum_near_a_row() {
             let least = (u128::from(tenths) * 1_024 * u128::from(count)).div_ceil(10) as u32;
             assert_eq!(meter::points(least, count), there);
             assert_eq!(meter::points(least - 1, count), below);
+            let reaches = |sum: u32| sum as f32 / 1_024.0 / count as f32 >= tenths as f32 / 10.0;
+            assert!(reaches(least) && !reaches(least - 1));
         }
         assert_eq!(meter::points(0, count), 50);
         assert_eq!(meter::points(8_191 * count, count), 0);

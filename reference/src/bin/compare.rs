@@ -331,6 +331,7 @@ impl Run {
                 // The first word says enough, but for refusals and failures.
                 let words: Vec<&str> = text.split_whitespace().take(2).collect();
                 tally.see(match words[0] {
+                    _ if line == b"roughness" => format!("roughness: {}", words.join(" ")),
                     "ok" | "points" => words[0].to_string(),
                     _ => words.join(" "),
                 });
