@@ -1,18 +1,21 @@
 -- Laws of the reading of a line: one byte more, one number more.
-use Prim.Native.Nat.{ℕ, zero, suc, _+_, _-_, _*_, _^_, _≤_, _<_}
+use Prim.Native.Nat.{ℕ, zero, suc, _+_, _-_, _*_, _%_, _^_, _≤_, _<_}
 use mathlib.Core.Bool.{Bool, true, false, _&&_, and-false}
 use mathlib.Core.List.{List, [], _∷_, _++_, append-nil, append-assoc}
 use mathlib.Core.Option.{Option, none, some}
 use mathlib.Core.Path.{_≡_, refl, sym, ap, _∙_, fun-ext}
+use native.Mathlib.Nat.{mod-eq-of-lt}
 use native.Mathlib.Numerals.{add-one}
 use native.Mathlib.Omega.{arith}
-use lib.Dec.{leb, eqb}
+use lib.Dec.{leb, ltb, eqb}
 use lib.ListN.{length, getD, take, drop, set, replicate, length-append, length-drop}
 use lib.Seq.{drop-cons, drop-drop, drop-set-lt, getD-drop, take-at, drop-at}
-use borrow.Author.Tests.{lt-ltb, le-ltb, le-leb, lt-leb, eq-eqb, ne-eqb, leb-true, leb-false}
+use borrow.Author.Tests.{lt-ltb, le-ltb, le-leb, lt-leb, eq-eqb, ne-eqb, leb-true, leb-false, ltb-true}
 use Rattle.base.specs.Choice.{pick, only}
 use Rattle.base.proofs.Choice.{and-both}
-use Rattle.command.specs.Reading.{same, isOf, every, wordOf, restOf, numberIn, numberFrom, firstNumber, afterNumber, withNumber, arguments, at, placed, pathOf, countOf}
+use Rattle.command.specs.Reading.{same, isOf, every, wordOf, restOf, numberIn, numberFrom, firstNumber, afterNumber, withNumber, arguments, at, placed, pathOf, sendOf, countOf}
+use Rattle.rules.specs.declared.Sent.{Sent}
+use Rattle.command.specs.declared.Command.the-variants.{Send, Unknown}
 use Rattle.command.specs.declared.Kind.{Kind}
 use Rattle.command.specs.declared.Row.{Row}
 
@@ -194,3 +197,11 @@ unfolding few
 few-next {rest = rest} {r = r} e h =
     let p = and-both (leb (countOf (r .2)) 4) (few rest) (sym (ap few e) ∙ h) in
     (leb-true _ _ (p .0), p .1)
+
+-- of a number without more than 32 bits these are the number
+pub send-low : (kind : ℕ → Sent) (bits : ℕ) → sendOf bits (kind (bits % 2 ^ 32)) ≡ sendOf bits (kind bits)
+send-low kind bits = go (ltb bits (2 ^ 32)) refl
+  where
+    go : (t : Bool) → ltb bits (2 ^ 32) ≡ t → pick t (Send (kind (bits % 2 ^ 32))) Unknown ≡ pick t (Send (kind bits)) Unknown
+    go true e = rw (mod-eq-of-lt (ltb-true bits (2 ^ 32) e))
+    go false e = refl

@@ -10,6 +10,8 @@ use Rattle.base.specs.Choice.{pick, only}
 use Rattle.base.specs.Over.{between}
 use Rattle.base.specs.Text.{text}
 use Rattle.rules.specs.declared.Edit.the-variants.{Bar, Unbar, SetLimit, SetRating}
+use Rattle.rules.specs.declared.Sent.{Sent}
+use Rattle.rules.specs.declared.Sent.the-variants.{Index, Marker, Lost}
 use Rattle.command.specs.declared.Arguments.{Arguments}
 use Rattle.command.specs.declared.Command as Command
 use Rattle.command.specs.declared.Command.{Command}
@@ -104,9 +106,9 @@ isPath path = between 1 255 (length path) && every Named path
 
 -- ---- commands
 
--- a row of the table: a word, with blanks behind it up to 8 bytes; what it names; and what it takes, which stands behind it
+-- a row of the table: a word, with blanks behind it up to 9 bytes; what it names; and what it takes, which stands behind it
 unfoldable pub row : String → Name → Takes → Row
-row word name takes = record { 0 = take 8 (text word ++ replicate 8 32); 1 = name; 2 = takes }
+row word name takes = record { 0 = take 9 (text word ++ replicate 9 32); 1 = name; 2 = takes }
 
 -- every word that there is
 unfoldable pub rows : List Row
@@ -121,7 +123,15 @@ rows =
     ∷ row "points" Name.Points (Numbers 4)
     ∷ row "page" Name.Page (Numbers 0)
     ∷ row "why" Name.Why (Numbers 2)
+    ∷ row "index" Name.Index (Numbers 1)
+    ∷ row "marker" Name.Marker (Numbers 1)
+    ∷ row "lost" Name.Lost (Numbers 0)
+    ∷ row "roughness" Name.Roughness (Numbers 0)
     ∷ []
+
+-- a record of the meter with these bits; a float has 32, and a number that has more is no command
+abbrev pub sendOf : ℕ → Sent → Command
+sendOf bits sent = pick (ltb bits (2 ^ 32)) (Command.Send sent) Command.Unknown
 
 -- the command of a name, with its numbers
 abbrev pub made : Name → (ℕ → ℕ) → Command
@@ -135,6 +145,10 @@ made Name.Show v = Command.Show
 made Name.Points v = Command.Points (v 0) (v 1) (v 2) (v 3)
 made Name.Page v = Command.Page
 made Name.Why v = Command.Why (v 0) (v 1)
+made Name.Index v = sendOf (v 0) (Index (v 0))
+made Name.Marker v = sendOf (v 0) (Marker (v 0))
+made Name.Lost v = Command.Send Lost
+made Name.Roughness v = Command.Roughness
 
 -- the command of the first of some rows, where there is one
 unfoldable pub firstMade : List Row → (ℕ → ℕ) → Command

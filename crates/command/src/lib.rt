@@ -3,8 +3,9 @@ ghost use mathlib.Core.Path.{_≡_};
 ghost use mathlib.Core.List.{_∷_};
 ghost use Prim.Native.Nat.{_+_, _≤_, _<_};
 ghost use lib.ListN.{length, drop};
-ghost use Rattle.command.specs.Reading.{same as Reading·same, every as Reading·every, isSpace, isOf, wordOf, numberIn, firstNumber, afterNumber, arguments, at, placed, pathOf, isPath, rows, made, numbered as Reading·numbered, taken, meant, called as Reading·called, isComment, commandIn, readNumber, numbersOf, countOf};
+ghost use Rattle.command.specs.Reading.{same as Reading·same, every as Reading·every, isSpace, isOf, wordOf, numberIn, firstNumber, afterNumber, arguments, at, placed, pathOf, isPath, rows, sendOf, made, numbered as Reading·numbered, taken, meant, called as Reading·called, isComment, commandIn, readNumber, numbersOf, countOf};
 use rules::Edit;
+use rules::Sent;
 
 // A longer line is no command, unless it is to be passed over.
 pub const LONGEST_LINE: usize = 512;
@@ -21,6 +22,8 @@ pub enum Command {
     Points(usize, usize, usize, usize),
     Page,
     Why(usize, usize),
+    Send(Sent),
+    Roughness,
 }
 
 pub enum Name {
@@ -34,6 +37,10 @@ pub enum Name {
     Points,
     Page,
     Why,
+    Index,
+    Marker,
+    Lost,
+    Roughness,
 }
 
 // What a word takes: so many numbers, or a path.
@@ -42,22 +49,26 @@ pub enum Takes {
     Path,
 }
 
-// A word, with blanks behind it up to 8 bytes; what it names; and what it takes.
-pub struct Row(pub [u8; 8], pub Name, pub Takes);
+// A word, with blanks behind it up to 9 bytes; what it names; and what it takes.
+pub struct Row(pub [u8; 9], pub Name, pub Takes);
 
-const WORDS: usize = 10;
+const WORDS: usize = 14;
 
 const ROWS: [Row; WORDS] = [
-    Row(*b"load    ", Name::Load, Takes::Path),
-    Row(*b"export  ", Name::Export, Takes::Path),
-    Row(*b"bar     ", Name::Bar, Takes::Numbers(2)),
-    Row(*b"unbar   ", Name::Unbar, Takes::Numbers(2)),
-    Row(*b"limit   ", Name::Limit, Takes::Numbers(2)),
-    Row(*b"rating  ", Name::Rating, Takes::Numbers(3)),
-    Row(*b"show    ", Name::Show, Takes::Numbers(0)),
-    Row(*b"points  ", Name::Points, Takes::Numbers(4)),
-    Row(*b"page    ", Name::Page, Takes::Numbers(0)),
-    Row(*b"why     ", Name::Why, Takes::Numbers(2)),
+    Row(*b"load     ", Name::Load, Takes::Path),
+    Row(*b"export   ", Name::Export, Takes::Path),
+    Row(*b"bar      ", Name::Bar, Takes::Numbers(2)),
+    Row(*b"unbar    ", Name::Unbar, Takes::Numbers(2)),
+    Row(*b"limit    ", Name::Limit, Takes::Numbers(2)),
+    Row(*b"rating   ", Name::Rating, Takes::Numbers(3)),
+    Row(*b"show     ", Name::Show, Takes::Numbers(0)),
+    Row(*b"points   ", Name::Points, Takes::Numbers(4)),
+    Row(*b"page     ", Name::Page, Takes::Numbers(0)),
+    Row(*b"why      ", Name::Why, Takes::Numbers(2)),
+    Row(*b"index    ", Name::Index, Takes::Numbers(1)),
+    Row(*b"marker   ", Name::Marker, Takes::Numbers(1)),
+    Row(*b"lost     ", Name::Lost, Takes::Numbers(0)),
+    Row(*b"roughness", Name::Roughness, Takes::Numbers(0)),
 ];
 
 pub enum Kind {
@@ -273,6 +284,17 @@ fn same_word(a: &[u8], b: &[u8]) -> bool
     same(&a[..m], &b[..n])
 }
 
+// A record with these bits; a float has 32, and a number that has more is no command.
+fn send(bits: usize, sent: Sent) -> Command
+    ensures { λ r. ⌜ r ≡ sendOf bits sent ⌝ }
+{
+    if bits < 4294967296 {
+        Command::Send(sent)
+    } else {
+        Command::Unknown
+    }
+}
+
 fn make(name: Name, numbers: [usize; 4]) -> Command
     ensures { λ r. ⌜ r ≡ made name (at numbers) ⌝ }
 {
@@ -291,6 +313,10 @@ fn make(name: Name, numbers: [usize; 4]) -> Command
         Name::Points => Command::Points(a, b, c, d),
         Name::Page => Command::Page,
         Name::Why => Command::Why(a, b),
+        Name::Index => send(a, Sent::Index((a % 4294967296) as u32)),
+        Name::Marker => send(a, Sent::Marker((a % 4294967296) as u32)),
+        Name::Lost => Command::Send(Sent::Lost),
+        Name::Roughness => Command::Roughness,
     }
 }
 
