@@ -14,8 +14,9 @@ pub lines : List (List ℕ)
 unfolding text
 lines =
     text "load a b" ∷ text "export x" ∷ text "bar 1 2" ∷ text "unbar 3 4" ∷ text "limit 1 007" ∷ text "rating 1 2 3" ∷ text "show" ∷ text "points 8 3 3 1" ∷ text "page" ∷ text "why 2 1"
-    ∷ text "index 1083598848" ∷ text "marker 4294967295" ∷ text "lost" ∷ text "roughness" ∷ text "index 4294967296" ∷ text "marker 18446744073709551615"
-    ∷ text "index" ∷ text "marker 1 2" ∷ text "index -1" ∷ text "lost 1" ∷ text "lost " ∷ text "roughness 1" ∷ text "roughnes" ∷ text "roughness9"
+    ∷ text "index 1083598848" ∷ text "marker 4294967295" ∷ text "lost" ∷ text "roughness"
+    ∷ text "index 4294967296" ∷ text "marker 18446744073709551615" ∷ text "index" ∷ text "marker 1 2" ∷ text "index -1" ∷ text "lost 1" ∷ text "lost "
+    ∷ text "roughness 1" ∷ text "roughnes" ∷ text "roughness9"
     ∷ text "limit 1 18446744073709551615" ∷ text "limit 1 18446744073709551616" ∷ text "limit 1 000000000000000000001" ∷ text "limit 1 -1"
     ∷ text "" ∷ text " \t\r" ∷ text "# bar 1 2" ∷ text " # bar 1 2" ∷ (35 ∷ replicate 600 32) ∷ replicate 513 32 ∷ replicate 512 32
     ∷ text "bar 1  2" ∷ text "bar  1 2" ∷ text " bar 1 2" ∷ text "bar 1 2 " ∷ text "bar" ∷ text "bar 1" ∷ text "bar 1 2 3" ∷ text "bar1 2" ∷ text "barn 1 2" ∷ text "Bar 1 2" ∷ text "ba 1 2"

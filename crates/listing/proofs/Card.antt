@@ -5,7 +5,8 @@ use lib.ListN.{replicate}
 use Rattle.base.specs.Text.{text, digitsOf, decimal}
 use Rattle.rules.specs.declared.Programme.{Programme}
 use Rattle.rules.specs.declared.Answer.the-variants.{Accepted, Refused}
-use Rattle.listing.specs.Listing.{named, line, segmentLine, segmentLines, stepsLine, results, listing, refusal, done, valued, failed}
+use Rattle.rules.specs.declared.Roughness.the-variants as Roughness
+use Rattle.listing.specs.Listing.{named, line, segmentLine, segmentLines, stepsLine, results, listing, pairLine, refusal, done, valued, told, failed}
 
 pub card : Programme
 card =
@@ -28,7 +29,9 @@ pub answers-said : (done (Accepted 0) ≡ text "ok\n")
     × (done (Refused 6) ≡ text "refused 6\n")
     × (valued (text "ok ") (Accepted 87) ≡ text "ok 87\n")
     × (valued (text "points ") (Refused 10) ≡ text "refused 10\n")
+    × (told (Roughness.Points 20 4290847557) ≡ text "points 20 marker 4290847557\n")
+    × (told (Roughness.Refused 13) ≡ text "refused 13\n")
     × (failed (text "cannot open ") (text "a b") ≡ text "cannot open a b\n")
     × (decimal 18446744073709551615 ≡ text "18446744073709551615")
-unfolding text digitsOf decimal named line refusal done valued failed
-answers-said = (refl, refl, refl, refl, refl, refl)
+unfolding text digitsOf decimal named line pairLine refusal done valued told failed
+answers-said = (refl, refl, refl, refl, refl, refl, refl, refl)

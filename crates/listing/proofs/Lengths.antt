@@ -7,7 +7,7 @@ use Rattle.base.specs.Text.{text, mostDigits, decimal}
 use Rattle.base.proofs.Text.{decimal-few}
 use Rattle.rules.specs.District.{mostSegments}
 use Rattle.rules.specs.declared.Programme.{Programme}
-use Rattle.listing.specs.Listing.{named, line, segmentLine, segmentLines, stepsLine, results, listing, refusal, missedLine, overLine, longestLineOf, longestRefusal, longestReason, longestSegmentLine, longestStepsLine, longestListing}
+use Rattle.listing.specs.Listing.{named, line, segmentLine, segmentLines, stepsLine, results, listing, refusal, pairLine, overLine, longestLineOf, longestPairOf, longestRefusal, longestReason, longestSegmentLine, longestStepsLine, longestListing}
 
 pub named-few : (word : List ℕ) (n : ℕ) → length (named word n) ≤ length word + mostDigits
 unfolding named
@@ -24,12 +24,12 @@ pub refusal-few : (n : ℕ) → length (refusal n) ≤ longestRefusal
 unfolding refusal text
 refusal-few n = line-few (text "refused ") n
 
-pub missed-fits : (k t room : ℕ) → longestReason ≤ room → length (missedLine k t) ≤ room
-unfolding missedLine text
-missed-fits k t room h =
-    let a = named (text "minimum rating missed: distress ") k in
-    let b = line (text ", year ") t in
-    omega (arith, length-append a b, named-few (text "minimum rating missed: distress ") k, line-few (text ", year ") t)
+pub pair-fits :
+    (first : List ℕ) (a : ℕ) (second : List ℕ) (b room : ℕ) → longestPairOf (length first) (length second) ≤ room
+    → length (pairLine first a second b) ≤ room
+unfolding pairLine
+pair-fits first a second b room h =
+    omega (arith, length-append (named first a) (line second b), named-few first a, line-few second b)
 
 pub over-fits : (r : ℕ) (end : List ℕ) (room : ℕ) → length end ≤ 40 → longestReason ≤ room → length (overLine r end) ≤ room
 unfolding overLine text

@@ -10,6 +10,9 @@ use Rattle.rules.specs.declared.Answer.{Answer}
 use Rattle.rules.specs.declared.Answer.the-variants.{Accepted, Refused}
 use Rattle.rules.specs.declared.Reason.{Reason}
 use Rattle.rules.specs.declared.Reason.the-variants.{InProgramme, Barred, MinimumMissed, OverallMissed, NoBenefit, OverAlone, OverBeside, NoGreaterTotal}
+use Rattle.rules.specs.declared.Roughness as Roughness
+use Rattle.rules.specs.declared.Roughness.{Roughness}
+use Rattle.rules.specs.declared.Roughness.the-variants.{Points}
 use Rattle.rules.specs.declared.Why as Why
 use Rattle.rules.specs.declared.Why.{Why}
 use Rattle.rules.specs.declared.Why.the-variants.{Because}
@@ -20,6 +23,10 @@ named word n = word ++ decimal n
 
 unfoldable pub line : List ℕ → ℕ → List ℕ
 line word n = named word n ++ text "\n"
+
+-- two numbers in a line, each behind its word
+unfoldable pub pairLine : List ℕ → ℕ → List ℕ → ℕ → List ℕ
+pairLine first a second b = named first a ++ line second b
 
 -- ---- a programme
 
@@ -66,16 +73,13 @@ valued word (Accepted value) = line word value
 valued word (Refused n) = refusal n
 
 -- why: of a reason, a line with what it names
-unfoldable pub missedLine : ℕ → ℕ → List ℕ
-missedLine k t = named (text "minimum rating missed: distress ") k ++ line (text ", year ") t
-
 unfoldable pub overLine : ℕ → List ℕ → List ℕ
 overLine r end = named (text "over limit ") r ++ end
 
 unfoldable pub reasonLine : Reason → List ℕ
 reasonLine InProgramme = text "in the programme\n"
 reasonLine Barred = text "barred\n"
-reasonLine (MinimumMissed k t) = missedLine k t
+reasonLine (MinimumMissed k t) = pairLine (text "minimum rating missed: distress ") k (text ", year ") t
 reasonLine OverallMissed = text "overall requirement missed\n"
 reasonLine NoBenefit = text "benefit not above 0\n"
 reasonLine (OverAlone r) = overLine r (text " alone\n")
@@ -85,6 +89,11 @@ reasonLine NoGreaterTotal = text "fits, but the total would be no greater\n"
 unfoldable pub explained : Why → List ℕ
 explained (Because reason) = reasonLine reason
 explained (Why.Refused n) = refusal n
+
+-- roughness: the points, and the bits of the last marker
+unfoldable pub told : Roughness → List ℕ
+told (Points p bits) = pairLine (text "points ") p (text " marker ") bits
+told (Roughness.Refused n) = refusal n
 
 -- what could not be done, and with which file
 unfoldable pub failed : List ℕ → List ℕ → List ℕ
@@ -99,8 +108,15 @@ longestLineOf n = n + mostDigits + 1
 abbrev pub longestRefusal : ℕ
 longestRefusal = longestLineOf 8
 
+-- with two words, of m and n bytes
+abbrev pub longestPairOf : ℕ → ℕ → ℕ
+longestPairOf m n = m + mostDigits + longestLineOf n
+
 abbrev pub longestReason : ℕ
-longestReason = 32 + mostDigits + longestLineOf 7
+longestReason = longestPairOf 32 7
+
+abbrev pub longestRoughness : ℕ
+longestRoughness = longestPairOf 7 8
 
 abbrev pub longestSegmentLine : ℕ
 longestSegmentLine = mostDigits + longestLineOf 1

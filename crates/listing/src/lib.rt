@@ -4,11 +4,12 @@ ghost use mathlib.Core.Path.{_≡_};
 ghost use Prim.Native.Nat.{_+_, _≤_, min};
 ghost use lib.ListN.{length, take};
 ghost use Rattle.base.specs.Text.{decimal, Writes, Put};
-ghost use Rattle.listing.specs.Listing.{named, line, segmentLine, segmentLines, stepsLine, results, listing, shown, refusal, done, planned, valued, missedLine, overLine, reasonLine, explained, failed, longestRefusal, longestReason, longestListing};
+ghost use Rattle.listing.specs.Listing.{named, line, segmentLine, segmentLines, stepsLine, results, listing, shown, refusal, done, planned, valued, pairLine, overLine, reasonLine, explained, told, failed, longestRefusal, longestReason, longestRoughness, longestListing};
 ghost use Rattle.rules.specs.District.{mostSegments};
 use rules::Answer;
 use rules::Programme;
 use rules::Reason;
+use rules::Roughness;
 use rules::Unit;
 use rules::Why;
 use rules::places::MOST_SEGMENTS;
@@ -58,6 +59,15 @@ fn put_line(out: &mut [u8], word: &[u8], value: usize) -> usize
 {
     let at = put_named(out, word, value);
     at + put(&mut out[at..], b"\n")
+}
+
+// Two numbers in a line, each behind its word.
+fn put_pair(out: &mut [u8], first: &[u8], a: usize, second: &[u8], b: usize) -> usize
+    requires { ⌜ length (pairLine (now first) a (now second) b) ≤ length (now out) ⌝ }
+    ensures { λ r. ⌜ Put (pairLine (now (first .entry)) a (now (second .entry)) b) (now (out .entry)) (now (out .exit)) r ⌝ }
+{
+    let at = put_named(out, first, a);
+    at + put_line(&mut out[at..], second, b)
 }
 
 // ---- a programme
@@ -170,14 +180,6 @@ pub fn put_valued(out: &mut [u8], word: &[u8], answer: Answer) -> usize
 
 // ---- the answer to why
 
-fn put_missed(out: &mut [u8], distress: usize, year: usize) -> usize
-    requires { ⌜ length (missedLine distress year) ≤ length (now out) ⌝ }
-    ensures { λ r. ⌜ Put (missedLine distress year) (now (out .entry)) (now (out .exit)) r ⌝ }
-{
-    let at = put_named(out, b"minimum rating missed: distress ", distress);
-    at + put_line(&mut out[at..], b", year ", year)
-}
-
 fn put_over(out: &mut [u8], resource: usize, end: &[u8]) -> usize
     requires { ⌜ length (overLine resource (now end)) ≤ length (now out) ⌝ }
     ensures { λ r. ⌜ Put (overLine resource (now (end .entry))) (now (out .entry)) (now (out .exit)) r ⌝ }
@@ -193,7 +195,13 @@ fn put_reason(out: &mut [u8], reason: Reason) -> usize
     match reason {
         Reason::InProgramme => put(out, b"in the programme\n"),
         Reason::Barred => put(out, b"barred\n"),
-        Reason::MinimumMissed(distress, year) => put_missed(out, distress, year),
+        Reason::MinimumMissed(distress, year) => put_pair(
+            out,
+            b"minimum rating missed: distress ",
+            distress,
+            b", year ",
+            year,
+        ),
         Reason::OverallMissed => put(out, b"overall requirement missed\n"),
         Reason::NoBenefit => put(out, b"benefit not above 0\n"),
         Reason::OverAlone(resource) => put_over(out, resource, b" alone\n"),
@@ -211,6 +219,23 @@ pub fn put_why(out: &mut [u8], why: Why) -> usize
         Why::Refused(number) => put_refusal(out, number),
     }
 }
+
+// ---- the answer to the question for roughness
+
+pub fn put_roughness(out: &mut [u8], roughness: Roughness) -> usize
+    requires { ⌜ longestRoughness ≤ length (now out) ⌝ }
+    ensures { λ r. ⌜ Put (told roughness) (now (out .entry)) (now (out .exit)) r ⌝ }
+{
+    match roughness {
+        Roughness::Points(points, marker) => {
+            let bits = marker as usize;
+            put_pair(out, b"points ", points, b" marker ", bits)
+        }
+        Roughness::Refused(number) => put_refusal(out, number),
+    }
+}
+
+// ---- a file that could not be had
 
 pub fn put_failed(out: &mut [u8], what: &[u8], path: &[u8]) -> usize
     requires { ⌜ length (failed (now what) (now path)) ≤ length (now out) ⌝ }

@@ -3,12 +3,12 @@ use native.Mathlib.Omega.{arith}
 use borrow.Author.Needs.{needs}
 use Rattle.base.specs.Text.{text}
 use Rattle.listing.specs.Listing.{reasonLine}
-use Rattle.listing.proofs.Lengths.{missed-fits, over-fits}
+use Rattle.listing.proofs.Lengths.{pair-fits, over-fits}
 use Rattle.listing.proofs.put_reason.Statement.{statement}
 use Rattle.listing.proofs.put_reason.Tie as tie
 
-put-missed-requires : tie.Need-put-missed-requires
-put-missed-requires c κs = missed-fits _ _ _ (omega arith)
+put-pair-requires : tie.Need-put-pair-requires
+put-pair-requires c κs = pair-fits _ _ _ _ _ (omega arith)
 
 put-over-requires : tie.Need-put-over-requires
 put-over-requires c κs = over-fits _ _ _ (omega arith) (omega arith)
@@ -26,7 +26,7 @@ returns-2 c = rw (c .before .before .before .before .before .enum-told2 .given .
 
 returns-3 : tie.Need-returns-3
 unfolding reasonLine text
-returns-3 c = rw (c .before .before .before .before .before .reason .given .1) (c .before .before .put-missed .ensures)
+returns-3 c = rw (c .before .before .before .before .before .before .before .reason .given .1) (c .before .before .put-pair .ensures)
 
 returns-4 : tie.Need-returns-4
 unfolding reasonLine text
@@ -59,7 +59,9 @@ put-reason-spec =
     (λ c. search needs)
     (λ c κs. search needs)
     (λ c. search needs)
-    put-missed-requires
+    (λ c. search needs)
+    (λ c. search needs)
+    put-pair-requires
     (λ c. search needs)
     (λ c. search needs)
     (λ c κs. search needs)
