@@ -19,7 +19,7 @@ use Rattle.rules.specs.declared.Unit.{Unit}
 use Rattle.rules.specs.declared.Answer.the-variants.{Accepted, Refused}
 
 -- an answer where nothing refuses it
-accepted-answer : (n value : ℕ) → n ≡ 0 → answerOf n value ≡ Accepted value
+pub accepted-answer : (n value : ℕ) → n ≡ 0 → answerOf n value ≡ Accepted value
 unfolding answerOf
 accepted-answer zero value e = refl
 accepted-answer (suc n) value e = absurd (omega arith)

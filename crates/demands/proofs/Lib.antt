@@ -3,6 +3,8 @@ pub mod EveryAnswer
 pub mod EveryFile
 pub mod TheRules
 pub mod OneClaim
+pub mod EveryOfficeAnswer
+pub mod EveryOffice
 pub mod RatingsOnScale
 pub mod EveryPage
 pub mod EveryReason
