@@ -1,0 +1,14 @@
+-- `meter::start` meets its contract.
+use mathlib.Core.Path.{refl}
+use lib.Ieee.{ofBits}
+use Rattle.rules.specs.Meter.{silence, heardWith}
+use borrow.Author.Needs.{needs}
+use Rattle.meter.proofs.start.Statement.{statement}
+use Rattle.meter.proofs.start.Tie as tie
+
+returns : tie.Need-returns
+unfolding silence heardWith ofBits
+returns c = c .empty .ensures silence refl
+
+pub start-spec : {M : Type 1} → statement M
+start-spec = tie.close (tie.spec (λ c κs. search needs) returns)
