@@ -1,13 +1,13 @@
 -- What the rules read in 32 bits is the float that they are.
-use mathlib.Core.Path.{_≡_, refl, sym, ap, _∙_}
+use mathlib.Core.Path.{_≡_, refl, sym, _∙_}
 use mathlib.Core.Bool.{Bool, true, false, not, cond, true≢false}
 use mathlib.Core.Logic.{_⊎_, inl, inr}
 use Prim.Native.Nat.{ℕ, zero, suc, _+_, _*_, _/_, _%_, _^_, _≤_, _<_}
-use native.Mathlib.Nat.{mul-le-mul, mul-one, mul-assoc, pow-succ'}
+use native.Mathlib.Nat.{mul-le-mul, mul-one, pow-succ'}
 use native.Mathlib.Omega.{arith}
 use lib.Dec.{T, eqb, eqb·suc-zero}
 use lib.Pow.{field, pow-mono}
-use lib.Ieee.{Float, nan, inf, fin, binary32, up, down, odd, ofFields, ofBits, isNan, nanBits}
+use lib.Ieee.{Float, nan, inf, fin, binary32, odd, ofFields, ofBits, isNan, nanBits}
 use lib.Ieee.Bits.{nanBits-is, nanBits-above}
 use lib.Ieee.Exact.{HasValue, odd-sign}
 use lib.Ieee.Scale.{finite}
@@ -35,12 +35,16 @@ fields-read s (suc e) t = rw (eqb·suc-zero e) (known (eqb (suc e) 255) refl)
   where
     known : (b : Bool) → eqb (suc e) 255 ≡ b
         → Reads part1024 (cond b (cond (eqb t 0) (inf s) nan) (odd 24 s (2 ^ 23 + t) e 149)) s ((2 ^ 23 + t) * 2 ^ suc e)
-    known true h = inl (no-number (eqb t 0), (let z = eqb-true (suc e) 255 h in rw z (mul-le-mul {n₁ = 8192} {m₁ = 2 ^ 140} {n₂ = 2 ^ 23 + t} {m₂ = 2 ^ 255} (omega arith) (pow-mono {i = 140} {j = 255} (omega arith)))))
+    known true h = inl (outside (eqb t 0), rw (eqb-true (suc e) 255 h) past)
       where
-        no-number : (b : Bool) → T (not (finite (cond b (inf s) nan)))
-        no-number true = tt
-        no-number false = tt
-    known false h = inr (rw (doubled (2 ^ 23 + t) e) at (twice (odd 24 s (2 ^ 23 + t) e 149) s ((2 ^ 23 + t) * 2 ^ e) (2 ^ 149) (odd-sign 24 s (2 ^ 23 + t) e 149)))
+        outside : (b : Bool) → T (not (finite (cond b (inf s) nan)))
+        outside true = tt
+        outside false = tt
+
+        past : 8192 * part1024 ≤ (2 ^ 23 + t) * 2 ^ 255
+        past = mul-le-mul {n₁ = 8192} {m₁ = 2 ^ 140} {n₂ = 2 ^ 23 + t} {m₂ = 2 ^ 255} (omega arith) (pow-mono {i = 140} {j = 255} (omega arith))
+    known false h =
+        let q = 2 ^ 23 + t in inr (rw (doubled q e) at (twice (odd 24 s q e 149) s (q * 2 ^ e) (2 ^ 149) (odd-sign 24 s q e 149)))
 
 pub bits-read : (bits : ℕ) → Reads part1024 (ofBits binary32 bits) (isNegative bits) (sizeOf bits)
 unfolding ofBits sizeOf

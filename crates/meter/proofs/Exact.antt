@@ -1,6 +1,6 @@
 -- Sums and differences of floats that are whole 1024ths are exact, below 2 ^ 24 of them.
 use mathlib.Core.Path.{_≡_, sym, ap, _∙_, subst}
-use mathlib.Core.Bool.{Bool, true, false, true≢false}
+use mathlib.Core.Bool.{true, false, true≢false}
 use Prim.Native.Nat.{ℕ, _+_, _-_, _*_, _^_, _≤_, _<_}
 use native.Mathlib.Nat.{mul-comm, mul-assoc, mul-right-comm, mul-pos, lt-of-lt-of-le}
 use native.Mathlib.Omega.{arith}

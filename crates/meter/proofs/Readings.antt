@@ -1,12 +1,12 @@
 -- The tests that `meter::is_reading` makes decide what the rules call a reading.
-use mathlib.Core.Path.{_≡_, refl, sym, ap, _∙_, subst}
+use mathlib.Core.Path.{_≡_, refl, sym, ap, _∙_}
 use mathlib.Core.Bool.{Bool, true, false, not, _&&_, _||_, true≢false}
-use mathlib.Core.Logic.{_⊎_, inl, inr}
-use Prim.Native.Nat.{ℕ, zero, suc, _+_, _*_, _/_, _%_, _^_, _≤_, _<_}
+use mathlib.Core.Logic.{inl, inr}
+use Prim.Native.Nat.{ℕ, zero, _*_, _/_, _%_, _≤_, _<_}
 use native.Mathlib.Nat.{zero-mod, zero-div, div-add-mod', div-lt-iff-lt-mul, lt-of-mul-lt-mul-right, mul-lt-mul-of-pos-right}
 use native.Mathlib.Omega.{arith}
 use lib.Dec.{T, ltb, eqb}
-use lib.IntN.{ℤ, pos}
+use lib.IntN.{pos}
 use lib.Pow.{pow-pos}
 use lib.Ieee.Nearest.{div-same}
 use lib.Ieee.{Float, nan, inf, fin, binary32, round, mul, lt, eq, fits, ofBits, ofInt}
@@ -14,9 +14,9 @@ use lib.Ieee.Exact.{HasValue}
 use lib.Ieee.Scale.{finite}
 use lib.Ieee.Back.{round-whole}
 use lib.Ieee.Positive.{num, den, positive, den-pos, positive-finite, value→cross}
-use borrow.Author.Tests.{ltb-true, ltb-false, lt-ltb, le-ltb, eqb-true, eqb-false, eq-eqb, ne-eqb}
+use borrow.Author.Tests.{ltb-true, ltb-false, lt-ltb, le-ltb, eqb-true, eqb-false, eq-eqb}
 use Rattle.base.specs.Choice.{pick}
-use Rattle.base.proofs.Choice.{and-both, or-either, both, second-fails, first-fails}
+use Rattle.base.proofs.Choice.{and-both, second-fails, first-fails}
 use Rattle.rules.specs.Meter.{isNegative, sizeOf, part1024, isReading, readingOf}
 use Rattle.meter.specs.Window.{0f, unsigned, Counts}
 use Rattle.meter.proofs.Values.{same-test, lt-values, eq-values, eq-zero, rescaled}
@@ -100,7 +100,8 @@ module _ (part : ℕ) (P : 0 < part) (x : Float) (s : Bool) (a : ℕ) (r : Reads
           signed : (t : Bool) → s ≡ t → test part s a ≡ false
           signed true e = test-negative part P s a e some
           signed false e =
-              let z = ltb-false (0 * (1024 * part)) (a * 1) (sym (lt-values 0 1 a (1024 * part) (omega arith) (omega arith) 0f x (refl, refl) (rw e at v)) ∙ l) in
+              let t = lt-values 0 1 a (1024 * part) (omega arith) (omega arith) 0f x (refl, refl) (rw e at v) in
+              let z = ltb-false (0 * (1024 * part)) (a * 1) (sym t ∙ l) in
               absurd (eqb-false a 0 some (omega arith))
 
   high-is : lt 0f x ≡ true → lt x 8f ≡ false → false ≡ test part s a
@@ -110,7 +111,8 @@ module _ (part : ℕ) (P : 0 < part) (x : Float) (s : Bool) (a : ℕ) (r : Reads
       known (inl n) = sym (test-high part P s a (n .1))
       known (inr v) =
           let e = plain-sign x s a (1024 * part) h v in
-          let z = ltb-false (a * 1) (8 * (1024 * part)) (sym (lt-values a (1024 * part) 8 1 (omega arith) (omega arith) x 8f (rw e at v) (refl, refl)) ∙ l) in
+          let t = lt-values a (1024 * part) 8 1 (omega arith) (omega arith) x 8f (rw e at v) (refl, refl) in
+          let z = ltb-false (a * 1) (8 * (1024 * part)) (sym t ∙ l) in
           sym (test-high part P s a (omega arith))
 
   -- a value between, with the whole 1024ths in it

@@ -1,12 +1,11 @@
 -- Floats that are fractions compare as the fractions do.
-use mathlib.Core.Path.{_≡_, refl, sym, ap, _∙_, subst}
+use mathlib.Core.Path.{_≡_, refl, sym, ap, _∙_}
 use mathlib.Core.Bool.{Bool, true, false, _&&_, _||_, Bool·beq, true≢false}
-use Prim.Native.Nat.{ℕ, _+_, _*_, _≤_, _<_}
-use native.Mathlib.Nat.{mul-pos, mul-lt-mul-of-pos-right, lt-of-mul-lt-mul-right, eq-of-mul-eq-mul-right, zero-mul}
+use Prim.Native.Nat.{ℕ, _*_, _<_}
+use native.Mathlib.Nat.{mul-pos, mul-lt-mul-of-pos-right, lt-of-mul-lt-mul-right, eq-of-mul-eq-mul-right}
 use native.Mathlib.Omega.{arith}
-use lib.Dec.{T, ltb, eqb}
-use lib.IntN.{ℤ, pos}
-use lib.Ieee.{Float, nan, inf, fin, up, down, lt, eq}
+use lib.Dec.{ltb, eqb}
+use lib.Ieee.{Float, fin, up, down, lt, eq}
 use lib.Ieee.Exact.{HasValue}
 use lib.Ieee.Fits.{down-pos}
 use borrow.Author.Tests.{ltb-true, lt-ltb, eqb-true, eq-eqb}
@@ -83,4 +82,6 @@ eq-zero (fin t m e) s a c C v =
 -- from one fraction to another of the same size
 pub rescaled : (x : Float) (s : Bool) (a c b d : ℕ) → 0 < c → a * d ≡ b * c → HasValue x s a c → HasValue x s b d
 rescaled (fin t m e) s a c b d C h v =
-    (v .0, eq-of-mul-eq-mul-right c C (m * up e * d) (b * down e) (let q = ap (λ (z : ℕ). z * d) (v .1) in let r = ap (λ (z : ℕ). z * down e) h in omega arith))
+    let q = ap (λ (z : ℕ). z * d) (v .1) in
+    let r = ap (λ (z : ℕ). z * down e) h in
+    (v .0, eq-of-mul-eq-mul-right c C (m * up e * d) (b * down e) (omega arith))

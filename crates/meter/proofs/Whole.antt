@@ -1,8 +1,8 @@
 -- How many whole 1024ths are in a float above 0 and below 512: 1024 times it is exact, and the cut is the quotient.
 use mathlib.Core.Path.{_≡_, refl, sym, ap, _∙_, subst}
 use mathlib.Core.Bool.{Bool, true, false, _&&_, true≢false}
-use Prim.Native.Nat.{ℕ, zero, suc, _+_, _-_, _*_, _/_, _%_, _^_, _≤_, _<_, min}
-use native.Mathlib.Nat.{mul-assoc, mul-one, mul-pos, mul-lt-mul-of-pos-right, lt-of-mul-lt-mul-right, lt-of-lt-of-le, not-le-of-lt, lt-of-not-le, div-lt-iff-lt-mul, zero-div}
+use Prim.Native.Nat.{ℕ, zero, suc, _+_, _-_, _*_, _/_, _%_, _^_, _≤_, _<_}
+use native.Mathlib.Nat.{mul-assoc, mul-one, lt-of-lt-of-le, not-le-of-lt, lt-of-not-le, div-lt-iff-lt-mul, zero-div}
 use native.Mathlib.Omega.{arith}
 use lib.Dec.{T, ltb, leb, eqb, ltb→lt, lt→ltb, leb→le}
 use lib.IntN.{ℤ, pos, negsuc}
@@ -11,7 +11,7 @@ use lib.Ieee.{Float, nan, inf, fin, binary32, up, down, round, mul, lt, fits, to
 use lib.Ieee.Exact.{HasValue, round-exact}
 use lib.Ieee.Nearest.{div-same}
 use lib.Ieee.Fits.{down-pos, and-l, and-r}
-use lib.Ieee.Positive.{num, den, positive, den-pos, own-value, first-pos, value→cross}
+use lib.Ieee.Positive.{num, den, positive, den-pos, first-pos, value→cross}
 use borrow.Author.Tests.{ltb-true, ltb-false, lt-ltb}
 use Rattle.meter.specs.Window.{0f}
 use Rattle.meter.proofs.Values.{lt-values}
@@ -71,7 +71,8 @@ times-round m (negsuc k) h l r =
     (lt-of-lt-of-le (shl-lt 24 j h) (pow-mono {i = 24 + j} {j = 277} (omega arith)))
     (mul-assoc (m * 1) 1024 (2 ^ 149) ∙ ap (λ (x : ℕ). x * 2 ^ 159) (mul-one m) ∙ sym (joined m j (suc k) 159 (omega arith)))
 
-pub times-exact : (x : Float) → fits binary32 x ≡ true → T (positive x) → num x < 512 * den x → HasValue (mul binary32 x 1024f) false (num x * 1024) (den x)
+pub times-exact : (x : Float) → fits binary32 x ≡ true → T (positive x) → num x < 512 * den x
+    → HasValue (mul binary32 x 1024f) false (num x * 1024) (den x)
 unfolding mul
 times-exact nan f p h = absurd p
 times-exact (inf s) f p h = absurd p

@@ -1,20 +1,19 @@
 -- A window goes on holding what was heard, with every record.
-use mathlib.Core.Path.{_≡_, refl, sym, ap, _∙_, subst}
-use mathlib.Core.Bool.{Bool, true, false}
-use mathlib.Core.List.{List, [], _∷_, foldr}
-use Prim.Native.Nat.{ℕ, zero, suc, _+_, _-_, _*_, _%_, _^_, _≤_, _<_, min}
+use mathlib.Core.Path.{_≡_, refl, sym, _∙_, subst}
+use mathlib.Core.Bool.{true, false}
+use mathlib.Core.List.{List, [], _∷_}
+use Prim.Native.Nat.{ℕ, zero, suc, _+_, _-_, _*_, _%_, _≤_, _<_, min}
 use native.Mathlib.Nat.{mod-lt}
 use native.Mathlib.Omega.{arith}
 use lib.ListN.{length, getD, set, take, replicate, length-set, length-take, length-replicate, getD-replicate}
 use lib.Seq.{getD-set-same, getD-set-other}
 use lib.Ieee.{Float, nan, binary32, add, sub, ofBits}
 use Rattle.rules.specs.Answers.{noReading, answerOf, accepting}
-use Rattle.rules.specs.Meter.{Heard, isReading, readingOf, sentRefusal, heardWith, hearing, windowOf, sumOf}
+use Rattle.rules.specs.Meter.{Heard, isReading, readingOf, sentRefusal, heardWith, hearing, sumOf}
 use Rattle.rules.specs.declared.Answer.the-variants.{Accepted, Refused}
 use Rattle.rules.specs.declared.Sent.{Sent}
 use Rattle.rules.specs.declared.Sent.the-variants.{Index, Marker, Lost}
 use Rattle.meter.specs.Window.{recordOf, bitsOf, 0f, Counts, Holds, Follows}
-use Rattle.meter.specs.declared.Record.{Record}
 use Rattle.meter.specs.declared.Record.the-variants.{Index as Record·Index, Marker as Record·Marker, Lost as Record·Lost}
 use Rattle.meter.specs.declared.Window.{Window}
 use Rattle.meter.specs.declared.Stepped.{Stepped}

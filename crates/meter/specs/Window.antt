@@ -4,7 +4,7 @@ use mathlib.Core.Bool.{false}
 use mathlib.Core.Path.{_≡_}
 use lib.ListN.{length, getD}
 use lib.IntN.{pos}
-use lib.Ieee.{Float, nan, inf, fin, binary32, ofBits, eq}
+use lib.Ieee.{Float, nan, fin, binary32, ofBits, eq}
 use lib.Ieee.Exact.{HasValue}
 use Rattle.base.specs.Choice.{pick}
 use Rattle.rules.specs.Answers.{answerOf}

@@ -147,18 +147,18 @@ fn empty(marker: f32, bits: u32) -> Window
     }
 }
 
-fn index(w: Window, x: f32) -> Stepped
-    ensures { λ r. ⌜ ((bits : ℕ) → x ≡ ofBits binary32 bits → Follows w (Sent·Index bits) r) ⌝ }
+fn index(held: Window, x: f32) -> Stepped
+    ensures { λ r. ⌜ ((bits : ℕ) → x ≡ ofBits binary32 bits → Follows held (Sent·Index bits) r) ⌝ }
 {
     if is_reading(x) {
         return Stepped {
             answer: Answer::Accepted(0),
-            window: put(w, plain(x)),
+            window: put(held, plain(x)),
         };
     }
     Stepped {
         answer: Answer::Refused(NO_READING),
-        window: w,
+        window: held,
     }
 }
 

@@ -22,7 +22,12 @@ returns-4 : tie.Need-returns-4
 unfolding maysPoints
 returns-4 c =
     λ window e f.
-    rw (missed 47 window e f (omega arith), missed 35 window e f (omega arith), missed 33 window e f (omega arith), reached 31 window e f (omega arith))
+    rw (
+      missed 47 window e f (omega arith),
+      missed 35 window e f (omega arith),
+      missed 33 window e f (omega arith),
+      reached 31 window e f (omega arith),
+    )
 
 returns-5 : tie.Need-returns-5
 unfolding maysPoints
