@@ -1,65 +1,89 @@
--- A unit that calls lead to stays one whatever line is answered, and what demand 3 claims holds of it.
+-- An office that calls lead to stays one whatever line is answered, and what demand 3 claims holds of its unit.
 use mathlib.Core.List.{List, [], _∷_, _++_}
 use mathlib.Core.Path.{_≡_, refl, sym, ap, _∙_}
 use Prim.Native.Nat.{ℕ}
-use Rattle.rules.specs.Calls.{freshUnit, showOf}
+use Rattle.rules.specs.Calls.{showOf}
 use Rattle.rules.specs.Demands.{Sound}
 use Rattle.rules.specs.Lists as Lists
-use Rattle.rules.specs.Lists.{Call, outcomeOf, unitFrom, unitAfter}
+use Rattle.rules.specs.Lists.{outcomeOf}
+use Rattle.rules.specs.Offices as Offices
+use Rattle.rules.specs.Offices.{Held, freshHeld, OfficeCall, officeOutcome, heldFrom, heldAfter, unitCalls}
 use Rattle.rules.specs.declared.Unit.{Unit}
-use Rattle.demands.proofs.OneClaim.{one-claim}
+use Rattle.demands.proofs.EveryOffice.{every-office}
 use Rattle.demands.proofs.TheRules.{the-rules}
+use Rattle.office.specs.Kept.{Keeps}
+use Rattle.office.specs.declared.Office.{Office}
 use Rattle.command.specs.Reading.{commandIn}
 use Rattle.command.specs.declared.Command.{Command}
-use Rattle.command.specs.declared.Command.the-variants.{Nothing, Unknown, Load, Export, Alter, Show, Points, Page, Why}
-use Rattle.panel.specs.Console.{after, Loads, read, unopened, unread, Exports, written, unwritten, LineLeads, load, export, other}
-use Rattle.panel.specs.Lines.{ByCalls}
+use Rattle.command.specs.declared.Command.the-variants.{Nothing, Unknown, Load, Export, Alter, Show, Points, Page, Why, Send, Roughness}
+use Rattle.panel.specs.Console.{after, Loads, read, unopened, unread, Exports, written, unwritten, besideHeard, LineLeads, load, export, send, ask, other}
+use Rattle.panel.specs.Lines.{ByCalls, Keeping, Leads}
 
-pub by-calls-fresh : {u : Unit} → u ≡ freshUnit → ByCalls u
-unfolding unitAfter unitFrom
-by-calls-fresh e = record { calls = []; same = e }
+-- what is held follows from calls
+record Called (h : Held) : Type 0 where
+  calls : List OfficeCall
+  same : h ≡ heldAfter calls
 
 -- one call more
-unit-then : (u : Unit) (cs : List Call) (c : Call) → unitFrom u (cs ++ (c ∷ [])) ≡ outcomeOf (unitFrom u cs) c .unit
-unfolding unitFrom
-unit-then u [] c = refl
-unit-then u (d ∷ cs) c = unit-then (outcomeOf u d .unit) cs c
+held-then : (h : Held) (cs : List OfficeCall) (c : OfficeCall) → heldFrom h (cs ++ (c ∷ [])) ≡ officeOutcome (heldFrom h cs) c .held
+unfolding heldFrom
+held-then h [] c = refl
+held-then h (d ∷ cs) c = held-then (officeOutcome h d .held) cs c
 
-by-calls-call : {u : Unit} (c : Call) → ByCalls u → ByCalls (outcomeOf u c .unit)
-unfolding unitAfter
-by-calls-call c r =
+called-call : {h : Held} (c : OfficeCall) → Called h → Called (officeOutcome h c .held)
+unfolding heldAfter
+called-call c r =
     record {
       calls = r .calls ++ (c ∷ []);
-      same = ap (λ (u : Unit). outcomeOf u c .unit) (r .same) ∙ sym (unit-then freshUnit (r .calls) c);
+      same = ap (λ (h : Held). officeOutcome h c .held) (r .same) ∙ sym (held-then freshHeld (r .calls) c);
     }
 
-by-calls-after : {u : Unit} (command : Command) → ByCalls u → ByCalls (after u command)
-unfolding after outcomeOf
-by-calls-after Nothing r = r
-by-calls-after Unknown r = r
-by-calls-after Load r = r
-by-calls-after Export r = r
-by-calls-after (Alter e) r = by-calls-call (Lists.Alter e) r
-by-calls-after Show r = r
-by-calls-after (Points c d e s) r = r
-by-calls-after Page r = r
-by-calls-after (Why i j) r = r
+called-after : {h : Held} (command : Command) → Called h → Called (besideHeard h (after (h .unit) command))
+unfolding after outcomeOf officeOutcome
+called-after Nothing r = r
+called-after Unknown r = r
+called-after Load r = r
+called-after Export r = r
+called-after (Alter e) r = called-call (Offices.Plan (Lists.Alter e)) r
+called-after Show r = r
+called-after (Points c d e s) r = r
+called-after Page r = r
+called-after (Why i j) r = r
+called-after (Send s) r = r
+called-after Roughness r = r
 
-by-calls-load : {u v : Unit} {path bs : List ℕ} → Loads u path v bs → ByCalls u → ByCalls v
-unfolding outcomeOf
-by-calls-load (read file) r = by-calls-call (Lists.Load file) r
-by-calls-load unopened r = r
-by-calls-load unread r = r
+called-load : {h : Held} {v : Unit} {path bs : List ℕ} → Loads (h .unit) path v bs → Called h → Called (besideHeard h v)
+unfolding outcomeOf officeOutcome
+called-load (read file) r = called-call (Offices.Plan (Lists.Load file)) r
+called-load unopened r = r
+called-load unread r = r
 
-by-calls-export : {u v : Unit} {path bs : List ℕ} → Exports u path v bs → ByCalls u → ByCalls v
-by-calls-export (written buffer e) r = r
-by-calls-export unwritten r = r
+called-export : {h : Held} {v : Unit} {path bs : List ℕ} → Exports (h .unit) path v bs → Called h → Called (besideHeard h v)
+called-export (written buffer e) r = r
+called-export unwritten r = r
 
-pub by-calls-line : {u v : Unit} {line bs : List ℕ} → LineLeads u line v bs → ByCalls u → ByCalls v
-by-calls-line (load e l) r = by-calls-load l r
-by-calls-line (export e x) r = by-calls-export x r
-by-calls-line {line = line} (other l x) r = by-calls-after (commandIn line) r
+called-line : {h k : Held} {line bs : List ℕ} → LineLeads h line k bs → Called h → Called k
+called-line (load e l) r = called-load l r
+called-line (export e x) r = called-export x r
+called-line (send {s = s} e) r = called-call (Offices.Send s) r
+called-line (ask e) r = r
+called-line {line = line} (other l x s a) r = called-after (commandIn line) r
+
+-- ---- an office
+
+pub by-calls-fresh : {o : Office} → Keeps o freshHeld → ByCalls o
+unfolding heldAfter heldFrom
+by-calls-fresh k = record { calls = []; keeps = k }
+
+pub by-calls-line : {o p : Office} {line : List ℕ} → ((h : Held) → Keeps o h → Keeping (Leads h line) p) → ByCalls o → ByCalls p
+by-calls-line led r =
+    let k = led (heldAfter (r .calls)) (r .keeps) in
+    let c = called-line (k .is .leads) record { calls = r .calls; same = refl } in
+    record { calls = c .calls; keeps = rw (c .same) at (k .keeps) }
 
 -- demand 3
-pub sound-at : {u : Unit} → ByCalls u → Sound (u .district) (showOf u)
-sound-at r = rw (r .same) (rw (sym (the-rules (r .calls) .district)) at (one-claim (r .calls) .sound))
+pub sound-at : {o : Office} → ByCalls o → Sound (o .unit .district) (showOf (o .unit))
+sound-at r =
+    let e = every-office (r .calls) in
+    let cs = unitCalls (r .calls) in
+    rw (r .keeps .unit ∙ e .unit) (rw (sym (the-rules cs .district)) at (e .claim .sound))

@@ -6,7 +6,7 @@ use native.Mathlib.Numerals.{add-one}
 use native.Mathlib.Omega.{arith}
 use lib.ListN.{length, take, drop, getD, set, length-append, drop-of-length-le}
 use lib.Seq.{take-all, take-at, take-suc-set, drop-cons, length-take-le}
-use Rattle.rules.specs.declared.Unit.{Unit}
+use Rattle.rules.specs.Offices.{Held}
 use Rattle.panel.specs.Console.{LineLeads}
 use Rattle.panel.specs.Lines.{keptBytes, keeping, Feeds, end, answer, keep}
 
@@ -25,18 +25,22 @@ module _ (buffer : List ℕ) (n b : ℕ) where
 
 -- ---- of the input
 
-pub fed-all : {u : Unit} {line : List ℕ} (bytes : List ℕ) (i : ℕ) → length bytes ≤ i → Feeds u line (drop i bytes) u line
-fed-all bytes i h = rw (drop-of-length-le bytes h) end
+pub fed-all : {h : Held} {line : List ℕ} (bytes : List ℕ) (i : ℕ) → length bytes ≤ i → Feeds h line (drop i bytes) h line
+fed-all bytes i over = rw (drop-of-length-le bytes over) end
 
-module _ (bytes : List ℕ) (i : ℕ) (more : i < length bytes) {u x w : Unit} {line last : List ℕ} where
+module _ (bytes : List ℕ) (i : ℕ) (more : i < length bytes) {h k : Held} {line last : List ℕ} where
   -- a line feed
   pub fed-line :
-      getD bytes i 0 ≡ 10 → {v : Unit} {said front : List ℕ} → LineLeads u line v said → x ≡ v → front ≡ []
-      → Feeds x front (drop (i + 1) bytes) w last → Feeds u line (drop i bytes) w last
-  fed-line e l same none f = rw (drop-cons bytes i 0 more, e) (answer l (rw (same, none, add-one i) at f))
+      getD bytes i 0 ≡ 10 → {v : Held} {said front : List ℕ} → LineLeads h line v said → front ≡ []
+      → Feeds v front (drop (i + 1) bytes) k last → Feeds h line (drop i bytes) k last
+  fed-line e l none f = rw (drop-cons bytes i 0 more, e) (answer l (rw (none, add-one i) at f))
 
   -- any other byte
   pub fed-byte :
-      ¬ (getD bytes i 0 ≡ 10) → {front : List ℕ} → x ≡ u → front ≡ keeping line (getD bytes i 0)
-      → Feeds x front (drop (i + 1) bytes) w last → Feeds u line (drop i bytes) w last
-  fed-byte e same kept f = rw (drop-cons bytes i 0 more) (keep e (rw (same, kept, add-one i) at f))
+      ¬ (getD bytes i 0 ≡ 10) → {front : List ℕ} → front ≡ keeping line (getD bytes i 0)
+      → Feeds h front (drop (i + 1) bytes) k last → Feeds h line (drop i bytes) k last
+  fed-byte e kept f = rw (drop-cons bytes i 0 more) (keep e (rw (kept, add-one i) at f))
+
+-- what the bytes ahead lead to from k, all the bytes lead to from h
+abbrev pub Ahead : Held → List ℕ → List ℕ → List ℕ → List ℕ → Held → Type 0
+Ahead h line bytes front ahead k = (l : Held) (last : List ℕ) → Feeds k front ahead l last → Feeds h line bytes l last

@@ -14,13 +14,19 @@ use Rattle.rules.specs.Calls.{Export, exportRefusal, exported, exportOf}
 use Rattle.rules.specs.File.{encode}
 use Rattle.rules.specs.declared.Answer.{Answer}
 use Rattle.rules.specs.declared.Answer.the-variants.{Accepted}
+use Rattle.rules.specs.declared.Sent.{Sent}
 use Rattle.rules.specs.declared.Unit.{Unit}
 use Rattle.command.proofs.Reading.{path-fits}
 use Rattle.command.specs.Reading.{pathOf, commandIn}
-use Rattle.command.specs.declared.Command as Command
 use Rattle.command.specs.declared.Command.{Command}
-use Rattle.panel.specs.Console.{said, after, Says, LineLeads, other, Puts}
+use Rattle.command.specs.declared.Command.the-variants as Command
+use Rattle.rules.specs.Offices.{Held}
+use Rattle.office.specs.Kept.{Keeps}
+use Rattle.office.specs.declared.Office.{Office}
+use Rattle.panel.specs.Console.{said, after, Says, Puts, besideHeard, LineLeads, other, Beside, Tells, Turns}
+use Rattle.panel.specs.Lines.{Keeping, Leads}
 use Rattle.panel.specs.declared.Said.{Said}
+use Rattle.panel.specs.declared.Turn.{Turn}
 
 -- an export that is accepted has room
 accepted-fits : (size room n : ℕ) → answerOf (unless (leb size room) bufferTooShort 0) size ≡ Accepted n → n ≤ room
@@ -50,11 +56,34 @@ path-short line path most e h = omega (arith, ap length e, path-fits line)
 pub puts : {R : Unit → List ℕ → Type 0} {v : Unit} {bs old new : List ℕ} {r : Said} → Says v bs old new r → R v bs → Puts R old new r
 puts {bs = bs} s h = record { bytes = bs; leads = rw (s .unit) h; put = s .put }
 
-pub puts-as : {R S : Unit → List ℕ → Type 0} {old new : List ℕ} {r : Said} → ((v : Unit) (bs : List ℕ) → R v bs → S v bs) → Puts R old new r → Puts S old new r
-puts-as {r = r} f p = record { bytes = p .bytes; leads = f (r .unit) (p .bytes) (p .leads); put = p .put }
+-- ---- and in an office
 
--- of a line without a file
-pub puts-other :
-    {u : Unit} {command : Command} {line old new : List ℕ} {r : Said} → command ≡ commandIn line → ¬ (command ≡ Command.Load) → ¬ (command ≡ Command.Export)
-    → Says (after u command) (said u command) old new r → Puts (LineLeads u line) old new r
-puts-other e l x s = puts (rw e at s) (other (λ h. l (e ∙ h)) (λ h. x (e ∙ h)))
+pub turns : {R : Held → List ℕ → Type 0} {k : Held} {bs old new : List ℕ} {r : Turn} → Tells k bs old new r → R k bs → Turns R old new r
+turns {k = k} {bs = bs} t l = record { held = k; bytes = bs; leads = l; tells = t }
+
+-- the unit's part put back
+pub turns-beside :
+    {R : Unit → List ℕ → Type 0} {S : Held → List ℕ → Type 0} {o : Office} {h : Held} {s : Said} {old new : List ℕ} {r : Turn}
+    → Keeps o h → Beside o s r → ((v : Unit) (bs : List ℕ) → R v bs → S (besideHeard h v) bs) → Puts R old new s → Turns S old new r
+turns-beside {h = h} {s = s} k b f p =
+    record {
+      held = besideHeard h (s .unit);
+      bytes = p .bytes;
+      leads = f (s .unit) (p .bytes) (p .leads);
+      tells = record { keeps = record { unit = b .unit; window = rw (b .window) (k .window) }; put = rw (b .length) (p .put) };
+    }
+
+-- of a line that is neither for a file nor for the meter
+pub turns-other :
+    {o : Office} {h : Held} {u : Unit} {command : Command} {line old new : List ℕ} {s : Said} {r : Turn}
+    → Keeps o h → Beside o s r → u ≡ h .unit → command ≡ commandIn line
+    → ¬ (command ≡ Command.Load) → ¬ (command ≡ Command.Export)
+    → ((sent : Sent) → ¬ (command ≡ Command.Send sent)) → ¬ (command ≡ Command.Roughness)
+    → Says (after u command) (said u command) old new s → Turns (LineLeads h line) old new r
+turns-other {h = h} {line = line} k b unit e l x m a s =
+    turns-beside {R = λ v bs. LineLeads h line (besideHeard h v) bs} k b
+    (λ v bs leads. leads)
+    (puts (rw (unit, e) at s) (other (λ i. l (e ∙ i)) (λ i. x (e ∙ i)) (λ sent i. m sent (e ∙ i)) (λ i. a (e ∙ i))))
+
+pub turned : {h : Held} {line old new : List ℕ} {r : Turn} → Turns (LineLeads h line) old new r → Keeping (Leads h line) (r .office)
+turned t = record { held = t .held; keeps = t .tells .keeps; is = record { bytes = t .bytes; leads = t .leads } }

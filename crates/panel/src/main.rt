@@ -1,18 +1,23 @@
-// A console over one unit, fresh at its start: each line of standard input is a command, answered on standard output.
+// A console over one office, fresh at its start: each line of standard input is a command, answered on standard output.
 // The end of the input ends it.
 mod files;
 
 ghost use Prim.Native.Nat.{_≤_};
 ghost use mathlib.Core.Path.{_≡_};
 ghost use lib.ListN.{length, take};
-ghost use Rattle.listing.specs.Listing.{done, failed as Listing·failed};
-ghost use Rattle.panel.specs.Console.{longestAnswer, said, after, Says, Loads, Exports, LineLeads, Puts};
-ghost use Rattle.panel.specs.Lines.{keptBytes, ByCalls, Answered, Keeps, Fed};
+ghost use Rattle.listing.specs.Listing.{done, told, failed as Listing·failed};
+ghost use Rattle.rules.specs.Meter.{roughnessOf};
+ghost use Rattle.rules.specs.Offices.{Held, Send, officeOutcome};
+ghost use Rattle.office.specs.Kept.{Keeps};
+ghost use Rattle.panel.specs.Console.{longestAnswer, said, after, Says, Puts, Loads, Exports, Beside, Tells, LineLeads, Turns};
+ghost use Rattle.panel.specs.Lines.{keptBytes, ByCalls, Answered, Grows, Fed};
 use command::Command;
 use libc::STDIN_FILENO;
 use libc::STDOUT_FILENO;
+use office::Office;
 use rules::Answer;
 use rules::Reply;
+use rules::Sent;
 use rules::Unit;
 use rules::records::LONGEST_FILE;
 
@@ -25,7 +30,13 @@ pub struct Said {
     pub length: usize,
 }
 
-// ---- commands without a file
+// The office after some input, and how many bytes an answer has, or a line that has not ended.
+pub struct Turn {
+    pub office: Office,
+    pub length: usize,
+}
+
+// ---- the unit's commands without a file
 
 fn conclude(reply: Reply, out: &mut [u8]) -> Said
     requires { ⌜ longestAnswer ≤ length (now out) ⌝ }
@@ -72,10 +83,12 @@ fn obey(u: Unit, command: Command, out: &mut [u8]) -> Said
         Command::Nothing => silent(u),
         Command::Load => silent(u),
         Command::Export => silent(u),
+        Command::Send(_) => silent(u),
+        Command::Roughness => silent(u),
     }
 }
 
-// ---- commands with a file
+// ---- the unit's commands with a file
 
 fn failed(u: Unit, what: &[u8], path: &[u8], out: &mut [u8]) -> Said
     requires { ⌜ (length (now what) ≤ 13) × (length (now path) ≤ keptBytes) × (longestAnswer ≤ length (now out)) ⌝ }
@@ -122,36 +135,75 @@ fn export(u: Unit, path: &[u8], out: &mut [u8]) -> Said
     }
 }
 
+// ---- the meter's commands
+
+fn send(o: Office, s: Sent, out: &mut [u8]) -> Turn
+    requires { ⌜ longestAnswer ≤ length (now out) ⌝ }
+    ensures { λ r. ⌜ ((h : Held) → Keeps o h → Tells (officeOutcome h (Send s) .held) (done (officeOutcome h (Send s) .answer)) (now (out .entry)) (now (out .exit)) r) ⌝ }
+{
+    let reply = office::send(o, s);
+    let answer = reply.answer;
+    let office = reply.office;
+    let length = listing::put_done(out, answer);
+    Turn { office, length }
+}
+
+fn ask(o: Office, out: &mut [u8]) -> Turn
+    requires { ⌜ longestAnswer ≤ length (now out) ⌝ }
+    ensures { λ r. ⌜ ((h : Held) → Keeps o h → Tells h (told (roughnessOf (h .heard))) (now (out .entry)) (now (out .exit)) r) ⌝ }
+{
+    let w = o.window;
+    Turn {
+        office: o,
+        length: listing::put_roughness(out, meter::roughness(w)),
+    }
+}
+
 // ---- lines
 
-fn respond(u: Unit, line: &[u8], out: &mut [u8]) -> Said
+// The unit that a command leaves, beside the same window.
+fn beside(o: Office, said: Said) -> Turn
+    ensures { λ r. ⌜ Beside o said r ⌝ }
+{
+    let unit = said.unit;
+    let window = o.window;
+    Turn {
+        office: Office { unit, window },
+        length: said.length,
+    }
+}
+
+fn respond(o: Office, line: &[u8], out: &mut [u8]) -> Turn
     requires { ⌜ (length (now line) ≤ keptBytes) × (longestAnswer ≤ length (now out)) ⌝ }
-    ensures { λ r. ⌜ Puts (LineLeads u (now (line .entry))) (now (out .entry)) (now (out .exit)) r ⌝ }
+    ensures { λ r. ⌜ ((h : Held) → Keeps o h → Turns (LineLeads h (now (line .entry))) (now (out .entry)) (now (out .exit)) r) ⌝ }
 {
     let command = command::parse(line);
+    let u = o.unit;
     match command {
-        Command::Load => load(u, command::path(line), out),
-        Command::Export => export(u, command::path(line), out),
-        _ => obey(u, command, out),
+        Command::Load => beside(o, load(u, command::path(line), out)),
+        Command::Export => beside(o, export(u, command::path(line), out)),
+        Command::Send(s) => send(o, s, out),
+        Command::Roughness => ask(o, out),
+        _ => beside(o, obey(u, command, out)),
     }
 }
 
 // The answer to a line goes to standard output.
-fn answer(u: Unit, line: &[u8]) -> Unit
-    requires { ⌜ (length (now line) ≤ keptBytes) × ByCalls u ⌝ }
-    ensures { λ r. ⌜ Answered u (now (line .entry)) r ⌝ }
+fn answer(o: Office, line: &[u8]) -> Office
+    requires { ⌜ (length (now line) ≤ keptBytes) × ByCalls o ⌝ }
+    ensures { λ r. ⌜ Answered o (now (line .entry)) r ⌝ }
 {
     let mut out = [0u8; pages::LONGEST_PAGE];
-    let said = respond(u, line, &mut out);
-    let n = said.length;
+    let turn = respond(o, line, &mut out);
+    let n = turn.length;
     io::write_all(STDOUT_FILENO, &out[..n]);
-    said.unit
+    turn.office
 }
 
 // A byte goes to the line, unless as many are kept as tell that it is too long.
 fn keep(line: &mut [u8], kept: usize, byte: u8) -> usize
     requires { ⌜ (kept ≤ length (now line)) × (length (now line) ≡ keptBytes) ⌝ }
-    ensures { λ r. ⌜ Keeps (take kept (now (line .entry))) byte (now (line .exit)) r ⌝ }
+    ensures { λ r. ⌜ Grows (take kept (now (line .entry))) byte (now (line .exit)) r ⌝ }
 {
     if kept < line.len() {
         line[kept] = byte;
@@ -161,28 +213,28 @@ fn keep(line: &mut [u8], kept: usize, byte: u8) -> usize
 }
 
 // What was read goes to the line, and each line that ends is answered.
-fn feed(u: Unit, line: &mut [u8], kept: usize, bytes: &[u8]) -> Said
-    requires { ⌜ (kept ≤ length (now line)) × (length (now line) ≡ keptBytes) × ByCalls u ⌝ }
-    ensures { λ r. ⌜ Fed u (take kept (now (line .entry))) (now (bytes .entry)) (now (line .exit)) r ⌝ }
+fn feed(o: Office, line: &mut [u8], kept: usize, bytes: &[u8]) -> Turn
+    requires { ⌜ (kept ≤ length (now line)) × (length (now line) ≡ keptBytes) × ByCalls o ⌝ }
+    ensures { λ r. ⌜ Fed o (take kept (now (line .entry))) (now (bytes .entry)) (now (line .exit)) r ⌝ }
 {
-    let mut unit = u;
+    let mut office = o;
     let mut length = kept;
     let mut i = 0;
     while i < bytes.len() {
         if bytes[i] == 10 {
-            let next = answer(unit, &line[..length]);
-            unit = next;
+            let next = answer(office, &line[..length]);
+            office = next;
             length = 0;
         } else {
             length = keep(line, length, bytes[i]);
         }
         i += 1;
     }
-    Said { unit, length }
+    Turn { office, length }
 }
 
 fn main() {
-    let mut unit = unit::fresh();
+    let mut office = office::fresh();
     let mut line = [0u8; KEPT];
     let mut length: usize = 0;
     let mut turns = u64::MAX;
@@ -193,13 +245,13 @@ fn main() {
         if n == 0 {
             break;
         }
-        let said = feed(unit, &mut line, length, &bytes[..n]);
-        let next = said.unit;
-        unit = next;
-        length = said.length;
+        let turn = feed(office, &mut line, length, &bytes[..n]);
+        let next = turn.office;
+        office = next;
+        length = turn.length;
         turns -= 1;
     }
     if length > 0 {
-        answer(unit, &line[..length]);
+        answer(office, &line[..length]);
     }
 }

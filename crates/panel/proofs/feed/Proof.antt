@@ -1,28 +1,28 @@
 -- `panel::feed` meets its contract: what the bytes ahead lead to from here, all the bytes lead to from the start.
 use native.Mathlib.Omega.{arith}
 use Prim.Native.Nat.{ℕ, _-_, _≤_, _<_}
-use mathlib.Core.List.{List}
 use mathlib.Core.Logic.{⊎-elim}
 use mathlib.Core.Path.{_≡_, refl, sym, ap, _∙_}
 use lib.ListN.{length, take, drop, getD}
 use lib.Seq.{length-take-le}
-use Rattle.rules.specs.declared.Unit.{Unit}
-use Rattle.panel.specs.Lines.{ByCalls, keeping, Feeds}
-use Rattle.panel.proofs.Feeds.{fed-all, fed-line, fed-byte}
+use Rattle.rules.specs.Offices.{Held}
+use Rattle.office.specs.Kept.{Keeps}
+use Rattle.panel.specs.Lines.{ByCalls, Keeping, keeping}
+use Rattle.panel.proofs.Feeds.{fed-all, fed-line, fed-byte, Ahead}
 use borrow.Author.Needs.{needs}
 use Rattle.panel.proofs.feed.Statement.{statement}
 use Rattle.panel.proofs.feed.Tie as tie
 
 abbrev Inv-loop : tie.InvT-loop
-Inv-loop line₀ kept bytes unit₀ n₀ i₀ line unit n i =
-    (i ≤ length bytes) × (n ≤ length line) × (length line ≡ length line₀) × ByCalls unit
-    × ((w : Unit) (last : List ℕ) → Feeds unit (take n line) (drop i bytes) w last → Feeds unit₀ (take n₀ line₀) bytes w last)
+Inv-loop line₀ kept bytes office₀ n₀ i₀ line office n i =
+    (i ≤ length bytes) × (n ≤ length line) × (length line ≡ length line₀) × ByCalls office
+    × ((h : Held) → Keeps office₀ h → Keeping (Ahead h (take n₀ line₀) bytes (take n line) (drop i bytes)) office)
 
 abbrev μ-loop : tie.MeasureT-loop
-μ-loop line₀ kept bytes unit₀ n₀ i₀ line unit n i = length bytes - i
+μ-loop line₀ kept bytes office₀ n₀ i₀ line office n i = length bytes - i
 
 loop-holds : tie.Need-loop-holds Inv-loop μ-loop
-loop-holds c = (omega arith, omega (arith, c .before .before .pre .0), refl, c .before .before .pre .2, λ w last f. f)
+loop-holds c = (omega arith, omega (arith, c .before .before .pre .0), refl, c .before .before .pre .2, λ h k. record { held = h; keeps = k; is = λ l last f. f })
 
 slice-reshare-prefix-answer : tie.Need-slice-reshare-prefix-answer Inv-loop μ-loop
 slice-reshare-prefix-answer c = c .before .before .before .loop .inv .1
@@ -49,7 +49,11 @@ loop-again c =
       omega (arith, w .5),
       e ∙ l .inv .2,
       rw (w .4) (a .reached),
-      λ v last f. l .inv .4 v last (fed-line bytes (l .i) more (w .0 .taken) (a .leads) (w .4) (ap (λ (n : ℕ). take n (c .if1 .line)) (w .5)) f),
+      λ h k.
+          let q = l .inv .4 h k in
+          let p = a .led (q .held) (q .keeps) in
+          let none = ap (λ (n : ℕ). take n (c .if1 .line)) (w .5) in
+          record { held = p .held; keeps = rw (w .4) (p .keeps); is = λ v last f. q .is v last (fed-line bytes (l .i) more (w .0 .taken) (p .is .leads) none f) },
     ))
     (λ w.
     let e : length (c .if1 .line) ≡ length (w .3 .last .0) = ap length (w .6) in
@@ -59,7 +63,9 @@ loop-again c =
       omega (arith, w .8, k .within),
       e ∙ w .3 .kept .0 ∙ l .inv .2,
       rw (w .7) (l .inv .3),
-      λ v last f. l .inv .4 v last (fed-byte bytes (l .i) more (w .0 .left) (w .7) front f),
+      λ h k.
+          let q = l .inv .4 h k in
+          record { held = q .held; keeps = rw (w .7) (q .keeps); is = λ v last f. q .is v last (fed-byte bytes (l .i) more (w .0 .left) front f) },
     ))
     (c .if1 .came)
 
@@ -67,7 +73,13 @@ same-length : tie.Need-same-length Inv-loop μ-loop
 same-length c = c .before .loop .inv .2
 
 returns : tie.Need-returns Inv-loop μ-loop
-returns c = let l = c .before .loop in record { within = l .inv .1; feeds = l .inv .4 _ _ (fed-all _ (l .i) (omega arith)); reached = l .inv .3 }
+returns c =
+    let l = c .before .loop in
+    record {
+      within = l .inv .1;
+      fed = λ h k. let q = l .inv .4 h k in record { held = q .held; keeps = q .keeps; is = q .is _ _ (fed-all _ (l .i) (omega arith)) };
+      reached = l .inv .3;
+    }
 
 pub feed-spec : {M : Type 1} → statement M
 feed-spec =

@@ -1,4 +1,4 @@
--- `panel::main` is safe and ends: the number of reads that are left falls, and the unit is always one that calls lead to.
+-- `panel::main` is safe and ends: the number of reads that are left falls, and the office is always one that calls lead to.
 use native.Mathlib.Omega.{arith}
 use Prim.Native.Nat.{_≤_}
 use mathlib.Core.Path.{_≡_, refl, sym, _∙_}
@@ -11,10 +11,10 @@ use Rattle.panel.proofs.main.Statement.{statement}
 use Rattle.panel.proofs.main.Tie as tie
 
 abbrev Inv-loop : tie.InvT-loop
-Inv-loop unit₀ line₀ n₀ turns₀ unit line n turns = (length line ≡ keptBytes) × (n ≤ keptBytes) × ByCalls unit
+Inv-loop office₀ line₀ n₀ turns₀ office line n turns = (length line ≡ keptBytes) × (n ≤ keptBytes) × ByCalls office
 
 abbrev μ-loop : tie.MeasureT-loop
-μ-loop unit₀ line₀ n₀ turns₀ unit line n turns = turns
+μ-loop office₀ line₀ n₀ turns₀ office line n turns = turns
 
 loop-holds : tie.Need-loop-holds Inv-loop μ-loop
 loop-holds c = (refl, omega arith, by-calls-fresh (c .fresh .ensures .0))

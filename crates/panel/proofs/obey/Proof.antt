@@ -42,6 +42,14 @@ returns-9 : tie.Need-returns-9
 unfolding said after
 returns-9 c = rw (c .before .enum-told6 .given .1, c .silent3 .ensures .1) record { unit = c .silent3 .ensures .0; put = record { count = refl; bytes = refl } }
 
+returns-10 : tie.Need-returns-10
+unfolding said after
+returns-10 c = rw (c .before .enum-told7 .given .1, c .silent4 .ensures .1) record { unit = c .silent4 .ensures .0; put = record { count = refl; bytes = refl } }
+
+returns-11 : tie.Need-returns-11
+unfolding said after
+returns-11 c = rw (c .before .enum-told8 .given .1, c .silent5 .ensures .1) record { unit = c .silent5 .ensures .0; put = record { count = refl; bytes = refl } }
+
 pub obey-spec : {M : Type 1} → statement M
 obey-spec =
     tie.close
@@ -70,6 +78,10 @@ obey-spec =
     (λ c. search needs)
     (λ c κs. search needs)
     (λ c. search needs)
+    (λ c κs. search needs)
+    (λ c. search needs)
+    (λ c κs. search needs)
+    (λ c. search needs)
     returns
     (λ c. search needs)
     returns-2
@@ -83,4 +95,6 @@ obey-spec =
     returns-6
     returns-7
     returns-8
-    returns-9)
+    returns-9
+    returns-10
+    returns-11)
