@@ -7,11 +7,10 @@ use lib.Dec.{leb, eqb}
 use lib.ListN.{length, getD, take, drop, replicate}
 use Rattle.base.specs.Bytes.{numberOf}
 use Rattle.base.specs.Choice.{pick}
-use Rattle.rules.specs.Calls.{freshUnit}
 use Rattle.rules.specs.File.{longestFile}
-use Rattle.rules.specs.Lists.{Call, Load, Alter, ExportTo, PageTo, Show, AskWhy, Outcome, outcomeOf}
+use Rattle.rules.specs.Lists.{Load, Alter, ExportTo, PageTo, Show, AskWhy}
+use Rattle.rules.specs.Offices.{freshHeld, OfficeCall, Plan, Send, AskRoughness, OfficeOutcome, officeOutcome}
 use Rattle.pages.specs.Printed.{longestPage}
-use Rattle.rules.specs.declared.Reply.{Reply}
 use Rattle.rules.specs.declared.Answer.{Answer}
 use Rattle.rules.specs.declared.Answer.the-variants.{Accepted}
 use Rattle.command.specs.Reading.{at, numbered}
@@ -35,43 +34,41 @@ unfoldable pub bodyIn : List ℕ → ℕ
 bodyIn bs = pick (eqb (kindIn bs) 0) (numberAt 1 bs) 0
 
 -- the call of a command, with its first number and its file; an export and a page go into so many zeros, at most as many as the
--- longest file and the longest page have; what is no call of the unit is a show
-unfoldable pub callOf : Command → ℕ → List ℕ → Call
-callOf Command.Load n file = Load file
-callOf Command.Export n file = ExportTo (replicate (min n longestFile) 0)
-callOf (Command.Alter e) n file = Alter e
-callOf Command.Show n file = Show
-callOf (Command.Points code degree extent seal) n file = Show
-callOf Command.Page n file = PageTo (replicate (min n longestPage) 0)
-callOf (Command.Why i j) n file = AskWhy i j
-callOf Command.Nothing n file = Show
-callOf Command.Unknown n file = Show
+-- longest file and the longest page have; what is no call of the office is a show
+unfoldable pub callOf : Command → ℕ → List ℕ → OfficeCall
+callOf Command.Load n file = Plan (Load file)
+callOf Command.Export n file = Plan (ExportTo (replicate (min n longestFile) 0))
+callOf (Command.Alter e) n file = Plan (Alter e)
+callOf Command.Show n file = Plan Show
+callOf (Command.Points code degree extent seal) n file = Plan Show
+callOf Command.Page n file = Plan (PageTo (replicate (min n longestPage) 0))
+callOf (Command.Why i j) n file = Plan (AskWhy i j)
+callOf (Command.Send s) n file = Send s
+callOf Command.Roughness n file = AskRoughness
+callOf Command.Nothing n file = Plan Show
+callOf Command.Unknown n file = Plan Show
 
-abbrev pub callIn : List ℕ → Call
+abbrev pub callIn : List ℕ → OfficeCall
 callIn bs = callOf (commandIn bs) (numberAt 1 bs) (take (bodyIn bs) (drop 13 bs))
 
 -- the calls that stand whole at the front of the bytes, at most n
-unfoldable pub callsIn : ℕ → List ℕ → List Call
+unfoldable pub callsIn : ℕ → List ℕ → List OfficeCall
 callsIn zero bs = []
 callsIn (suc n) bs = pick (leb (13 + bodyIn bs) (length bs)) (callIn bs ∷ callsIn n (drop (13 + bodyIn bs) bs)) []
 
-unfoldable pub callsOf : List ℕ → List Call
+unfoldable pub callsOf : List ℕ → List OfficeCall
 callsOf bs = callsIn (length bs) bs
 
 -- ---- what the calls answer
 
--- answer and unit of a call's outcome
-abbrev pub replyOf : Outcome → Reply
-replyOf o = record { answer = o .answer; unit = o .unit }
+-- one call after another: the outcome of the last
+unfoldable pub outcomeFrom : OfficeOutcome → List OfficeCall → OfficeOutcome
+outcomeFrom o [] = o
+outcomeFrom o (c ∷ cs) = outcomeFrom (officeOutcome (o .held) c) cs
 
--- one call after another: the answer of the last, and the unit after it
-unfoldable pub replyFrom : Reply → List Call → Reply
-replyFrom r [] = r
-replyFrom r (c ∷ cs) = replyFrom (replyOf (outcomeOf (r .unit) c)) cs
+-- from the fresh office; accepted where there is no call
+unfoldable pub outcomeAfter : List OfficeCall → OfficeOutcome
+outcomeAfter cs = outcomeFrom (record { answer = Accepted 0; held = freshHeld; bytes = [] }) cs
 
--- from the fresh unit; accepted where there is no call
-unfoldable pub replyAfter : List Call → Reply
-replyAfter cs = replyFrom (record { answer = Accepted 0; unit = freshUnit }) cs
-
-unfoldable pub lastAnswer : List Call → Answer
-lastAnswer cs = replyAfter cs .answer
+unfoldable pub lastAnswer : List OfficeCall → Answer
+lastAnswer cs = outcomeAfter cs .answer

@@ -1,4 +1,4 @@
-// A list of calls, read from bytes and made one after the other from the fresh unit (specs/Script.antt).
+// A list of calls, read from bytes and made one after the other from the fresh office (specs/Script.antt).
 ghost use mathlib.Core.Path.{_≡_};
 ghost use Prim.Native.Nat.{_+_, _≤_, min};
 ghost use lib.ListN.{length, replicate};
@@ -7,12 +7,20 @@ ghost use Rattle.rules.specs.Answers.{answerOf};
 ghost use Rattle.rules.specs.Calls.{barRefusal, showOf, exportOf, pageOf};
 ghost use Rattle.rules.specs.Demands.{Sound};
 ghost use Rattle.rules.specs.File.{longestFile};
-ghost use Rattle.rules.specs.Lists.{outcomeOf, districtAfter, unitAfter};
-ghost use Rattle.script.specs.Script.{commandIn, bodyIn, callOf, callsOf, replyOf, lastAnswer};
+ghost use Rattle.rules.specs.Lists.{Call, outcomeOf, districtAfter};
+ghost use Rattle.rules.specs.Meter.{Heard, roughnessRefusal};
+ghost use Rattle.rules.specs.Offices.{Plan, heldAfter, unitCalls};
+ghost use Rattle.meter.specs.Window.{Holds};
+ghost use Rattle.office.specs.Kept.{Keeps, Makes};
+ghost use Rattle.script.specs.Script.{commandIn, bodyIn, callOf, callsOf, lastAnswer};
 use command::Command;
+use meter::Window;
+use office::Office;
+use office::OfficeReply;
 use pages::LONGEST_PAGE;
 use rules::Answer;
 use rules::Reply;
+use rules::Roughness;
 use rules::Unit;
 use rules::Why;
 use rules::records::LONGEST_FILE;
@@ -74,9 +82,20 @@ fn asked(u: Unit, segment: usize, strategy: usize) -> Answer
     }
 }
 
-// One call: its answer, and the unit after it.
+// What the question for roughness answers, points and marker left out.
+fn rough(w: Window) -> Answer
+    ensures { λ r. ⌜ ((h : Heard) → Holds w h → r ≡ answerOf (roughnessRefusal h) 0) ⌝ }
+{
+    let roughness = meter::roughness(w);
+    match roughness {
+        Roughness::Points(_, _) => Answer::Accepted(0),
+        Roughness::Refused(n) => Answer::Refused(n),
+    }
+}
+
+// One call of the unit: its answer, and the unit after it.
 fn make(u: Unit, command: Command, n: usize, bytes: &[u8]) -> Reply
-    ensures { λ r. ⌜ r ≡ replyOf (outcomeOf u (callOf command n (now (bytes .entry)))) ⌝ }
+    ensures { λ r. ⌜ ((c : Call) → callOf command n (now (bytes .entry)) ≡ Plan c → (r .answer ≡ outcomeOf u c .answer) × (r .unit ≡ outcomeOf u c .unit)) ⌝ }
 {
     match command {
         Command::Load => unit::load(u, bytes),
@@ -100,15 +119,29 @@ fn make(u: Unit, command: Command, n: usize, bytes: &[u8]) -> Reply
     }
 }
 
-// What the last of the calls that the bytes stand for answers, and the unit after them, from the fresh one.
-pub fn run(script: &[u8]) -> Reply
-    ensures after { λ r. ⌜ r .unit ≡ unitAfter (callsOf (now (script .entry))) ⌝ }
-    ensures last { λ r. ⌜ r .answer ≡ lastAnswer (callsOf (now (script .entry))) ⌝ }
-    ensures claim { λ r. ⌜ Sound (districtAfter (callsOf (now (script .entry)))) (showOf (r .unit)) ⌝ }
+// One call of the office: its answer, and the office after it.
+fn turn(o: Office, command: Command, n: usize, bytes: &[u8]) -> OfficeReply
+    ensures { λ r. ⌜ Makes o (callOf command n (now (bytes .entry))) r ⌝ }
 {
-    let mut last = Reply {
+    match command {
+        Command::Send(s) => office::send(o, s),
+        Command::Roughness => OfficeReply {
+            answer: rough(o.window),
+            office: o,
+        },
+        _ => office::planned(o, make(o.unit, command, n, bytes)),
+    }
+}
+
+// What the last of the calls that the bytes stand for answers, and the office after them, from the fresh one.
+pub fn run(script: &[u8]) -> OfficeReply
+    ensures after { λ r. ⌜ Keeps (r .office) (heldAfter (callsOf (now (script .entry)))) ⌝ }
+    ensures last { λ r. ⌜ r .answer ≡ lastAnswer (callsOf (now (script .entry))) ⌝ }
+    ensures claim { λ r. ⌜ Sound (districtAfter (unitCalls (callsOf (now (script .entry))))) (showOf (r .office .unit)) ⌝ }
+{
+    let mut last = OfficeReply {
         answer: Answer::Accepted(0),
-        unit: unit::fresh(),
+        office: office::fresh(),
     };
     let mut at = 0;
     let mut left = script.len();
@@ -121,9 +154,9 @@ pub fn run(script: &[u8]) -> Reply
         if rest.len() - 13 < n {
             return last;
         }
-        let u = last.unit;
+        let o = last.office;
         let first = file::bytes::number(rest, 1, 4);
-        last = make(u, read(rest), first, &rest[13..13 + n]);
+        last = turn(o, read(rest), first, &rest[13..13 + n]);
         at = at + 13 + n;
         left = left - 1;
     }

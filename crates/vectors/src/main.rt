@@ -15,7 +15,7 @@ fn answer(script: &[u8], out: &mut [u8]) -> usize
 {
     let last = script::run(script);
     let answer = last.answer;
-    let u = last.unit;
+    let u = last.office.unit;
     listing::put_planned(out, answer, u)
 }
 

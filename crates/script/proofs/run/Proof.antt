@@ -1,38 +1,46 @@
 -- `script::run` meets its contract.
 use Prim.Native.Nat.{_≤_}
-use mathlib.Core.Path.{_≡_, refl, sym, _∙_}
+use mathlib.Core.Path.{_≡_, refl}
+use mathlib.Core.List.{[]}
 use borrow.Author.Needs.{needs}
 use native.Mathlib.Omega.{arith}
-use lib.ListN.{length, drop}
-use Rattle.script.specs.Script.{callsIn, callsOf, replyFrom, replyAfter}
-use Rattle.script.proofs.Turns.{stops, turned, met}
+use lib.ListN.{length}
+use Rattle.rules.specs.Offices.{freshHeld}
+use Rattle.rules.specs.declared.Answer.the-variants.{Accepted}
+use Rattle.script.specs.Script.{callsIn, callsOf, outcomeAfter}
+use Rattle.script.proofs.Turns.{Stands, ends, stops, turned}
 use Rattle.script.proofs.run.Statement.{statement}
 use Rattle.script.proofs.run.Tie as tie
 
 abbrev Inv-loop : tie.InvT-loop
-Inv-loop script last₀ at₀ left₀ last at left =
-    (at ≤ length script) × (replyFrom last (callsIn left (drop at script)) ≡ replyAfter (callsOf script))
+Inv-loop script last₀ at₀ left₀ last at left = (at ≤ length script) × Stands script at left last
 
 abbrev μ-loop : tie.MeasureT-loop
 μ-loop script last₀ at₀ left₀ last at left = left
 
 loop-holds : tie.Need-loop-holds Inv-loop μ-loop
-unfolding replyAfter callsOf
-loop-holds c = (search needs, rw (c .fresh .ensures .0))
+unfolding outcomeAfter callsOf
+loop-holds c = (
+  search needs,
+  record {
+    outcome = record { answer = Accepted 0; held = freshHeld; bytes = [] };
+    answer = refl;
+    office = c .fresh .ensures .0;
+    rest = refl;
+  },
+)
 
 returns : tie.Need-returns Inv-loop μ-loop
 returns c =
     let l = c .before .before .before .loop in
     let s = c .before .before .before .before .before .before .args .script .now in
-    let e : l .last ≡ replyAfter (callsOf s) = sym (stops s (l .at) _ refl (l .last) (l .left) (omega arith)) ∙ l .inv .1 in
-    met s (l .last) e
+    ends s (l .at) (l .left) (l .last) (stops s (l .at) _ refl (l .left) (omega arith)) (l .inv .1)
 
 returns-2 : tie.Need-returns-2 Inv-loop μ-loop
 returns-2 c =
     let l = c .before .before .before .before .before .loop in
     let s = c .before .before .before .before .before .before .before .before .args .script .now in
-    let e : l .last ≡ replyAfter (callsOf s) = sym (stops s (l .at) _ (c .before .body-of .ensures) (l .last) (l .left) (omega arith)) ∙ l .inv .1 in
-    met s (l .last) e
+    ends s (l .at) (l .left) (l .last) (stops s (l .at) _ (c .before .body-of .ensures) (l .left) (omega arith)) (l .inv .1)
 
 loop-again : tie.Need-loop-again Inv-loop μ-loop
 loop-again c =
@@ -42,18 +50,17 @@ loop-again c =
     let l = again .before .loop in
     let s = again .before .before .before .before .args .script .now in (
       omega arith,
-      turned s (l .at) _ (body .body-of .ensures) (l .last) (c .make .result) (l .left) _ _ (again .loop-test .taken) (omega arith) (read .before .number .ensures) (read .read .ensures) (c .make .ensures)
-          ∙ l .inv .1,
+      turned s (l .at) _ (body .body-of .ensures) (l .last) (c .turn .result) (l .left) _ _ (again .loop-test .taken) (omega arith)
+          (read .before .number .ensures) (read .read .ensures) (l .inv .1) (c .turn .ensures),
     )
 
 returns-3 : tie.Need-returns-3 Inv-loop μ-loop
-unfolding callsIn replyFrom
+unfolding callsIn
 returns-3 c =
     let l = c .before .loop in
     let s = c .before .before .before .before .args .script .now in
     let z : l .left ≡ 0 = omega arith in
-    let e : l .last ≡ replyAfter (callsOf s) = rw z at (l .inv .1) in
-    met s (l .last) e
+    ends s (l .at) (l .left) (l .last) (rw z) (l .inv .1)
 
 pub run-spec : {M : Type 1} → statement M
 run-spec =

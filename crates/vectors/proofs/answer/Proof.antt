@@ -8,7 +8,7 @@ returns : tie.Need-returns
 unfolding worked
 returns c =
     let run = c .before .before .before .before .before .run in
-    rw (← run .ensures .0, ← run .ensures .1 .0) (c .before .before .put-planned .ensures)
+    rw (← run .ensures .0 .unit, ← run .ensures .1 .0) (c .before .before .put-planned .ensures)
 
 pub answer-spec : {M : Type 1} → statement M
 answer-spec = tie.close (tie.spec (λ c κs. search needs) (λ c κs. search needs) (λ c. search needs) returns)
