@@ -6,6 +6,7 @@ use Rattle.rules.specs.Meter.{heardFrom, heardAfter}
 use Rattle.rules.specs.Offices.{Held, freshHeld, OfficeCall, Plan, Send, AskRoughness, officeOutcome, heldFrom, heldAfter, unitCalls, sentIn}
 use Rattle.rules.specs.Demands.{EveryOffice}
 use Rattle.demands.proofs.OneClaim.{one-claim}
+use Rattle.demands.proofs.TheRules.{the-rules}
 
 -- from what is held in any state
 parts-from :
@@ -20,8 +21,11 @@ parts-from o (AskRoughness ∷ cs) = parts-from o cs
 pub every-office : EveryOffice
 unfolding heldAfter unitAfter heardAfter freshHeld
 every-office cs =
+    let claim = one-claim (unitCalls cs) in
     record {
       unit = rw (parts-from freshHeld cs);
       heard = rw (parts-from freshHeld cs);
-      claim = one-claim (unitCalls cs);
+      rules = the-rules (unitCalls cs);
+      sound = rw (parts-from freshHeld cs) (claim .sound);
+      shown = rw (parts-from freshHeld cs) (claim .shown);
     }

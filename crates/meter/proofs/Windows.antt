@@ -9,11 +9,11 @@ use lib.ListN.{length, getD, set, take, replicate, length-set, length-take, leng
 use lib.Seq.{getD-set-same, getD-set-other}
 use lib.Ieee.{Float, nan, binary32, add, sub, ofBits}
 use Rattle.rules.specs.Answers.{noReading, answerOf, accepting}
-use Rattle.rules.specs.Meter.{Heard, isReading, readingOf, sentRefusal, heardWith, hearing, sumOf}
+use Rattle.rules.specs.Meter.{Heard, isReading, readingOf, sentRefusal, heardWith, hearing, heardFrom, sumOf}
 use Rattle.rules.specs.declared.Answer.the-variants.{Accepted, Refused}
 use Rattle.rules.specs.declared.Sent.{Sent}
 use Rattle.rules.specs.declared.Sent.the-variants.{Index, Marker, Lost}
-use Rattle.meter.specs.Window.{recordOf, bitsOf, 0f, Counts, Holds, Follows}
+use Rattle.meter.specs.Window.{recordOf, bitsOf, 0f, Counts, Holds, Follows, After}
 use Rattle.meter.specs.declared.Record.the-variants.{Index as Record·Index, Marker as Record·Marker, Lost as Record·Lost}
 use Rattle.meter.specs.declared.Window.{Window}
 use Rattle.meter.specs.declared.Stepped.{Stepped}
@@ -114,18 +114,45 @@ module _ (w v : Window) (x : Float) (h : Heard) (bits : ℕ) (H : Holds w h) (c 
 
 -- ---- a step
 
-pub taken-follows : (w v : Window) (s : Sent) → sentRefusal s ≡ 0 → ((h : Heard) → Holds w h → Holds v (heardWith h s))
-    → Follows w s (record { answer = Accepted 0; window = v })
+-- a reading that is taken
+pub taken-follows : (w v : Window) (bits : ℕ) → sentRefusal (Index bits) ≡ 0 → ((h : Heard) → Holds w h → Holds v (heardWith h (Index bits)))
+    → Follows w (Index bits) (record { answer = Accepted 0; window = v })
 unfolding hearing answerOf accepting
-taken-follows w v s e f = record { answer = rw e; refused = λ n g. absurd (let z = sym e ∙ g in omega arith); holds = λ h H. rw e (f h H) }
+taken-follows w v bits e f =
+    record {
+      answer = rw e;
+      refused = λ n g. absurd (let z = sym e ∙ g in omega arith);
+      lost = λ g. absurd (let z : _≡_ {A = ℕ} 0 1 = cc in omega arith);
+      marked = λ b g. absurd (let z : _≡_ {A = ℕ} 0 1 = cc in omega arith);
+      holds = λ h H. rw e (f h H);
+    }
 
 pub refused-follows : (w : Window) (bits : ℕ) → isReading bits ≡ false → Follows w (Index bits) (record { answer = Refused noReading; window = w })
 unfolding sentRefusal hearing answerOf accepting
-refused-follows w bits e = record { answer = rw e; refused = λ n g. refl; holds = λ h H. rw e H }
+refused-follows w bits e =
+    record {
+      answer = rw e;
+      refused = λ n g. refl;
+      lost = λ g. refl;
+      marked = λ b g. absurd (let z : _≡_ {A = ℕ} 0 1 = cc in omega arith);
+      holds = λ h H. rw e H;
+    }
 
 pub index-refusal : (bits : ℕ) → isReading bits ≡ true → sentRefusal (Index bits) ≡ 0
 unfolding sentRefusal
 index-refusal bits e = rw e
+
+marked-follows : (w v : Window) (bits : ℕ) → ((h : Heard) → Holds v (heardWith h (Marker bits)))
+    → Follows w (Marker bits) (record { answer = Accepted 0; window = v })
+unfolding sentRefusal hearing heardWith answerOf accepting
+marked-follows w v bits f =
+    record {
+      answer = refl;
+      refused = λ n g. absurd (omega (arith, g));
+      lost = λ g. absurd (let z : _≡_ {A = ℕ} 0 1 = cc in omega arith);
+      marked = λ b g. let z : bits ≡ b = cc in rw (← z) (f (record { readings = []; marker = 0 }));
+      holds = λ h H. f h;
+    }
 
 -- which record is meant by each case
 pub index-of : (w : Window) (x : Float) (r : Stepped) → ((bits : ℕ) → x ≡ ofBits binary32 bits → Follows w (Index bits) r)
@@ -139,11 +166,25 @@ pub marker-of : (w v : Window) (x : Float) (bits : ℕ) → ((h : Heard) → x �
     → (s : Sent) → Record·Marker x ≡ recordOf s → bits ≡ bitsOf s → Follows w s (record { answer = Accepted 0; window = v })
 unfolding recordOf bitsOf sentRefusal
 marker-of w v x bits f (Index b) e g = absurd (let z : _≡_ {A = ℕ} 0 1 = cc in omega arith)
-marker-of w v x bits f (Marker b) e g = rw (← g) (taken-follows w v (Marker bits) refl (λ h H. f h (cc)))
+marker-of w v x bits f (Marker b) e g = rw (← g) (marked-follows w v bits (λ h. f h (cc)))
 marker-of w v x bits f Lost e g = absurd (let z : _≡_ {A = ℕ} 0 1 = cc in omega arith)
 
 pub lost-of : (w : Window) (s : Sent) → Record·Lost ≡ recordOf s → Follows w s (record { answer = Accepted 0; window = w })
-unfolding recordOf heardWith sentRefusal
+unfolding recordOf heardWith sentRefusal hearing answerOf accepting
 lost-of w (Index b) e = absurd (let z : _≡_ {A = ℕ} 0 1 = cc in omega arith)
 lost-of w (Marker b) e = absurd (let z : _≡_ {A = ℕ} 0 1 = cc in omega arith)
-lost-of w Lost e = taken-follows w w Lost refl (λ h H. H)
+lost-of w Lost e =
+    record {
+      answer = refl;
+      refused = λ n g. refl;
+      lost = λ g. refl;
+      marked = λ b g. absurd (let z : _≡_ {A = ℕ} 0 1 = cc in omega arith);
+      holds = λ h H. H;
+    }
+
+-- ---- a run of records
+
+pub run-holds : (w : Window) (h : Heard) (ss : List Sent) → Holds w h → After w ss (λ v. Holds v (heardFrom h ss))
+unfolding After heardFrom
+run-holds w h [] H = H
+run-holds w h (s ∷ ss) H = λ r f. run-holds (r .window) (hearing h s) ss (f .holds h H)

@@ -2,6 +2,7 @@
 use Prim.Native.Nat.{ℕ, suc, _+_, _-_, _%_, _<_}
 use mathlib.Core.Bool.{false}
 use mathlib.Core.Path.{_≡_}
+use mathlib.Core.List.{List, [], _∷_}
 use lib.ListN.{length, getD}
 use lib.IntN.{pos}
 use lib.Ieee.{Float, nan, fin, binary32, ofBits, eq}
@@ -58,6 +59,15 @@ pub record Holds (w : Window) (h : Heard) : Type 0 where
 
 pub record Follows (w : Window) (s : Sent) (r : Stepped) : Type 0 where
   pub answer : r .answer ≡ answerOf (sentRefusal s) 0
-  -- where it is refused, the very window is left, whatever it holds
+  -- where it is refused or lost, the very window is left, whatever it holds;
   pub refused : (n : ℕ) → sentRefusal s ≡ suc n → r .window ≡ w
+  pub lost : s ≡ Lost → r .window ≡ w
+  -- after a marker no reading is held, whatever the window held before;
+  pub marked : (bits : ℕ) → s ≡ Marker bits → Holds (r .window) (record { readings = []; marker = bits })
+  -- and a window that holds what was heard holds this record too
   pub holds : (h : Heard) → Holds w h → Holds (r .window) (hearing h s)
+
+-- whatever windows a run of records goes through, the last one is as P says
+unfoldable pub After : Window → List Sent → (Window → Type 0) → Type 0
+After w [] P = P w
+After w (s ∷ ss) P = (r : Stepped) → Follows w s r → After (r .window) ss P

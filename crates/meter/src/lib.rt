@@ -6,10 +6,10 @@ ghost use Prim.Native.Nat.{ℕ, _+_, _*_, _/_, _≤_, _<_, min};
 ghost use lib.ListN.{length};
 ghost use lib.Ieee.{binary32, ofBits};
 ghost use lib.Ieee.Exact.{HasValue};
-ghost use Rattle.rules.specs.Meter.{Heard, silence, isReading, readingOf, heardWith, sumOf, maysPoints, roughnessOf};
+ghost use Rattle.rules.specs.Meter.{Heard, silence, isReading, readingOf, heardWith, heardAfter, sumOf, maysPoints, roughnessOf};
 ghost use Rattle.rules.specs.declared.Sent.{Sent};
 ghost use Rattle.rules.specs.declared.Sent.the-variants.{Index as Sent·Index, Marker as Sent·Marker};
-ghost use Rattle.meter.specs.Window.{recordOf, bitsOf, Counts, Holds, Follows, unsigned};
+ghost use Rattle.meter.specs.Window.{recordOf, bitsOf, Counts, Holds, Follows, After, unsigned};
 use rules::Answer;
 use rules::Roughness;
 use rules::Sent;
@@ -25,8 +25,8 @@ pub enum Record {
 
 pub const WINDOW_SIZE: usize = 64;
 
-// The last readings since the last marker, in a ring whose unused places are 0; `next`, by its remainder, is the place
-// of the next one. The marker's bits are kept beside its float, which forgets them where it is no number.
+// The last readings since the last marker, in a ring whose unused places are 0; `next`, modulo 64, is the place
+// of the next one. The marker's bits are kept beside its float, which forgets a NaN's.
 pub struct Window {
     pub readings: [f32; WINDOW_SIZE],
     pub sum: f32,
@@ -42,7 +42,7 @@ pub struct Stepped {
     pub window: Window,
 }
 
-// The float of 32 bits. `f32::from_bits` is not to be asked for what is no number.
+// The float of 32 bits. `f32::from_bits` is undefined at a NaN.
 fn float_of(bits: u32) -> f32
     ensures { λ r. ⌜ r ≡ ofBits binary32 bits ⌝ }
 {
@@ -181,7 +181,8 @@ fn step(w: Window, sent: Record, bits: u32) -> Stepped
 
 // The window before the first record.
 pub fn start() -> Window
-    ensures { λ r. ⌜ Holds r silence ⌝ }
+    ensures start { λ r. ⌜ Holds r silence ⌝ }
+    ensures run { λ r. ⌜ ((ss : List Sent) → After r ss (λ v. Holds v (heardAfter ss))) ⌝ }
 {
     empty(0.0, 0)
 }
@@ -192,8 +193,7 @@ pub fn hear(w: Window, s: Sent) -> Stepped
     step(w, record_of(s), bits_of(s))
 }
 
-// The points for a sum in 1024ths and a count. A mean is at or above so many tenths where ten times the sum is at or
-// above that many times 1024 for each reading.
+// The points for a sum in 1024ths and a count. The mean reaches t tenths where 10 × sum is at least t × 1024 × count.
 fn mays_points(sum: u64, count: u64) -> usize
     requires { ⌜ (sum < 524288) × (count ≤ 64) ⌝ }
     ensures { λ r. ⌜ ((window : List ℕ) → sum ≡ sumOf window → count ≡ length window → r ≡ maysPoints window) ⌝ }

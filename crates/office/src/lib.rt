@@ -1,12 +1,15 @@
-// An office: its planning unit and, beside it, its roughness meter. Neither sees what is asked of the other.
+// An office: its planning unit and, beside it, the window of its roughness meter. Neither sees what is asked of the
+// other.
 ghost use mathlib.Core.Path.{_≡_};
-ghost use Rattle.rules.specs.Demands.{EveryOfficeAnswer, EveryOffice};
+ghost use Rattle.rules.specs.Demands.{EveryOfficeAnswer, EveryRoughness, EveryOffice};
 ghost use Rattle.rules.specs.Lists.{Call, outcomeOf};
-ghost use Rattle.rules.specs.Offices.{freshHeld, Plan, Send};
-ghost use Rattle.office.specs.Kept.{Keeps, Makes};
+ghost use Rattle.rules.specs.Meter.{roughnessOf};
+ghost use Rattle.rules.specs.Offices.{Held, freshHeld, Plan};
+ghost use Rattle.office.specs.Kept.{Keeps, Makes, Sends};
 use meter::Window;
 use rules::Answer;
 use rules::Reply;
+use rules::Roughness;
 use rules::Sent;
 use rules::Unit;
 
@@ -25,6 +28,7 @@ pub struct OfficeReply {
 pub fn fresh() -> Office
     ensures start { λ r. ⌜ Keeps r freshHeld ⌝ }
     ensures settled { λ _. ⌜ EveryOfficeAnswer ⌝ }
+    ensures points { λ _. ⌜ EveryRoughness ⌝ }
     ensures claim { λ _. ⌜ EveryOffice ⌝ }
 {
     let unit = unit::fresh();
@@ -34,7 +38,7 @@ pub fn fresh() -> Office
 
 // A record of the meter is handed on.
 pub fn send(o: Office, s: Sent) -> OfficeReply
-    ensures { λ r. ⌜ Makes o (Send s) r ⌝ }
+    ensures { λ r. ⌜ Sends o s r ⌝ }
 {
     let unit = o.unit;
     let stepped = meter::hear(o.window, s);
@@ -48,7 +52,8 @@ pub fn send(o: Office, s: Sent) -> OfficeReply
 
 // What a call of the unit replied, put back.
 pub fn planned(o: Office, reply: Reply) -> OfficeReply
-    ensures { λ r. ⌜ ((c : Call) → reply .answer ≡ outcomeOf (o .unit) c .answer → reply .unit ≡ outcomeOf (o .unit) c .unit → Makes o (Plan c) r) ⌝ }
+    ensures back { λ r. ⌜ r ≡ record { answer = reply .answer; office = record { unit = reply .unit; window = o .window } } ⌝ }
+    ensures made { λ r. ⌜ ((c : Call) → reply .answer ≡ outcomeOf (o .unit) c .answer → reply .unit ≡ outcomeOf (o .unit) c .unit → Makes o (Plan c) r) ⌝ }
 {
     let window = o.window;
     let answer = reply.answer;
@@ -57,4 +62,11 @@ pub fn planned(o: Office, reply: Reply) -> OfficeReply
         answer,
         office: Office { unit, window },
     }
+}
+
+// The points for the window, and the last marker's bits.
+pub fn roughness(o: Office) -> Roughness
+    ensures { λ r. ⌜ ((h : Held) → Keeps o h → r ≡ roughnessOf (h .heard)) ⌝ }
+{
+    meter::roughness(o.window)
 }

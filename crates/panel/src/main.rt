@@ -152,10 +152,9 @@ fn ask(o: Office, out: &mut [u8]) -> Turn
     requires { ⌜ longestAnswer ≤ length (now out) ⌝ }
     ensures { λ r. ⌜ ((h : Held) → Keeps o h → Tells h (told (roughnessOf (h .heard))) (now (out .entry)) (now (out .exit)) r) ⌝ }
 {
-    let w = o.window;
     Turn {
         office: o,
-        length: listing::put_roughness(out, meter::roughness(w)),
+        length: listing::put_roughness(out, office::roughness(o)),
     }
 }
 

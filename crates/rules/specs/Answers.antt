@@ -45,7 +45,7 @@ noSuchPoints = 10
 abbrev pub noRoomForPage : ℕ
 noRoomForPage = 11
 
--- of request 6: a value that is no reading, and points where there is none
+-- of request 6: a value that is no reading, and points where there is no reading
 abbrev pub noReading : ℕ
 noReading = 12
 

@@ -17,15 +17,16 @@ use Rattle.rules.specs.Table.{Table, tableOf}
 use Rattle.rules.specs.Phases.{strategyAt, within, pickUp, change}
 use Rattle.rules.specs.Page.{pageLength}
 use Rattle.rules.specs.Plan.{reduced, filled, improved, programmeOf}
-use Rattle.rules.specs.Answers.{noSuchPoints}
+use Rattle.rules.specs.Answers.{noSuchPoints, windowEmpty}
 use Rattle.rules.specs.Survey.{blockOf, pointsOf, surveyRefusal, surveyOf}
 use Rattle.rules.specs.Calls.{loadRefusal, loadOf, Export, exportOf, showOf}
 use Rattle.rules.specs.Lists.{Call, Load, Alter, ExportTo, PageTo, Show, AskWhy, refusalOf, altered, lentTo, outcomeOf, districtAfter, unitAfter}
-use Rattle.rules.specs.Meter.{heardAfter}
+use Rattle.rules.specs.Meter.{Heard, heardWith, heardAfter, windowOf, maysPoints, roughnessRefusal, roughnessOf}
 use Rattle.rules.specs.Offices.{Held, OfficeCall, Plan, Send, AskRoughness, officeRefusal, lentBytes, officeOutcome, heldAfter, unitCalls, sentIn}
 use Rattle.rules.specs.declared.Programme.{Programme}
 use Rattle.rules.specs.declared.Unit.{Unit}
 use Rattle.rules.specs.declared.Answer.the-variants.{Accepted, Refused}
+use Rattle.rules.specs.declared.Roughness.the-variants.{Points, Refused as Roughness·Refused}
 
 -- ---- Demand 1, every answer is settled
 
@@ -150,22 +151,39 @@ officeReturned o (Plan c) = returned (o .unit .district) c
 officeReturned o (Send s) = 0
 officeReturned o AskRoughness = 0
 
+-- what is held after a call that is not refused
+unfoldable pub officeAltered : Held → OfficeCall → Held
+officeAltered o (Plan c) = record { unit = outcomeOf (o .unit) c .unit; heard = o .heard }
+officeAltered o (Send s) = record { unit = o .unit; heard = heardWith (o .heard) s }
+officeAltered o AskRoughness = o
+
 -- demand 1, of what is held in any state and any call
 pub record OfficeSettled (o : Held) (c : OfficeCall) : Type 0 where
   pub accepted : officeRefusal o c ≡ 0 → officeOutcome o c .answer ≡ Accepted (officeReturned o c)
+  pub held : officeRefusal o c ≡ 0 → officeOutcome o c .held ≡ officeAltered o c
   pub refused :
       (n : ℕ) → officeRefusal o c ≡ suc n
       → officeOutcome o c ≡ record { answer = Refused (suc n); held = o; bytes = lentBytes c }
 
--- after any list of calls the unit is the one that its own calls lead to, so that demands 2 and 3 hold of it, and the meter has heard its own
--- records and nothing else
+-- after any list of calls: the unit is the one that its own calls lead to, by the rules and with the claim of demand 3; and of the meter its
+-- own records were heard, and nothing else
 pub record OfficeClaim (cs : List OfficeCall) : Type 0 where
   pub unit : heldAfter cs .unit ≡ unitAfter (unitCalls cs)
   pub heard : heldAfter cs .heard ≡ heardAfter (sentIn cs)
-  pub claim : Claim (unitCalls cs)
+  pub rules : ByTheRules (unitCalls cs)
+  pub sound : Sound (districtAfter (unitCalls cs)) (showOf (heldAfter cs .unit))
+  pub shown : Shown (districtAfter (unitCalls cs)) (showOf (heldAfter cs .unit))
+
+-- the points themselves, as survey points: the Mays rows' with the marker's bits, or the refusal
+pub record RoughnessSettled (h : Heard) : Type 0 where
+  pub accepted : roughnessRefusal h ≡ 0 → roughnessOf h ≡ Points (maysPoints (windowOf h)) (h .marker)
+  pub refused : ¬ (roughnessRefusal h ≡ 0) → roughnessOf h ≡ Roughness·Refused windowEmpty
 
 abbrev pub EveryOfficeAnswer : Type 0
 EveryOfficeAnswer = (o : Held) (c : OfficeCall) → OfficeSettled o c
+
+abbrev pub EveryRoughness : Type 0
+EveryRoughness = (h : Heard) → RoughnessSettled h
 
 abbrev pub EveryOffice : Type 0
 EveryOffice = (cs : List OfficeCall) → OfficeClaim cs

@@ -22,8 +22,8 @@ exponentOf bits = bits / 2 ^ 23 % 256
 abbrev pub fractionOf : ℕ → ℕ
 fractionOf bits = bits % 2 ^ 23
 
--- the value without its sign, as a multiple of 2 ^ −150. Exponent 0 is for what is too small for a leading 1; with exponent 255, which is for
--- the infinite and for what is no number, it comes out above every reading
+-- the value without its sign, as a multiple of 2 ^ −150. Exponent 0 is for what is too small for a leading 1; with exponent 255, which
+-- infinity and NaN have, it comes out above every reading
 unfoldable pub sizeOf : ℕ → ℕ
 sizeOf bits = pick (eqb (exponentOf bits) 0) (2 * fractionOf bits) ((2 ^ 23 + fractionOf bits) * 2 ^ exponentOf bits)
 
@@ -42,7 +42,7 @@ readingOf bits = sizeOf bits / part1024
 
 -- ---- the records, one after another
 
--- the readings since the last marker or the start, the last one first; and that marker's bits, 0 before the first
+-- what was read after the latest marker, or from the start, newest first; and that marker's bits, 0 before any
 pub record Heard : Type 0 where
   pub readings : List ℕ
   pub marker : ℕ

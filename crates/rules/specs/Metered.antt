@@ -23,9 +23,9 @@ accepted =
 
 abbrev refused : List ℕ
 refused =
-    -- 8, a hair below 8, 1/2048, 1 and 1/2048, −1/1024, the least above 0 and below it
+    -- 8, a hair below 8, 1/2048, 1 and 1/2048, −1/1024, the least above 0, and its negative
     1090519040 ∷ 1090519039 ∷ 973078528 ∷ 1065357312 ∷ 3128950784 ∷ 1 ∷ 2147483649
-    -- infinite, minus infinite, no number with three payloads, the greatest of all
+    -- infinity, minus infinity, NaN with three payloads, the greatest number
     ∷ 2139095040 ∷ 4286578688 ∷ 2143289344 ∷ 2139095041 ∷ 4290847557 ∷ 2139095039
     ∷ []
 
@@ -52,7 +52,8 @@ pointsAfter sent = told (roughnessOf (heardAfter sent))
 abbrev indexes : List ℕ → List Sent
 indexes bits = map (λ b. Index b) bits
 
--- one reading one 1024th below each threshold and at or above it; the last are of five, whose mean is the threshold itself
+-- one reading: the least at or above each threshold, then the one before it. Then five whose mean is the threshold, and five with one 1024th
+-- less (3.5 is itself a reading)
 abbrev levels : List (List Sent)
 levels =
     indexes (1083598848 ∷ []) ∷ indexes (1083596800 ∷ [])
@@ -89,10 +90,11 @@ runs =
     ∷ full
     ∷ (full ++ indexes (replicate 51 1083598848))
     ∷ (full ++ indexes (replicate 52 1083598848))
-    -- the greatest of all once, and 63 and 64 of 2,764 behind it
+    -- the greatest reading once, and 63 and 64 of 2,764 after it; with 63 it is still among the last 64 readings, though not among the last 64 records
     ∷ (Index 1090516992 ∷ indexes (replicate 63 1076674560))
     ∷ (Index 1090516992 ∷ indexes (replicate 64 1076674560))
-    -- a marker's bits stay until the next one, whatever they are; what is refused or lost between two readings leaves the window
+    ∷ (Index 1090516992 ∷ (indexes (replicate 40 1076674560) ++ Lost ∷ Index 2143289344 ∷ indexes (replicate 23 1076674560)))
+    -- a marker's bits stay until the next one, whatever they are; what is refused or lost leaves the window
     ∷ (Marker 4290847557 ∷ Index 1083598848 ∷ Lost ∷ Index 2143289344 ∷ [])
     ∷ (Marker 7 ∷ Index 1083598848 ∷ Marker 2147483648 ∷ Index 1076674560 ∷ [])
     ∷ []
@@ -101,7 +103,7 @@ pub window-slides :
     map pointsAfter runs
     ≡ (13 ∷ []) ∷ (13 ∷ []) ∷ (13 ∷ [])
     ∷ (5 ∷ 0 ∷ []) ∷ (5 ∷ 0 ∷ []) ∷ (0 ∷ 0 ∷ [])
-    ∷ (40 ∷ 0 ∷ []) ∷ (50 ∷ 0 ∷ [])
+    ∷ (40 ∷ 0 ∷ []) ∷ (50 ∷ 0 ∷ []) ∷ (40 ∷ 0 ∷ [])
     ∷ (0 ∷ 4290847557 ∷ []) ∷ (50 ∷ 2147483648 ∷ [])
     ∷ []
 unfolding sizeOf isReading readingOf silence sentRefusal heardWith hearing heardFrom heardAfter accepting sumOf meanReaches maysPoints roughnessRefusal pointsUnless roughnessOf

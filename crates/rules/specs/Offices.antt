@@ -1,4 +1,5 @@
--- Document 02, request 6: an office has a planning unit and, beside it, a roughness meter. The list of all its calls.
+-- Document 02, request 6: beside the planning unit stands the window of a roughness meter. Both together are an office, as request 10 calls it.
+-- The list of all its calls.
 use Prim.Native.Nat.{ℕ}
 use mathlib.Core.List.{List, [], _∷_}
 use Rattle.rules.specs.Answers.{answerOf}
@@ -9,7 +10,7 @@ use Rattle.rules.specs.declared.Unit.{Unit}
 use Rattle.rules.specs.declared.Sent.{Sent}
 use Rattle.rules.specs.declared.Answer.{Answer}
 
--- what an office holds: its unit, and what was heard of its meter
+-- what an office holds: its unit, and what was heard from the van
 pub record Held : Type 0 where
   pub unit : Unit
   pub heard : Heard

@@ -68,14 +68,14 @@ pub enum Why {
     Refused(usize),
 }
 
-// What the survey van sends: an index reading or a mile marker, with the 32 bits of its float, or that a sample was lost.
+// A record from the survey van: an index or a mile marker, with the 32 bits of its float, or a lost sample.
 pub enum Sent {
     Index(u32),
     Marker(u32),
     Lost,
 }
 
-// What the question for roughness returns: the points and the bits of the last marker, or the number of a refusal.
+// What the call for roughness points returns: the points and the bits of the last marker, or the number of a refusal.
 pub enum Roughness {
     Points(usize, u32),
     Refused(usize),

@@ -24,7 +24,7 @@ pub const NO_SUCH_POINTS: usize = 10;
 // Of document 02's request 2.
 pub const NO_ROOM_FOR_PAGE: usize = 11;
 
-// Of request 6: a value that is no reading, and points where there is none.
+// Of request 6: a value that is no reading, and points where there is no reading.
 pub const NO_READING: usize = 12;
 
 pub const WINDOW_EMPTY: usize = 13;

@@ -8,13 +8,11 @@ ghost use Rattle.rules.specs.Calls.{barRefusal, showOf, exportOf, pageOf};
 ghost use Rattle.rules.specs.Demands.{Sound};
 ghost use Rattle.rules.specs.File.{longestFile};
 ghost use Rattle.rules.specs.Lists.{Call, outcomeOf, districtAfter};
-ghost use Rattle.rules.specs.Meter.{Heard, roughnessRefusal};
-ghost use Rattle.rules.specs.Offices.{Plan, heldAfter, unitCalls};
-ghost use Rattle.meter.specs.Window.{Holds};
+ghost use Rattle.rules.specs.Meter.{roughnessRefusal};
+ghost use Rattle.rules.specs.Offices.{Held, Plan, heldAfter, unitCalls};
 ghost use Rattle.office.specs.Kept.{Keeps, Makes};
 ghost use Rattle.script.specs.Script.{commandIn, bodyIn, callOf, callsOf, lastAnswer};
 use command::Command;
-use meter::Window;
 use office::Office;
 use office::OfficeReply;
 use pages::LONGEST_PAGE;
@@ -82,11 +80,11 @@ fn asked(u: Unit, segment: usize, strategy: usize) -> Answer
     }
 }
 
-// What the question for roughness answers, points and marker left out.
-fn rough(w: Window) -> Answer
-    ensures { λ r. ⌜ ((h : Heard) → Holds w h → r ≡ answerOf (roughnessRefusal h) 0) ⌝ }
+// What the call for roughness points answers, points and marker left out.
+fn rough(o: Office) -> Answer
+    ensures { λ r. ⌜ ((h : Held) → Keeps o h → r ≡ answerOf (roughnessRefusal (h .heard)) 0) ⌝ }
 {
-    let roughness = meter::roughness(w);
+    let roughness = office::roughness(o);
     match roughness {
         Roughness::Points(_, _) => Answer::Accepted(0),
         Roughness::Refused(n) => Answer::Refused(n),
@@ -126,7 +124,7 @@ fn turn(o: Office, command: Command, n: usize, bytes: &[u8]) -> OfficeReply
     match command {
         Command::Send(s) => office::send(o, s),
         Command::Roughness => OfficeReply {
-            answer: rough(o.window),
+            answer: rough(o),
             office: o,
         },
         _ => office::planned(o, make(o.unit, command, n, bytes)),

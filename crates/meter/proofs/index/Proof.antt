@@ -12,7 +12,7 @@ returns c =
     λ bits e.
     let t = sym (c .before .before .before .is-reading .ensures bits e) ∙ c .before .before .if1 .taken in
     let k = reading-kept x bits e t in
-    taken-follows _ _ _ (index-refusal bits t) (λ h H. c .put .ensures h bits H (rw (c .before .plain .ensures) (k .0)) (k .1))
+    taken-follows _ _ bits (index-refusal bits t) (λ h H. c .put .ensures h bits H (rw (c .before .plain .ensures) (k .0)) (k .1))
 
 returns-2 : tie.Need-returns-2
 returns-2 c = λ bits e. refused-follows _ bits (sym (c .before .is-reading .ensures bits e) ∙ c .if1 .left)

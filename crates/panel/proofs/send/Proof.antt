@@ -7,7 +7,7 @@ use Rattle.panel.proofs.send.Tie as tie
 
 returns : tie.Need-returns
 returns c =
-    λ h k. let r = c .before .before .before .before .before .send .ensures h k in
+    λ h k. let r = c .before .before .before .before .before .send .ensures .makes h k in
     record { keeps = r .office; put = rw (r .answer) at (c .before .before .put-done .ensures) }
 
 pub send-spec : {M : Type 1} → statement M

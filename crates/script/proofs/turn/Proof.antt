@@ -12,12 +12,12 @@ use Rattle.script.proofs.turn.Tie as tie
 
 returns : tie.Need-returns
 unfolding callOf
-returns c = rw (c .before .before .command .given .1) (c .send .ensures)
+returns c = rw (c .before .before .command .given .1) (c .send .ensures .makes)
 
 returns-2 : tie.Need-returns-2
 unfolding callOf officeOutcome
 returns-2 c =
-    rw (c .before .enum-told .given .1) (λ h k. record { answer = c .rough .ensures (h .heard) (k .window); office = k })
+    rw (c .before .enum-told .given .1) (λ h k. record { answer = c .rough .ensures h k; office = k })
 
 -- the places of the other commands among all
 abbrev others : List ℕ
@@ -29,7 +29,7 @@ returns-3 c =
     let a = c .before .before .before .before .args in
     plan-else (λ (x : OfficeCall). Makes (a .o) x (c .planned .result)) (a .command) (a .n) (a .bytes .now)
     (λ s e. miss others 9 tt (rw e at keys)) (λ e. miss others 10 tt (rw e at keys))
-    (λ d e. let made = c .before .make .ensures d e in c .planned .ensures d (made .0) (made .1))
+    (λ d e. let made = c .before .make .ensures d e in c .planned .ensures .1 d (made .0) (made .1))
 
 pub turn-spec : {M : Type 1} → statement M
 turn-spec =
