@@ -7,10 +7,9 @@ use Rattle.rules.specs.Demands.{Sound}
 use Rattle.rules.specs.Lists as Lists
 use Rattle.rules.specs.Lists.{outcomeOf}
 use Rattle.rules.specs.Offices as Offices
-use Rattle.rules.specs.Offices.{Held, freshHeld, OfficeCall, officeOutcome, heldFrom, heldAfter, unitCalls}
+use Rattle.rules.specs.Offices.{Held, freshHeld, OfficeCall, officeOutcome, heldFrom, heldAfter}
 use Rattle.rules.specs.declared.Unit.{Unit}
 use Rattle.demands.proofs.EveryOffice.{every-office}
-use Rattle.demands.proofs.TheRules.{the-rules}
 use Rattle.office.specs.Kept.{Keeps}
 use Rattle.office.specs.declared.Office.{Office}
 use Rattle.command.specs.Reading.{commandIn}
@@ -85,5 +84,4 @@ by-calls-line led r =
 pub sound-at : {o : Office} → ByCalls o → Sound (o .unit .district) (showOf (o .unit))
 sound-at r =
     let e = every-office (r .calls) in
-    let cs = unitCalls (r .calls) in
-    rw (r .keeps .unit ∙ e .unit) (rw (sym (the-rules cs .district)) at (e .claim .sound))
+    rw (r .keeps .unit) (rw (sym (ap (λ (u : Unit). u .district) (e .unit) ∙ e .rules .district)) at (e .sound))

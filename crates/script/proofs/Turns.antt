@@ -68,7 +68,7 @@ ends s at left r none stands =
     let e : stands .outcome ≡ outcomeAfter (callsOf s) = rw none at (stands .rest) in
     let k : Keeps (r .office) (heldAfter (callsOf s)) = rw (e, held-after (callsOf s)) at (stands .office) in
     let all = every-office (callsOf s) in
-    (k, (stands .answer ∙ ap (λ (o : OfficeOutcome). o .answer) e, rw (k .unit ∙ all .unit) (all .claim .sound)))
+    (k, (stands .answer ∙ ap (λ (o : OfficeOutcome). o .answer) e, rw (k .unit) (all .sound)))
 
 -- ---- the same in the loop's terms: the part of the bytes that is left, and what was read of it
 

@@ -7,7 +7,7 @@ returns : tie.Need-returns
 returns c =
     λ h k. record {
       keeps = k;
-      put = rw (c .before .before .roughness .ensures h k) at (c .before .put-roughness .ensures);
+      put = rw (c .before .before .before .roughness .ensures h k) at (c .before .before .put-roughness .ensures);
     }
 
 pub ask-spec : {M : Type 1} → statement M
