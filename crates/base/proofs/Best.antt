@@ -66,6 +66,23 @@ module _ (p : ℕ → Bool) (better : ℕ → ℕ → Bool) where
       go earlier true pn false e0 false = omega (arith, eqb-false (best n p better) 0 e0)
       go earlier false pn y e0 z = up-to h (λ q. absurd (true≢false (sym e ∙ ap p q ∙ pn))) earlier
 
+-- two searches in which the same numbers pass and compare alike
+pub best-cong :
+    (n : ℕ) (p q : ℕ → Bool) (f g : ℕ → ℕ → Bool) → ((k : ℕ) → 1 ≤ k → k ≤ n → p k ≡ q k)
+    → ((a b : ℕ) → 1 ≤ a → a ≤ n → 1 ≤ b → b ≤ n → p a ≡ true → p b ≡ true → f a b ≡ g a b) → best n p f ≡ best n q g
+unfolding best betterOf
+best-cong zero p q f g same alike = refl
+best-cong (suc n) p q f g same alike =
+    let earlier : best n p f ≡ best n q g =
+    best-cong n p q f g (λ k l h. same k l (omega arith)) (λ a b la ha lb hb. alike a b la (omega arith) lb (omega arith)) in
+    rw (← earlier, ← same (suc n) (omega arith) (omega arith))
+    (best-ind p f (λ b. betterOf p f b (suc n) ≡ betterOf p g b (suc n)) n refl
+    (λ b l h e. go b (p (suc n)) refl (λ e'. alike (suc n) b (omega arith) (omega arith) l (omega arith) e' e)))
+  where
+    go : (b : ℕ) (x : Bool) → p (suc n) ≡ x → (p (suc n) ≡ true → f (suc n) b ≡ g (suc n) b) → betterOf p f b (suc n) ≡ betterOf p g b (suc n)
+    go b true e h = rw (h e)
+    go b false e h = rw e
+
 -- ---- the best by a number f: it passes where there is one, and none that passes has a greater number
 
 module _ (p : ℕ → Bool) (f : ℕ → ℕ) where

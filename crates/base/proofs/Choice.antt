@@ -74,6 +74,11 @@ pub pick-all {ℓ} : {A : Type ℓ} (P : A → Type 0) (t : Bool) (a b : A) → 
 pick-all P true a b h k = h
 pick-all P false a b h k = k
 
+-- of the first it need hold only where the test does
+pub pick-by {ℓ} : {A : Type ℓ} (P : A → Type 0) (t : Bool) (a b : A) → (t ≡ true → P a) → P b → P (pick t a b)
+pick-by P true a b h k = h refl
+pick-by P false a b h k = k
+
 -- what a test says that is made of two
 pub and-both : (s t : Bool) → (s && t) ≡ true → (s ≡ true) × (t ≡ true)
 and-both true t e = (refl, e)

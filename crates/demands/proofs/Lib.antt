@@ -9,3 +9,5 @@ pub mod RatingsOnScale
 pub mod EveryPage
 pub mod EveryReason
 pub mod OneHolds
+pub mod GoodBudget
+pub mod NoneGreater

@@ -105,7 +105,8 @@ module _ (t : Table) (c : List ℕ) where
 -- ---- no programme has a greater total than that of the best candidates, which bounds the changes
 
 module _ (t : Table) (few : t .segments ≤ mostSegments) (nothing : (i : ℕ) → 1 ≤ i → i ≤ t .segments → t .benefit i 0 ≡ 0) where
-  top-most : (i j : ℕ) → 1 ≤ i → i ≤ t .segments → j ≤ t .strategies → t .benefit i j ≤ t .benefit i (topCandidate t i)
+  -- the best candidate of a segment has the greatest benefit there
+  pub top-most : (i j : ℕ) → 1 ≤ i → i ≤ t .segments → j ≤ t .strategies → t .benefit i j ≤ t .benefit i (topCandidate t i)
   unfolding topCandidate isCandidate greater
   top-most i zero l h s = omega (arith, nothing i l h)
   top-most i (suc j) l h s = go (ltb 0 (t .benefit i (suc j))) refl

@@ -1,6 +1,6 @@
 -- What a pick-up of phase 2 does: a segment with nothing gets a candidate, the total rises, and every limit holds.
 use Prim.Native.Nat.{ℕ, zero, suc, _≤_, _<_}
-use mathlib.Core.Path.{_≡_, refl, subst}
+use mathlib.Core.Path.{_≡_, refl, ap, subst, _∙_}
 use mathlib.Core.Bool.{true}
 use mathlib.Core.List.{List}
 use mathlib.Core.Logic.{inr}
@@ -15,8 +15,8 @@ use Rattle.base.proofs.Choice.{and-both, pick-all}
 use Rattle.base.proofs.Sums.{sum-bound}
 use Rattle.base.proofs.Best.{best-le, best-passes}
 use Rattle.rules.specs.Table.{Table}
-use Rattle.rules.specs.Phases.{strategyAt, give, isCandidate, greater, within, fitting, offer, offerBenefit, vacant, greaterOffer, bestOffer, pickedUp, pickUp}
-use Rattle.laws.proofs.Give.{sum-give}
+use Rattle.rules.specs.Phases.{strategyAt, give, isCandidate, greater, chosenBenefit, total, within, fitting, offer, offerBenefit, vacant, greaterOffer, bestOffer, pickedUp, pickUp}
+use Rattle.laws.proofs.Give.{sum-give, total-give}
 use Rattle.laws.proofs.Gives.{Gives, give-gives}
 
 module _ (t : Table) where
@@ -71,6 +71,20 @@ module _ (t : Table) where
   pub pick-up-gives : (c e : List ℕ) → pickUp t c ≡ some e → Gives t c e
   pick-up-gives c = picked (Gives t c) c (λ i j f. give-gives t c i j (f .some-segment) (f .segment) (inr (f .some-strategy, f .strategy, f .candidate)))
 
+  -- c has a place for each segment
+  abbrev pub Room : List ℕ → Type 0
+  Room c = t .segments ≤ length c
+
+  pub pick-up-rises :
+      ((i : ℕ) → 1 ≤ i → i ≤ t .segments → t .benefit i 0 ≡ 0) → (c e : List ℕ) → pickUp t c ≡ some e → Room c → total t c < total t e
+  unfolding chosenBenefit
+  pick-up-rises nothing c e found room = picked (λ e. total t c < total t e) c rises e found
+    where
+      rises : (i j : ℕ) → Fitting c i j → total t c < total t (give c i j)
+      rises i j f =
+          let old : chosenBenefit t c i ≡ 0 = ap (t .benefit i) (f .vacant) ∙ nothing i (f .some-segment) (f .segment) in
+          omega (arith, total-give t c i j (f .some-segment) (f .segment) room, f .candidate)
+
   -- ---- each segment is picked up at most once
 
   abbrev nothingAt : ℕ → ℕ → ℕ
@@ -83,10 +97,6 @@ module _ (t : Table) where
   pub vacancies-le : (c : List ℕ) → vacancies c ≤ t .segments
   vacancies-le c =
       omega (arith, sum-bound (t .segments) 1 (λ i. nothingAt i (strategyAt c i)) (λ i l h. pick-all (λ n. n ≤ 1) (eqb (strategyAt c i) 0) 1 0 (omega arith) (omega arith)))
-
-  -- c has a place for each segment
-  abbrev pub Room : List ℕ → Type 0
-  Room c = t .segments ≤ length c
 
   pub pick-up-falls : (c e : List ℕ) → pickUp t c ≡ some e → Room c → vacancies e < vacancies c
   pick-up-falls c e found room = picked (λ e. vacancies e < vacancies c) c fewer e found

@@ -18,3 +18,6 @@ pub mod Lines
 pub mod Columns
 pub mod Reasons
 pub mod LastReason
+pub mod Prices
+pub mod BestCandidates
+pub mod GoodBudget

@@ -9,14 +9,18 @@ use Rattle.rules.specs.Plan.{reduced, filled, improved}
 use Rattle.rules.specs.Demands.{Finished}
 use Rattle.laws.specs.Tables.{FitAlone, OfCandidates}
 use Rattle.laws.proofs.Gives.{PastNothing, gives-candidates, candidates-numbers, gives-past}
+use Rattle.laws.proofs.PickUps.{Room}
 use Rattle.theorems.proofs.Phase1.{phase1-allowed, phase1-within, phase1-few, phase1-past}
-use Rattle.theorems.proofs.Phase2.{phase2-gives, phase2-ends, phase2-within}
+use Rattle.theorems.proofs.Phase2.{phase2-gives, phase2-ends, phase2-within, phase2-rises}
 use Rattle.theorems.proofs.Phase3.{phase3-gives, phase3-ends, phase3-within, phase3-few}
 
 module _ (t : Table) (fit : FitAlone t) where
   reduced-candidates : OfCandidates t (reduced t .last)
   unfolding reduced
   reduced-candidates = phase1-allowed t fit
+
+  reduced-room : Room t (reduced t .last)
+  reduced-room = omega (arith, reduced-candidates .places, fit .segments)
 
   filled-candidates : OfCandidates t (filled t .last)
   unfolding filled
@@ -38,7 +42,7 @@ module _ (t : Table) (fit : FitAlone t) where
   finished =
       record {
         steps = phase1-within t fit;
-        pickups = phase2-ends t (reduced t .last) (omega (arith, reduced-candidates .places, fit .segments));
+        pickups = phase2-ends t (reduced t .last) reduced-room;
         changes = phase3-ends t (filled t .last) fit (candidates-numbers t (filled t .last) filled-candidates);
       }
 
@@ -49,6 +53,11 @@ module _ (t : Table) (fit : FitAlone t) where
   pub few-changes : improved t .count + total t (filled t .last) ≤ total t (improved t .last)
   unfolding improved
   few-changes = phase3-few t (filled t .last) fit (candidates-numbers t (filled t .last) filled-candidates)
+
+  -- phases 2 and 3 do not lower the total
+  pub total-rises : total t (reduced t .last) ≤ total t (improved t .last)
+  unfolding filled
+  total-rises = omega (arith, phase2-rises t (reduced t .last) fit reduced-room, few-changes)
 
   -- places past the segments hold nothing, where the table has no benefit there
   pub improved-past : ((i j : ℕ) → t .segments < i → t .benefit i j ≡ 0) → PastNothing t (improved t .last)

@@ -2,3 +2,4 @@ pub mod Rivals
 pub mod Scale
 pub mod Columns
 pub mod Reasons
+pub mod GoodBudget

@@ -4,6 +4,7 @@ ghost use mathlib.Core.Path.{_≡_};
 ghost use Rattle.rules.specs.Calls.{freshUnit, unitOf, answered, loadOf, alterOf, exportOf, pageOf, showOf, whyOf};
 ghost use Rattle.rules.specs.Demands.{EveryAnswer, EveryPoints, TheRules, EveryFile, OneClaim};
 ghost use Rattle.theorems.specs.Columns.{EveryPage};
+ghost use Rattle.theorems.specs.GoodBudget.{GoodBudget, NoneGreater};
 ghost use Rattle.theorems.specs.Reasons.{EveryReason, OneHolds};
 ghost use Rattle.theorems.specs.Scale.{RatingsOnScale};
 use rules::Answer;
@@ -54,6 +55,8 @@ pub fn fresh() -> Unit
     ensures readable { λ _. ⌜ EveryPage ⌝ }
     ensures reasons { λ _. ⌜ EveryReason ⌝ }
     ensures explained { λ _. ⌜ OneHolds ⌝ }
+    ensures equal { λ _. ⌜ GoodBudget ⌝ }
+    ensures optimal { λ _. ⌜ NoneGreater ⌝ }
 {
     hold(edits::fresh_district())
 }
