@@ -23,3 +23,4 @@ pub mod Refusals
 pub mod Pages
 pub mod Explanations
 pub mod Metered
+pub mod Feasibility

@@ -3,3 +3,4 @@ pub mod Scale
 pub mod Columns
 pub mod Reasons
 pub mod GoodBudget
+pub mod Budgets
