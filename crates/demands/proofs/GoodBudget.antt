@@ -1,4 +1,4 @@
--- Request 7, after any list of calls: where the best candidates of all segments fit the limits together, total and ceiling are equal.
+-- Request 7: where each segment's best candidate can be had at once, total and ceiling are equal, after every list of calls.
 use Rattle.rules.specs.Lists.{districtAfter}
 use Rattle.grammar.proofs.InRanges.{in-ranges}
 use Rattle.theorems.specs.GoodBudget.{GoodBudget}

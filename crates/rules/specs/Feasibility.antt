@@ -1,5 +1,5 @@
 -- Which programmes demand 3 and request 7 of document 02 are about, computed: those of permitted strategies within the limits, be the
--- strategies candidates or not. A promise about programmes of candidates alone would be a weaker one.
+-- strategies candidates or not. A promise about programmes of candidates alone would say less.
 use Prim.Native.Nat.{ℕ}
 use mathlib.Core.Path.{_≡_, refl}
 use mathlib.Core.Bool.{Bool, true, false}
@@ -13,7 +13,8 @@ use Rattle.rules.specs.Demands.{permittedAt, allPermitted, Feasible}
 use Rattle.rules.specs.Writer.{Roads, minus, strategy, nothingDemanded, segment, barring, fileOf}
 use Rattle.rules.specs.Results.{resultOf}
 
--- strategies of benefit above 0, of 0 and below 0, each of which uses the whole limit on both segments; with the fourth on one it is exceeded
+-- strategies of benefit above 0, of 0 and below 0, each of which, given to both segments, uses up the limit; with the fourth on one of them it
+-- is exceeded
 abbrev pub threeBenefits : Roads
 threeBenefits =
     record {

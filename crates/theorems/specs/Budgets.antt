@@ -1,15 +1,20 @@
--- Request 7 of document 02, computed: whether the best candidates fit the limits together, beside total and ceiling. Both were worked elsewhere.
+-- Request 7 of document 02, computed: whether the best candidates fit the limits together, beside total and ceiling. The figures are an
+-- independent program's (reference/); what fits was worked by hand.
+use Prim.Native.Nat.{ℕ}
 use mathlib.Core.Path.{_≡_, refl}
 use mathlib.Core.Bool.{Bool, true, false}
 use mathlib.Core.List.{List, [], _∷_, map}
 use lib.IntN.{pos}
-use Rattle.rules.specs.Rating.{withinLimits}
+use Rattle.rules.specs.Rating.{withinLimits, totalOf}
+use Rattle.rules.specs.Phases.{strategyAt}
+use Rattle.rules.specs.Demands.{permittedAt, allPermitted, Feasible}
 use Rattle.rules.specs.Lists.{Call, Load, Alter, districtAfter}
 use Rattle.rules.specs.declared.Edit.the-variants.{SetLimit}
-use Rattle.rules.specs.Writer.{Roads, strategy, nothingDemanded, segment, fileOf}
+use Rattle.rules.specs.Writer.{Roads, strategy, nothingDemanded, segment, barring, fileOf}
 use Rattle.rules.specs.Results.{planned, shows, resultOf, _⇒_, Agree}
 use Rattle.rules.specs.Marked.{card}
-use Rattle.theorems.specs.GoodBudget.{moreBenefit, bestCandidate}
+use Rattle.rules.specs.declared.Programme.{Programme}
+use Rattle.theorems.specs.GoodBudget.{moreBenefit, bestCandidate, AtCeiling}
 
 -- a limit for one of two segments: total and ceiling are equal, although the best candidates do not fit together
 abbrev pub oneOfTwo : Roads
@@ -30,9 +35,52 @@ equal = refl
 abbrev pub bestFit : List Call → Bool
 bestFit cs = withinLimits (districtAfter cs) (bestCandidate (districtAfter cs))
 
--- M3's limit is just enough, M4's is not
+-- without a segment, and without a candidate, nothing has to fit; M3's limit is just enough, M4's is not
 pub fitting :
-    map bestFit ((Load card ∷ Alter (SetLimit 1 180) ∷ []) ∷ (Load card ∷ Alter (SetLimit 1 179) ∷ []) ∷ (Load (fileOf oneOfTwo) ∷ []) ∷ [])
-    ≡ true ∷ false ∷ false ∷ []
+    map bestFit
+    ([]
+    ∷ (Load card ∷ Alter (SetLimit 1 0) ∷ [])
+    ∷ (Load card ∷ Alter (SetLimit 1 180) ∷ [])
+    ∷ (Load card ∷ Alter (SetLimit 1 179) ∷ [])
+    ∷ (Load (fileOf oneOfTwo) ∷ [])
+    ∷ [])
+    ≡ true ∷ true ∷ true ∷ false ∷ false ∷ []
 unfolding resultOf moreBenefit bestCandidate
 fitting = refl
+
+-- so what is promised of M3 is that its two figures are equal, and no less
+pub in-m3 : (p : Programme) → AtCeiling (districtAfter (Load card ∷ Alter (SetLimit 1 180) ∷ [])) p → p .total ≡ p .ceiling
+unfolding resultOf moreBenefit bestCandidate
+in-m3 p good = good .equal refl
+
+-- strategies of equal benefit, of which the second uses less: the unit stops two changes short of the best programme
+abbrev pub ofEquals : Roads
+ofEquals =
+    record {
+      years = 1;
+      limits = 10 ∷ [];
+      greatest = 20 ∷ [];
+      strategies = strategy (5000 ∷ []) (pos 5) 100 ∷ strategy (3500 ∷ []) (pos 5) 100 ∷ [];
+      pavements = nothingDemanded ∷ [];
+      segments = barring (2 ∷ []) (segment 6 10 (5 ∷ [])) ∷ segment 10 10 (5 ∷ []) ∷ segment 10 10 (5 ∷ []) ∷ [];
+    }
+
+pub below : Agree (planned ofEquals ⇒ shows (0 ∷ 1 ∷ 1 ∷ []) 100_000 100_000 130_000 1 0 0 ∷ [])
+unfolding resultOf
+below = refl
+
+-- the lower of equals do not fit together; the higher ones do
+pub lower : bestFit (Load (fileOf ofEquals) ∷ []) ≡ false
+unfolding resultOf moreBenefit bestCandidate
+lower = refl
+
+abbrev pub higher : ℕ → ℕ
+higher = strategyAt (1 ∷ 2 ∷ 2 ∷ [])
+
+pub feasible : Feasible (districtAfter (Load (fileOf ofEquals) ∷ [])) higher
+unfolding resultOf permittedAt allPermitted
+feasible = record { permitted = refl; within = refl }
+
+pub greater : totalOf (districtAfter (Load (fileOf ofEquals) ∷ [])) higher ≡ pos 130_000
+unfolding resultOf
+greater = refl

@@ -1,4 +1,4 @@
--- What request 7 of document 02 lets an office rely on: limits that leave room for every best candidate make total and ceiling equal, and
+-- What request 7 of document 02 lets an office rely on: limits that leave room for all best candidates at once make total and ceiling equal, and
 -- where the two are equal there is no better programme.
 use Prim.Native.Nat.{ℕ}
 use mathlib.Core.Path.{_≡_}
