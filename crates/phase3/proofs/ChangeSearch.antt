@@ -163,23 +163,28 @@ module _ (t : Table) where
     unfolding firstPair
     pairs-end h = first-none (t .segments) (pairsFrom t c) (λ i l u. h i (omega arith) l)
 
-    pub pair-found : (i k a b : ℕ) → 1 ≤ i → i < k → k ≤ t .segments
-        → ((p : ℕ) → p < i → 1 ≤ p → pairsFrom t c p ≡ none) → ((p : ℕ) → p < k → 1 ≤ p → pairsOf t c i p ≡ none)
+    pub of-found : (i k a b : ℕ) → i < k
         → a < t .strategies + 1 → ((v : ℕ) → v < a → pairsWith t c i k v ≡ none)
         → b < t .strategies + 1 → ((v : ℕ) → v < b → pair t c i k a v ≡ none)
-        → countsTwo t c i k a b ≡ true → firstPair t c ≡ some (give (give c i a) k b)
-    unfolding firstPair pairsFrom pairsOf pairsWith pair
-    pair-found i k a b li ik hk none-i none-k la none-a lb none-b e =
+        → countsTwo t c i k a b ≡ true → pairsOf t c i k ≡ some (give (give c i a) k b)
+    unfolding pairsOf pairsWith pair
+    of-found i k a b ik la none-a lb none-b e =
         let d = give (give c i a) k b in
+        rw (lt-ltb i k ik)
+        (strategy-found (pairsWith t c i k) a d la none-a (strategy-found (pair t c i k a) b d lb none-b (rw e)))
+
+    pub pair-found : (i k : ℕ) (d : List ℕ) → 1 ≤ i → i < k → k ≤ t .segments
+        → ((p : ℕ) → p < i → 1 ≤ p → pairsFrom t c p ≡ none) → ((p : ℕ) → p < k → 1 ≤ p → pairsOf t c i p ≡ none)
+        → pairsOf t c i k ≡ some d → firstPair t c ≡ some d
+    unfolding firstPair pairsFrom
+    pair-found i k d li ik hk none-i none-k e =
         first-found (t .segments) (pairsFrom t c) i d li (omega arith) (λ p lp u. none-i p u lp)
-        (first-found (t .segments) (pairsOf t c i) k d (omega arith) hk (λ p lp u. none-k p u lp)
-        (rw (lt-ltb i k ik)
-        (strategy-found (pairsWith t c i k) a d la none-a (strategy-found (pair t c i k a) b d lb none-b (rw e)))))
+        (first-found (t .segments) (pairsOf t c i) k d (omega arith) hk (λ p lp u. none-k p u lp) e)
 
 -- ---- what cannot rise is passed over
 
 module _ (t : Table) (c : List ℕ) (room : t .segments ≤ length c) (i k : ℕ) (low : 1 ≤ i) (above : i < k) (high : k ≤ t .segments) where
-  low-pair : (a b : ℕ) → t .benefit i a + t .benefit k b ≤ present t c i k → pair t c i k a b ≡ none
+  pub low-pair : (a b : ℕ) → t .benefit i a + t .benefit k b ≤ present t c i k → pair t c i k a b ≡ none
   low-pair a b h = pair-none t c i k a b (low-two t c i a low (omega arith) room k b above high h)
 
   module _ (worthless : (i : ℕ) → t .benefit i 0 ≡ 0) where
@@ -230,16 +235,8 @@ module _ (t : Table) (c : List ℕ) (i k a : ℕ) where
   pub not-more : t .benefit i a + top t k ≤ present t c i k → withMayCount t c i k a ≡ false
   not-more h = rw (le-ltb (present t c i k) (t .benefit i a + top t k) h) (and-false (another t c i a))
 
-  pub more-fits : another t c i a ≡ true → present t c i k < t .benefit i a + top t k → withMayCount t c i k a ≡ within t (give (give c i a) k 0)
-  more-fits e h = rw (e, lt-ltb (present t c i k) (t .benefit i a + top t k) h)
-
-  -- a first strategy that is looked at is another one
-  pub another-of : withMayCount t c i k a ≡ true → another t c i a ≡ true
-  another-of e = go (another t c i a) refl
-    where
-      go : (x : Bool) → another t c i a ≡ x → x ≡ true
-      go true q = refl
-      go false q = sym (not-another q) ∙ e
+  pub not-fits : within t (give (give c i a) k 0) ≡ false → withMayCount t c i k a ≡ false
+  not-fits e = rw (e, and-false (ltb (present t c i k) (t .benefit i a + top t k))) (and-false (another t c i a))
 
 pub top-le : (s : ℕ) {b : List ℕ} → Benefits b → (i : ℕ) → most s (benefitAt b i) ≤ 2 ^ 40
 top-le s {b} g i = most-bound s (2 ^ 40) (benefitAt b i) (λ j l h. let lt = benefit-lt g i j in omega arith)
@@ -335,3 +332,15 @@ module _ {z : Size} {c : List ℕ} {x : Change} {search : Option (List ℕ)} (fo
 
   pub no-turn : isNothing x ≡ true → search ≡ none
   no-turn e = sym (found .is) ∙ nothing-made c x e
+
+-- a pair that is found comes first where those before it are none
+pub found-pair : (t : Table) {z : Size} {c : List ℕ} {x : Change} (i k : ℕ) → 1 ≤ i → i < k → k ≤ t .segments
+    → ((p : ℕ) → p < i → 1 ≤ p → pairsFrom t c p ≡ none) → ((p : ℕ) → p < k → 1 ≤ p → pairsOf t c i p ≡ none)
+    → Found z c x (pairsOf t c i k) → isNothing x ≡ false → Found z c x (firstPair t c)
+found-pair t {z} {c} {x} i k li ik hk none-i none-k found e =
+    record { is = change-made c x e ∙ sym (pair-found t c i k (after c x) li ik hk none-i none-k (turn found e)); inside = found .inside }
+
+pub nothing-is : (x : Change) → isNothing x ≡ true → x ≡ Nothing
+nothing-is Nothing e = refl
+nothing-is (One i a) e = absurd (true≢false (sym e))
+nothing-is (Two i k a b) e = absurd (true≢false (sym e))

@@ -1,20 +1,32 @@
 // Phase 3: changes of one segment or two that raise the total and keep the limits, until none is left.
 ghost use mathlib.Core.Path.{_≡_};
-ghost use Prim.Native.Nat.{ℕ, _-_, _^_, _<_, _≤_};
+ghost use Prim.Native.Nat.{ℕ, _+_, _-_, _^_, _<_, _≤_, min};
 ghost use mathlib.Core.Bool.{true};
 ghost use mathlib.Core.List.{List};
-ghost use lib.ListN.{getD, length};
+ghost use lib.ListN.{getD, set, length};
 ghost use Rattle.base.specs.Over.{most};
 ghost use Rattle.rules.specs.District.{mostSegments, mostStrategies, mostResources};
 ghost use Rattle.rules.specs.Table.{Table};
-ghost use Rattle.rules.specs.Phases.{strategyAt, another, firstSingle, firstPair, change, phase3};
+ghost use Rattle.rules.specs.Phases.{strategyAt, another, firstSingle, pairsOf, firstPair, change, phase3};
 use rules::places::MOST_RESOURCES;
 use rules::places::MOST_SEGMENTS;
+use tables::COLUMNS;
 use tables::Size;
 ghost use Rattle.tables.specs.declared.Size.{Size};
 ghost use Rattle.tables.specs.Arrays.{benefitAt, tables, Benefits, Uses, Limits, Cell, Running};
-ghost use Rattle.tables.specs.Moves.{Budgets};
-ghost use Rattle.phase3.specs.Improve.{after, isNothing, Inside, Found, countsOne, countsTwo, Tops, Compared, present, pairMayRise, withMayCount};
+ghost use Rattle.tables.specs.Moves.{Budgets, Testable, roomFor};
+ghost use Rattle.phase3.specs.Improve.{after, isNothing, Inside, Found, countsOne, countsTwo, Tops, Compared, present, pairMayRise};
+ghost use Rattle.phase3.specs.Memory.{offset, unreached, rowPlaces, mark, excessOf, IsShort, Slacks, Passed, numbers, Holds, Memory, Setting, Searching, Refusal, WithTest, PairTest, holdsStill};
+
+// A row of the memory: its mark, and a number for each resource.
+const ROW: usize = MOST_RESOURCES + 1;
+
+const MEMORY: usize = ROW * (MOST_SEGMENTS * MOST_SEGMENTS);
+
+// Slacks and excesses have this added, since they may be negative; and a number that no slack reaches.
+const OFFSET: u64 = 1 << 48;
+
+const UNREACHED: u64 = 1 << 50;
 
 // A change: none, segment i gets strategy a, or segments i and k get strategies a and b.
 pub enum Change {
@@ -103,12 +115,100 @@ fn both_give_up(
     )
 }
 
-// Strategy a is another for segment i, more than the present with the greatest benefit of segment k, and within the
-// limits where segment k gets nothing.
+// A resource that does not suffice where segment i gets strategy a and segment k strategy b; 0 where all suffice. The
+// resource after the first `asked` ones is asked first.
+fn short_of(
+    resources: usize,
+    uses: &[u64],
+    sums: &[u64],
+    given: &[u64],
+    i: usize,
+    a: usize,
+    k: usize,
+    b: usize,
+    asked: usize,
+) -> usize
+    requires { ⌜ Testable resources (now uses) (now sums) (now given) ⌝ }
+    requires { ⌜ Cell i a × Cell k b ⌝ }
+    ensures { λ r. ⌜ IsShort resources (roomFor (now (uses .entry)) (now (sums .entry)) (now (given .entry)) i a k b) r ⌝ }
+{
+    if asked < resources {
+        if !tables::room_in(uses, sums, given, i, a, k, b, asked + 1) {
+            return asked + 1;
+        }
+    }
+    for r in 0..resources {
+        if !tables::room_in(uses, sums, given, i, a, k, b, r + 1) {
+            return r + 1;
+        }
+    }
+    0
+}
+
+// The smaller of the two.
+fn smaller(a: u64, b: u64) -> u64
+    ensures { λ v. ⌜ v ≡ min a b ⌝ }
+{
+    if a < b { a } else { b }
+}
+
+// The row remembers that resource r refused strategies a and b: its number goes down to their excess.
+fn note(
+    uses: &[u64],
+    limits: &[u64],
+    given: &[u64],
+    i: usize,
+    a: usize,
+    k: usize,
+    b: usize,
+    r: usize,
+    row: &mut [u64],
+)
+    requires { ⌜ Uses (now uses) × Limits (now limits) × (length (now given) ≡ mostResources) × (length (now row) ≡ rowPlaces) ⌝ }
+    requires { ⌜ Cell i a × Cell k b × (1 ≤ r) × (r ≤ mostResources) ⌝ }
+    requires { ⌜ getD (now given) (r - 1) 0 ≤ getD (now limits) (r - 1) 0 + offset ⌝ }
+    ensures { λ _. ⌜ now (row .exit) ≡ set (now (row .entry)) r (min (excessOf (now (uses .entry)) (now (limits .entry)) (now (given .entry)) i a k b r) (getD (now (row .entry)) r 0)) ⌝ }
+{
+    let more = tables::usage(uses, i, a, r) + tables::usage(uses, k, b, r);
+    row[r] = smaller(more + (limits[r - 1] + OFFSET - given[r - 1]), row[r]);
+}
+
+// Whether strategies a and b, for segments i and k, go beyond a limit. The row remembers it, and that resource is asked
+// first next time.
+fn refused(
+    z: Size,
+    uses: &[u64],
+    limits: &[u64],
+    sums: &[u64],
+    given: &[u64],
+    i: usize,
+    a: usize,
+    k: usize,
+    b: usize,
+    row: &mut [u64],
+    asked: &mut usize,
+) -> bool
+    requires { ⌜ Testable (z .resources) (now uses) (now sums) (now given) × Limits (now limits) × (length (now row) ≡ rowPlaces) ⌝ }
+    requires { ⌜ Cell i a × Cell k b ⌝ }
+    requires { ⌜ ((r : ℕ) → 1 ≤ r → r ≤ z .resources → getD (now given) (r - 1) 0 ≤ getD (now limits) (r - 1) 0 + offset) ⌝ }
+    ensures { λ v. ⌜ ((p c : List ℕ) → Setting z p (now (uses .entry)) (now (limits .entry)) c (now (sums .entry)) (now (given .entry)) i k → Refusal (tables z p (now (uses .entry)) (now (limits .entry))) c i k a b (now (row .entry)) (now (row .exit)) v) ⌝ }
+{
+    let short = short_of(z.resources, uses, sums, given, i, a, k, b, *asked);
+    if short == 0 {
+        return false;
+    }
+    *asked = short - 1;
+    note(uses, limits, given, i, a, k, b, short, row);
+    true
+}
+
+// A pair with strategy a for segment i may count: it is another one, more than the present with the greatest benefit of
+// segment k, and within the limits where segment k gets nothing.
 fn with_may_count(
     z: Size,
     benefits: &[u64],
     uses: &[u64],
+    limits: &[u64],
     choice: &[usize],
     sums: &[u64],
     tops: &[u64],
@@ -116,10 +216,14 @@ fn with_may_count(
     i: usize,
     k: usize,
     a: usize,
+    row: &mut [u64],
+    asked: &mut usize,
 ) -> bool
-    requires { ⌜ Benefits (now benefits) × Running z (now uses) (now choice) (now sums) × Tops z (now benefits) (now tops) × (length (now given) ≡ mostResources) ⌝ }
-    requires { ⌜ (1 ≤ i) × (i < k) × (k ≤ z .segments) × (a ≤ z .strategies) ⌝ }
-    ensures { λ ok. ⌜ ((l : List ℕ) → Budgets (z .resources) (now (uses .entry)) l i (strategyAt (now (choice .entry)) i) k (strategyAt (now (choice .entry)) k) (now (given .entry)) → ok ≡ withMayCount (tables z (now (benefits .entry)) (now (uses .entry)) l) (now (choice .entry)) i k a) ⌝ }
+    ghost { Table }
+    requires { λ t. ⌜ tables z (now benefits) (now uses) (now limits) ≡ t ⌝ }
+    requires { λ _. ⌜ Setting z (now benefits) (now uses) (now limits) (now choice) (now sums) (now given) i k × Tops z (now benefits) (now tops) × (length (now row) ≡ rowPlaces) ⌝ }
+    requires { λ _. ⌜ a ≤ z .strategies ⌝ }
+    ensures { λ t may. ⌜ WithTest t (now (choice .entry)) i k a (now (row .entry)) (now (row .exit)) may ⌝ }
 {
     if !is_another(benefits, choice, i, a) {
         return false;
@@ -127,7 +231,7 @@ fn with_may_count(
     if tables::benefit(benefits, i, a) + tops[k - 1] <= present_benefit(benefits, choice, i, k) {
         return false;
     }
-    tables::room(z.resources, uses, sums, given, i, a, k, 0)
+    !refused(z, uses, limits, sums, given, i, a, k, 0, row, asked)
 }
 
 // Giving segment i strategy a counts. A strategy of greater benefit is another one, and a candidate.
@@ -158,6 +262,7 @@ fn counts_two(
     z: Size,
     benefits: &[u64],
     uses: &[u64],
+    limits: &[u64],
     choice: &[usize],
     sums: &[u64],
     given: &[u64],
@@ -165,10 +270,14 @@ fn counts_two(
     k: usize,
     a: usize,
     b: usize,
+    row: &mut [u64],
+    asked: &mut usize,
 ) -> bool
-    requires { ⌜ Benefits (now benefits) × Running z (now uses) (now choice) (now sums) × (length (now given) ≡ mostResources) ⌝ }
-    requires { ⌜ (1 ≤ i) × (i < k) × (k ≤ z .segments) × (a ≤ z .strategies) × (b ≤ z .strategies) ⌝ }
-    ensures { λ ok. ⌜ ((l : List ℕ) → Budgets (z .resources) (now (uses .entry)) l i (strategyAt (now (choice .entry)) i) k (strategyAt (now (choice .entry)) k) (now (given .entry)) → another (tables z (now (benefits .entry)) (now (uses .entry)) l) (now (choice .entry)) i a ≡ true → ok ≡ countsTwo (tables z (now (benefits .entry)) (now (uses .entry)) l) (now (choice .entry)) i k a b) ⌝ }
+    ghost { Table }
+    requires { λ t. ⌜ tables z (now benefits) (now uses) (now limits) ≡ t ⌝ }
+    requires { λ t. ⌜ Setting z (now benefits) (now uses) (now limits) (now choice) (now sums) (now given) i k × (length (now row) ≡ rowPlaces) × (another t (now choice) i a ≡ true) ⌝ }
+    requires { λ _. ⌜ (a ≤ z .strategies) × (b ≤ z .strategies) ⌝ }
+    ensures { λ t ok. ⌜ PairTest t (now (choice .entry)) i k a b (now (row .entry)) (now (row .exit)) ok ⌝ }
 {
     let new = tables::benefit(benefits, i, a) + tables::benefit(benefits, k, b);
     if new <= present_benefit(benefits, choice, i, k) {
@@ -177,7 +286,7 @@ fn counts_two(
     if !is_another(benefits, choice, k, b) {
         return false;
     }
-    tables::room(z.resources, uses, sums, given, i, a, k, b)
+    !refused(z, uses, limits, sums, given, i, a, k, b, row, asked)
 }
 
 // The first single change that counts, segment by segment: nothing before strategy 1, and so on up.
@@ -208,46 +317,6 @@ fn first_one(
     found
 }
 
-// The first pair that counts, ordered by the lower segment, the higher one, and then the strategy of each. Segments and
-// first strategies with which no pair can count are passed over.
-fn first_two(
-    z: Size,
-    benefits: &[u64],
-    uses: &[u64],
-    limits: &[u64],
-    choice: &[usize],
-    sums: &[u64],
-    tops: &[u64],
-) -> Change
-    ghost { Table }
-    requires { λ t. ⌜ tables z (now benefits) (now uses) (now limits) ≡ t ⌝ }
-    requires { λ _. ⌜ Benefits (now benefits) × Limits (now limits) × Running z (now uses) (now choice) (now sums) ⌝ }
-    requires { λ _. ⌜ Tops z (now benefits) (now tops) ⌝ }
-    ensures { λ t x. ⌜ Found z (now (choice .entry)) x (firstPair t (now (choice .entry))) ⌝ }
-{
-    let mut found = Change::Nothing;
-    let segments_end = z.segments + 1;
-    let strategies_end = z.strategies + 1;
-    'search: for i in 1..segments_end {
-        for k in i + 1..segments_end {
-            if pair_may_rise(benefits, choice, tops, i, k) {
-                let given = both_give_up(z, uses, limits, choice, i, k);
-                for a in 0..strategies_end {
-                    if with_may_count(z, benefits, uses, choice, sums, tops, &given, i, k, a) {
-                        for b in 0..strategies_end {
-                            if counts_two(z, benefits, uses, choice, sums, &given, i, k, a, b) {
-                                found = Change::Two(i, k, a, b);
-                                break 'search;
-                            }
-                        }
-                    }
-                }
-            }
-        }
-    }
-    found
-}
-
 // Whether there is no change.
 fn is_nothing(x: Change) -> bool
     ensures { λ v. ⌜ v ≡ isNothing x ⌝ }
@@ -259,6 +328,259 @@ fn is_nothing(x: Change) -> bool
     }
 }
 
+// The first pair of segments i and k that counts, by the strategy of each. The row remembers what refused the others.
+fn search_pair(
+    z: Size,
+    benefits: &[u64],
+    uses: &[u64],
+    limits: &[u64],
+    choice: &[usize],
+    sums: &[u64],
+    tops: &[u64],
+    given: &[u64],
+    i: usize,
+    k: usize,
+    row: &mut [u64],
+    asked: &mut usize,
+) -> Change
+    ghost { Table }
+    requires { λ t. ⌜ tables z (now benefits) (now uses) (now limits) ≡ t ⌝ }
+    requires { λ t. ⌜ Setting z (now benefits) (now uses) (now limits) (now choice) (now sums) (now given) i k × Tops z (now benefits) (now tops) × Searching t (now choice) i k (now row) 0 ⌝ }
+    ensures { λ t x. ⌜ Found z (now (choice .entry)) x (pairsOf t (now (choice .entry)) i k) ⌝ }
+    ensures { λ t x. ⌜ (length (now (row .exit)) ≡ rowPlaces) × (getD (now (row .exit)) 0 0 ≡ 0) ⌝ }
+    ensures { λ t x. ⌜ (isNothing x ≡ true → Passed t i k (strategyAt (now (choice .entry)) i) (strategyAt (now (choice .entry)) k) (numbers (now (row .exit)))) ⌝ }
+{
+    let mut found = Change::Nothing;
+    let strategies_end = z.strategies + 1;
+    'search: for a in 0..strategies_end {
+        if with_may_count(
+            z,
+            benefits,
+            uses,
+            limits,
+            choice,
+            sums,
+            tops,
+            given,
+            i,
+            k,
+            a,
+            row,
+            asked,
+        ) {
+            for b in 0..strategies_end {
+                if counts_two(
+                    z,
+                    benefits,
+                    uses,
+                    limits,
+                    choice,
+                    sums,
+                    given,
+                    i,
+                    k,
+                    a,
+                    b,
+                    row,
+                    asked,
+                ) {
+                    found = Change::Two(i, k, a, b);
+                    break 'search;
+                }
+            }
+        }
+    }
+    found
+}
+
+// A row that remembers nothing yet.
+fn clear(resources: usize, row: &mut [u64])
+    requires { ⌜ (resources ≤ mostResources) × (length (now row) ≡ rowPlaces) ⌝ }
+    ensures { λ _. ⌜ (length (now (row .exit)) ≡ rowPlaces) × (getD (now (row .exit)) 0 0 ≡ 0) × ((r : ℕ) → 1 ≤ r → r ≤ resources → getD (now (row .exit)) r 0 ≡ unreached) ⌝ }
+{
+    row[0] = 0;
+    for r in 0..resources {
+        row[r + 1] = UNREACHED;
+    }
+}
+
+// The mark of a row that holds for the strategies of segments i and k.
+fn mark_of(choice: &[usize], i: usize, k: usize) -> u64
+    requires { ⌜ (length (now choice) ≡ mostSegments) × Cell i (strategyAt (now choice) i) × Cell k (strategyAt (now choice) k) ⌝ }
+    ensures { λ v. ⌜ v ≡ mark (strategyAt (now (choice .entry)) i) (strategyAt (now (choice .entry)) k) ⌝ }
+{
+    (COLUMNS * choice[i - 1] + choice[k - 1] + 1) as u64
+}
+
+// A look at segments i and k: the first pair of theirs that counts, and their row made anew. Only where none counts the
+// row gets its mark.
+fn look(
+    z: Size,
+    benefits: &[u64],
+    uses: &[u64],
+    limits: &[u64],
+    choice: &[usize],
+    sums: &[u64],
+    tops: &[u64],
+    i: usize,
+    k: usize,
+    row: &mut [u64],
+    asked: &mut usize,
+) -> Change
+    ghost { Table }
+    requires { λ t. ⌜ tables z (now benefits) (now uses) (now limits) ≡ t ⌝ }
+    requires { λ t. ⌜ Benefits (now benefits) × Limits (now limits) × Running z (now uses) (now choice) (now sums) × Tops z (now benefits) (now tops) × (length (now row) ≡ rowPlaces) ⌝ }
+    requires { λ _. ⌜ (1 ≤ i) × (i < k) × (k ≤ z .segments) ⌝ }
+    ensures { λ t x. ⌜ Found z (now (choice .entry)) x (pairsOf t (now (choice .entry)) i k) ⌝ }
+    ensures { λ t x. ⌜ length (now (row .exit)) ≡ rowPlaces ⌝ }
+    ensures { λ t x. ⌜ Holds t i k (numbers (now (row .exit))) ⌝ }
+{
+    let given = both_give_up(z, uses, limits, choice, i, k);
+    clear(z.resources, row);
+    let found = search_pair(
+        z,
+        benefits,
+        uses,
+        limits,
+        choice,
+        sums,
+        tops,
+        &given,
+        i,
+        k,
+        row,
+        asked,
+    );
+    if is_nothing(found) {
+        row[0] = mark_of(choice, i, k);
+    }
+    found
+}
+
+// Each resource's slack.
+fn slacks_of(resources: usize, limits: &[u64], sums: &[u64]) -> [u64; MOST_RESOURCES]
+    requires { ⌜ (resources ≤ mostResources) × Limits (now limits) × (length (now sums) ≡ mostResources) ⌝ }
+    requires { ⌜ ((r : ℕ) → 1 ≤ r → r ≤ resources → getD (now sums) (r - 1) 0 ≤ 2 ^ 47) ⌝ }
+    ensures { λ v. ⌜ Slacks resources (now (limits .entry)) (now (sums .entry)) v ⌝ }
+{
+    let mut each = [0u64; MOST_RESOURCES];
+    for r in 0..resources {
+        each[r] = limits[r] + OFFSET - sums[r];
+    }
+    each
+}
+
+// The row has this mark, and every slack is below its number.
+fn holds_still(resources: usize, slacks: &[u64], row: &[u64], marked: u64) -> bool
+    requires { ⌜ (resources ≤ mostResources) × (length (now slacks) ≡ mostResources) × (length (now row) ≡ rowPlaces) ⌝ }
+    ensures { λ ok. ⌜ ok ≡ holdsStill resources (now (slacks .entry)) (now (row .entry)) marked ⌝ }
+{
+    if row[0] != marked {
+        return false;
+    }
+    for r in 0..resources {
+        if row[r + 1] <= slacks[r] {
+            return false;
+        }
+    }
+    true
+}
+
+// The first pair of segments i and k that counts, without a look where none can rise, or where the memory still holds.
+fn first_of_pair(
+    z: Size,
+    benefits: &[u64],
+    uses: &[u64],
+    limits: &[u64],
+    choice: &[usize],
+    sums: &[u64],
+    tops: &[u64],
+    slacks: &[u64],
+    i: usize,
+    k: usize,
+    memory: &mut [u64],
+    asked: &mut usize,
+) -> Change
+    ghost { Table }
+    requires { λ t. ⌜ tables z (now benefits) (now uses) (now limits) ≡ t ⌝ }
+    requires { λ t. ⌜ Benefits (now benefits) × Limits (now limits) × Running z (now uses) (now choice) (now sums) × Tops z (now benefits) (now tops) × Slacks (z .resources) (now limits) (now sums) (now slacks) × Memory t (now memory) ⌝ }
+    requires { λ _. ⌜ (1 ≤ i) × (i < k) × (k ≤ z .segments) ⌝ }
+    ensures { λ t x. ⌜ Found z (now (choice .entry)) x (pairsOf t (now (choice .entry)) i k) ⌝ }
+    ensures { λ t x. ⌜ Memory t (now (memory .exit)) ⌝ }
+{
+    if !pair_may_rise(benefits, choice, tops, i, k) {
+        return Change::Nothing;
+    }
+    let at = ROW * (MOST_SEGMENTS * (i - 1) + (k - 1));
+    if holds_still(
+        z.resources,
+        slacks,
+        &memory[at..at + ROW],
+        mark_of(choice, i, k),
+    ) {
+        return Change::Nothing;
+    }
+    look(
+        z,
+        benefits,
+        uses,
+        limits,
+        choice,
+        sums,
+        tops,
+        i,
+        k,
+        &mut memory[at..at + ROW],
+        asked,
+    )
+}
+
+// The first pair that counts, ordered by the lower segment, the higher one, and then the strategy of each.
+fn first_two(
+    z: Size,
+    benefits: &[u64],
+    uses: &[u64],
+    limits: &[u64],
+    choice: &[usize],
+    sums: &[u64],
+    tops: &[u64],
+    memory: &mut [u64],
+) -> Change
+    ghost { Table }
+    requires { λ t. ⌜ tables z (now benefits) (now uses) (now limits) ≡ t ⌝ }
+    requires { λ t. ⌜ Benefits (now benefits) × Limits (now limits) × Running z (now uses) (now choice) (now sums) ⌝ }
+    requires { λ t. ⌜ Tops z (now benefits) (now tops) × Memory t (now memory) ⌝ }
+    ensures { λ t x. ⌜ Found z (now (choice .entry)) x (firstPair t (now (choice .entry))) ⌝ }
+    ensures { λ t x. ⌜ Memory t (now (memory .exit)) ⌝ }
+{
+    let mut found = Change::Nothing;
+    let mut asked: usize = 0;
+    let segments_end = z.segments + 1;
+    let slacks = slacks_of(z.resources, limits, sums);
+    'search: for i in 1..segments_end {
+        for k in i + 1..segments_end {
+            found = first_of_pair(
+                z,
+                benefits,
+                uses,
+                limits,
+                choice,
+                sums,
+                tops,
+                &slacks,
+                i,
+                k,
+                memory,
+                &mut asked,
+            );
+            if !is_nothing(found) {
+                break 'search;
+            }
+        }
+    }
+    found
+}
+
 // The first change that counts: single changes come before pairs.
 fn first_change(
     z: Size,
@@ -268,16 +590,18 @@ fn first_change(
     choice: &[usize],
     sums: &[u64],
     tops: &[u64],
+    memory: &mut [u64],
 ) -> Change
     ghost { Table }
     requires { λ t. ⌜ tables z (now benefits) (now uses) (now limits) ≡ t ⌝ }
     requires { λ _. ⌜ Benefits (now benefits) × Limits (now limits) × Running z (now uses) (now choice) (now sums) ⌝ }
-    requires { λ _. ⌜ Tops z (now benefits) (now tops) ⌝ }
+    requires { λ t. ⌜ Tops z (now benefits) (now tops) × Memory t (now memory) ⌝ }
     ensures { λ t x. ⌜ Found z (now (choice .entry)) x (change t (now (choice .entry))) ⌝ }
+    ensures { λ t x. ⌜ Memory t (now (memory .exit)) ⌝ }
 {
     let one = first_one(z, benefits, uses, limits, choice, sums);
     if is_nothing(one) {
-        return first_two(z, benefits, uses, limits, choice, sums, tops);
+        return first_two(z, benefits, uses, limits, choice, sums, tops, memory);
     }
     one
 }
@@ -319,9 +643,10 @@ pub fn improve(
 {
     let mut tops: [u64; MOST_SEGMENTS] = [0; MOST_SEGMENTS];
     fill_tops(z, benefits, &mut tops);
+    let mut memory = [0u64; MEMORY];
     let mut changes: u64 = 0;
     loop {
-        let x = first_change(z, benefits, uses, limits, choice, sums, &tops);
+        let x = first_change(z, benefits, uses, limits, choice, sums, &tops, &mut memory);
         if is_nothing(x) {
             return changes;
         }

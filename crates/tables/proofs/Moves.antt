@@ -34,7 +34,7 @@ room-law {z} bounded b u l sums e given more less is h =
     (λ q. omega arith))
 
 module _ {z : Size} {u c sums : List ℕ} (running : Running z u c sums) where
-  sums-le : (r : ℕ) → 1 ≤ r → r ≤ z .resources → getD sums (r - 1) 0 ≤ 2 ^ 47
+  pub sums-le : (r : ℕ) → 1 ≤ r → r ≤ z .resources → getD sums (r - 1) 0 ≤ 2 ^ 47
   sums-le r low high = omega (arith, running .sums-are [] [] r low high, used-le (running .bounded) (running .uses) [] [] c r)
 
   pub testable : {given : List ℕ} → length given ≡ mostResources → Testable (z .resources) u sums given

@@ -62,7 +62,7 @@ pub fn usage(uses: &[u64], i: usize, j: usize, r: usize) -> u64
 }
 
 // Resource r suffices where segment i gets strategy a and segment k strategy b.
-fn room_in(
+pub fn room_in(
     uses: &[u64],
     sums: &[u64],
     budgets: &[u64],
@@ -81,7 +81,7 @@ fn room_in(
 }
 
 // Every resource suffices where segment i gets strategy a and segment k strategy b.
-pub fn room(
+fn room(
     resources: usize,
     uses: &[u64],
     sums: &[u64],

@@ -1,64 +1,81 @@
 -- `phase3::counts_two` meets its contract.
-use mathlib.Core.Path.{sym, _∙_}
-use borrow.Author.Tests.{not-true, not-false}
+use mathlib.Core.Path.{refl, sym, _∙_}
 use native.Mathlib.Omega.{arith}
 use denote.Ref.{now}
+use borrow.Author.Tests.{not-true, not-false}
 use Rattle.tables.proofs.Arrays.{benefit-lt, cell-of}
-use Rattle.tables.proofs.Moves.{places, testable, two-fits}
-use Rattle.phase3.proofs.ChangeSearch.{low-two, high-two, not-second, compared}
+use Rattle.tables.proofs.Moves.{testable}
+use Rattle.phase3.proofs.ChangeSearch.{compared}
+use Rattle.phase3.proofs.Remembered.{given-le, pair-low, pair-same, pair-test}
 use borrow.Author.Needs.{needs}
 use Rattle.phase3.proofs.counts_two.Statement.{statement}
 use Rattle.phase3.proofs.counts_two.Tie as tie
 
+benefit-requires : tie.Need-benefit-requires
+benefit-requires c κs = search needs
+
+benefit-requires-2 : tie.Need-benefit-requires-2
+benefit-requires-2 c κs = search needs
+
 add-new : tie.Need-add-new
 add-new c =
-    let s = c .before .before .before .before .before .before .before in
+    let s = c .before .before .before .before .before .before .before .before .before in
     let a = s .args in
-    let small = benefit-lt (s .pre .0 .0) in
+    let small = benefit-lt (s .pre .0 .0 .benefits) in
     omega (arith, small (a .i) (a .a), small (a .k) (a .b), c .benefit2 .ensures, c .before .benefit .ensures)
 
 present-benefit-requires : tie.Need-present-benefit-requires
-present-benefit-requires c κs =
-    let s = c .before .before .before .before .before .before .before in
-    compared (s .pre .0 .0) (s .pre .0 .1) (s .pre .1 .0) (s .pre .1 .1) (s .pre .1 .2)
+present-benefit-requires c κs = let g = c .before .before .before .before .before .before .before .before .before .pre .0 .0 in compared (g .benefits) (g .running) (g .low) (g .above) (g .high)
 
 returns : tie.Need-returns
-returns c = λ l are other.
-    let s = c .before .before .before .before .before .before .before .before .before in
-    let m = s .pre .1 in
-    sym (low-two _ _ _ _ (m .0) (omega arith) (places (s .pre .0 .1)) _ _ (m .1) (m .2) (omega (arith, c .before .present-benefit .ensures (s .args .z) (now (s .args .uses)) l, c .before .before .benefit2 .ensures, c .before .before .before .benefit .ensures)))
+returns c =
+    let s = c .before .before .before .before .before .before .before .before .before .before .before in
+    let a = s .args in
+    pair-low (s .pre .0 .0) _ _ _
+    (omega (arith, c .before .present-benefit .ensures (a .z) (now (a .uses)) (now (a .limits)), c .before .before .benefit2 .ensures, c .before .before .before .benefit .ensures))
+
+is-another-requires : tie.Need-is-another-requires
+is-another-requires c κs = search needs
 
 returns-2 : tie.Need-returns-2
-returns-2 c = λ l are other. sym (not-second _ _ _ _ _ _ (sym (c .before .is-another .ensures _ _ _) ∙ not-true _ (c .if2 .taken)))
+returns-2 c = pair-same (c .before .before .before .before .before .before .before .before .before .before .before .before .before .pre .0 .0) _ _ _ (sym (c .before .is-another .ensures _ _ _) ∙ not-true _ (c .if2 .taken))
 
-room-requires : tie.Need-room-requires
-room-requires c κs =
-    let s = c .before .before .before .before .before .before .before .before .before .before .before in
-    let m = s .pre .1 in
-    let cell = cell-of (s .pre .0 .1 .bounded) in
-    (testable (s .pre .0 .1) (s .pre .0 .2), (cell _ _ (m .0) (omega arith) (m .3), cell _ _ (omega arith) (m .2) (m .4)))
+refused-requires : tie.Need-refused-requires
+refused-requires c κs =
+    let s = c .before .before .before .before .before .before .before .before .before .before .before .before .before .before .before in
+    let g = s .pre .0 .0 in
+    let cell = cell-of (g .running .bounded) in (
+      (testable (g .running) (g .budgets .places), g .limits, s .pre .0 .1),
+      ((cell _ _ (g .low) (omega (arith, g .above, g .high)) (s .pre .1 .0), cell _ _ (omega (arith, g .low, g .above)) (g .high) (s .pre .1 .1)), given-le g),
+    )
+
+same-length : tie.Need-same-length
+same-length c = search needs
 
 returns-3 : tie.Need-returns-3
-returns-3 c = λ l are other.
-    let s = c .before .before .before .before .before .before .before .before .before .before .before .before in
-    let m = s .pre .1 in
-    c .room .ensures
-    ∙ two-fits (s .pre .0 .1) _ _ (m .0) (omega arith) _ _ _ _ (m .1) (m .2) are
-    ∙ sym (high-two _ _ _ _ (m .0) (omega arith) (places (s .pre .0 .1)) _ _ (m .1) (m .2)
-    (omega (arith, c .before .before .before .before .present-benefit .ensures (s .args .z) (now (s .args .uses)) l, c .before .before .before .before .before .benefit2 .ensures, c .before .before .before .before .before .before .benefit .ensures))
-    other
-    (sym (c .before .before .is-another .ensures _ _ _) ∙ not-false _ (c .before .if2 .left)))
+returns-3 c =
+    let s = c .before .before .before .before .before .before .before .before .before .before .before .before .before .before .before .before .before .before in
+    let a = s .args in
+    let g = s .pre .0 .0 in
+    pair-test g _ _ _ _ _
+    (omega (arith, c .before .before .before .before .before .before .before .before .present-benefit .ensures (a .z) (now (a .uses)) (now (a .limits)), c .before .before .before .before .before .before .before .before .before .benefit2 .ensures, c .before .before .before .before .before .before .before .before .before .before .benefit .ensures))
+    (s .pre .0 .2)
+    (sym (c .before .before .before .before .before .before .is-another .ensures _ _ _) ∙ not-false _ (c .before .before .before .before .before .if2 .left))
+    (c .before .before .refused .ensures _ _ g)
+    _
+    refl
 
 pub counts-two-spec : {M : Type 1} → statement M
 counts-two-spec =
     tie.close
     (tie.spec
-    (λ c κs. search needs)
-    (λ c κs. search needs)
+    benefit-requires
+    benefit-requires-2
     add-new
     present-benefit-requires
     returns
-    (λ c κs. search needs)
+    is-another-requires
     returns-2
-    room-requires
+    refused-requires
+    same-length
     returns-3)

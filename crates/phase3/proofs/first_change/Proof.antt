@@ -5,13 +5,33 @@ use borrow.Author.Needs.{needs}
 use Rattle.phase3.proofs.first_change.Statement.{statement}
 use Rattle.phase3.proofs.first_change.Tie as tie
 
+first-one-requires : tie.Need-first-one-requires
+first-one-requires c κs = search needs
+
+is-nothing-requires : tie.Need-is-nothing-requires
+is-nothing-requires c κs = search needs
+
+first-two-requires : tie.Need-first-two-requires
+first-two-requires c κs = search needs
+
+same-length : tie.Need-same-length
+same-length c = search needs
+
 returns : tie.Need-returns
-returns c = change-pair _ (c .before .before .before .first-one .ensures) (sym (c .before .before .is-nothing .ensures) ∙ c .before .if1 .taken) (c .first-two .ensures)
+returns c =
+    let e = c .before .before .first-two .ensures in
+    (change-pair _ (c .before .before .before .before .before .before .first-one .ensures) (sym (c .before .before .before .before .before .is-nothing .ensures) ∙ c .before .before .before .before .if1 .taken) (e .0), e .1)
 
 returns-2 : tie.Need-returns-2
-returns-2 c = change-single _ (c .before .before .first-one .ensures) (sym (c .before .is-nothing .ensures) ∙ c .if1 .left)
+returns-2 c = (change-single _ (c .before .before .first-one .ensures) (sym (c .before .is-nothing .ensures) ∙ c .if1 .left), c .before .before .before .before .before .before .before .before .before .before .pre .1 .1)
 
 pub first-change-spec : {M : Type 1} → statement M
 first-change-spec =
     tie.close
-    (tie.spec (λ c κs. search needs) (λ c κs. search needs) (λ c κs. search needs) returns returns-2)
+    (tie.spec
+    first-one-requires
+    is-nothing-requires
+    first-two-requires
+    same-length
+    returns
+    returns-2)

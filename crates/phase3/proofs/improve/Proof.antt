@@ -1,17 +1,24 @@
--- `phase3::improve` meets its contract: what is left of the search from here ends where the whole search does.
+-- `phase3::improve` meets its contract: after so many changes the programme is the one that the search reaches, and the memory holds.
 use Prim.Native.Nat.{_-_, _^_}
-use mathlib.Core.Path.{sym, _∙_}
+use mathlib.Core.Path.{refl, sym, _∙_}
 use native.Mathlib.Omega.{arith}
+use Rattle.tables.specs.Arrays.{tables}
+use Rattle.phase3.specs.Memory.{memoryPlaces, Memory}
 use Rattle.phase3.proofs.ChangeSearch.{Under, under-start, under-end, under-small, under-next, turn, no-turn}
+use Rattle.phase3.proofs.Rows.{memory-start}
 use borrow.Author.Needs.{needs}
 use Rattle.phase3.proofs.improve.Statement.{statement}
 use Rattle.phase3.proofs.improve.Tie as tie
 
 abbrev Inv-loop : tie.InvT-loop
-Inv-loop z benefits uses limits choice₀ sums₀ tops changes₀ choice sums changes = Under z benefits uses limits choice₀ choice sums changes
+Inv-loop z benefits uses limits choice₀ sums₀ tops memory₀ changes₀ choice sums memory changes =
+    Under z benefits uses limits choice₀ choice sums changes × Memory (tables z benefits uses limits) memory
 
 abbrev μ-loop : tie.MeasureT-loop
-μ-loop z benefits uses limits choice₀ sums₀ tops changes₀ choice sums changes = 2 ^ 46 - changes
+μ-loop z benefits uses limits choice₀ sums₀ tops memory₀ changes₀ choice sums memory changes = 2 ^ 46 - changes
+
+slice-aggregate-fill-tops : tie.Need-slice-aggregate-fill-tops Inv-loop μ-loop
+slice-aggregate-fill-tops c = search needs
 
 fill-tops-requires : tie.Need-fill-tops-requires Inv-loop μ-loop
 fill-tops-requires c κs =
@@ -19,45 +26,57 @@ fill-tops-requires c κs =
     (s .0, (s .2 .bounded .segments, s .2 .bounded .strategies, search needs))
 
 loop-holds : tie.Need-loop-holds Inv-loop μ-loop
-loop-holds c = under-start _ _ _ (c .before .before .before .before .before .before .before .before .pre .2)
+loop-holds c = (under-start _ _ _ (c .before .before .before .before .before .before .before .before .pre .2), memory-start _ memoryPlaces refl)
+
+slice-aggregate-first-change : tie.Need-slice-aggregate-first-change Inv-loop μ-loop
+slice-aggregate-first-change c = search needs
+
+slice-aggregate-first-change-2 : tie.Need-slice-aggregate-first-change-2 Inv-loop μ-loop
+slice-aggregate-first-change-2 c = search needs
 
 first-change-requires : tie.Need-first-change-requires Inv-loop μ-loop
 first-change-requires c κs =
-    let p = c .before .before .before .before .before .before .before .before .before .before .before .before .pre in
-    ((p .0, p .1, c .before .before .before .loop .inv .running), c .before .before .before .before .before .fill-tops .ensures)
+    let p = c .before .before .before .before .before .before .before .before .before .before .before .before .before .pre in
+    let l = c .before .before .before .before .loop in
+    ((p .0, p .1, l .inv .0 .running), (c .before .before .before .before .before .before .fill-tops .ensures, l .inv .1))
+
+is-nothing-requires : tie.Need-is-nothing-requires Inv-loop μ-loop
+is-nothing-requires c κs = search needs
 
 same-length : tie.Need-same-length Inv-loop μ-loop
-same-length c = c .before .before .before .before .before .before .loop .inv .running .chosen .places ∙ sym (c .before .before .before .before .before .before .before .before .before .before .before .before .before .before .before .pre .2 .chosen .places)
+same-length c = c .before .before .before .before .before .before .before .before .loop .inv .0 .running .chosen .places ∙ sym (c .before .before .before .before .before .before .before .before .before .before .before .before .before .before .before .before .before .pre .2 .chosen .places)
 
 same-length-2 : tie.Need-same-length-2 Inv-loop μ-loop
-same-length-2 c = c .before .before .before .before .before .before .loop .inv .running .sums-length ∙ sym (c .before .before .before .before .before .before .before .before .before .before .before .before .before .before .before .pre .2 .sums-length)
+same-length-2 c = c .before .before .before .before .before .before .before .before .loop .inv .0 .running .sums-length ∙ sym (c .before .before .before .before .before .before .before .before .before .before .before .before .before .before .before .before .before .pre .2 .sums-length)
 
 returns : tie.Need-returns Inv-loop μ-loop
 returns c =
-    let u = c .before .before .before .before .before .before .loop .inv in
-    let e = under-end u (no-turn (c .before .before .first-change .ensures) (sym (c .before .is-nothing .ensures) ∙ c .if1 .taken)) in
+    let u = c .before .before .before .before .before .before .before .before .loop .inv .0 in
+    let e = under-end u (no-turn (c .before .before .before .first-change .ensures .0) (sym (c .before .is-nothing .ensures) ∙ c .if1 .taken)) in
     (u .running, (e .0, e .1))
 
 make-change-requires : tie.Need-make-change-requires Inv-loop μ-loop
-make-change-requires c κs = (c .before .before .before .before .before .before .before .before .loop .inv .running, c .before .before .before .before .first-change .ensures .inside)
+make-change-requires c κs = (c .before .before .before .before .before .before .before .before .before .before .loop .inv .0 .running, c .before .before .before .before .before .first-change .ensures .0 .inside)
 
 add-changes : tie.Need-add-changes Inv-loop μ-loop
 add-changes c =
-    let u = c .before .before .before .before .before .before .before .before .before .before .before .before .before .loop .inv in
-    let e = turn (c .before .before .before .before .before .before .before .before .before .first-change .ensures) (sym (c .before .before .before .before .before .before .before .before .is-nothing .ensures) ∙ c .before .before .before .before .before .before .before .if1 .left) in
-    omega (arith, under-small u e (c .before .before .before .before .before .before .before .before .before .before .before .before .before .before .before .before .before .before .before .before .before .before .pre .0))
+    let u = c .before .before .before .before .before .before .before .before .before .before .before .before .before .before .before .loop .inv .0 in
+    let e = turn (c .before .before .before .before .before .before .before .before .before .before .first-change .ensures .0) (sym (c .before .before .before .before .before .before .before .before .is-nothing .ensures) ∙ c .before .before .before .before .before .before .before .if1 .left) in
+    omega (arith, under-small u e (c .before .before .before .before .before .before .before .before .before .before .before .before .before .before .before .before .before .before .before .before .before .before .before .before .pre .0))
 
 loop-less : tie.Need-loop-less Inv-loop μ-loop
 loop-less c =
-    let u = c .before .before .before .before .before .before .before .before .before .before .before .before .before .loop .inv in
-    let e = turn (c .before .before .before .before .before .before .before .before .before .first-change .ensures) (sym (c .before .before .before .before .before .before .before .before .is-nothing .ensures) ∙ c .before .before .before .before .before .before .before .if1 .left) in
-    omega (arith, under-small u e (c .before .before .before .before .before .before .before .before .before .before .before .before .before .before .before .before .before .before .before .before .before .before .pre .0))
+    let u = c .before .before .before .before .before .before .before .before .before .before .before .before .before .before .before .loop .inv .0 in
+    let e = turn (c .before .before .before .before .before .before .before .before .before .before .first-change .ensures .0) (sym (c .before .before .before .before .before .before .before .before .is-nothing .ensures) ∙ c .before .before .before .before .before .before .before .if1 .left) in
+    omega (arith, under-small u e (c .before .before .before .before .before .before .before .before .before .before .before .before .before .before .before .before .before .before .before .before .before .before .before .before .pre .0))
 
 loop-again : tie.Need-loop-again Inv-loop μ-loop
 loop-again c =
-    let u = c .before .before .before .before .before .before .before .before .before .before .before .before .before .loop .inv in
-    let e = turn (c .before .before .before .before .before .before .before .before .before .first-change .ensures) (sym (c .before .before .before .before .before .before .before .before .is-nothing .ensures) ∙ c .before .before .before .before .before .before .before .if1 .left) in
-    under-next u e (c .before .before .before .before .make-change .ensures .0) (c .before .before .before .before .make-change .ensures .1)
+    let u = c .before .before .before .before .before .before .before .before .before .before .before .before .before .before .before .loop .inv .0 in
+    let e = turn (c .before .before .before .before .before .before .before .before .before .before .first-change .ensures .0) (sym (c .before .before .before .before .before .before .before .before .is-nothing .ensures) ∙ c .before .before .before .before .before .before .before .if1 .left) in (
+      under-next u e (c .before .before .before .before .make-change .ensures .0) (c .before .before .before .before .make-change .ensures .1),
+      c .before .before .before .before .before .before .before .before .before .before .first-change .ensures .1,
+    )
 
 pub improve-spec : {M : Type 1} → statement M
 improve-spec =
@@ -65,12 +84,13 @@ improve-spec =
     (tie.spec
     Inv-loop
     μ-loop
-    (λ c. search needs)
+    slice-aggregate-fill-tops
     fill-tops-requires
     loop-holds
-    (λ c. search needs)
+    slice-aggregate-first-change
+    slice-aggregate-first-change-2
     first-change-requires
-    (λ c κs. search needs)
+    is-nothing-requires
     same-length
     same-length-2
     returns

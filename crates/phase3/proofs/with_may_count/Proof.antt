@@ -1,71 +1,97 @@
 -- `phase3::with_may_count` meets its contract.
-use mathlib.Core.Path.{sym, _∙_}
-use borrow.Author.Tests.{not-true, not-false}
+use mathlib.Core.Path.{refl, sym, _∙_}
 use native.Mathlib.Omega.{arith}
 use denote.Ref.{now}
+use borrow.Author.Tests.{not-true, not-false}
 use Rattle.tables.proofs.Arrays.{benefit-lt, cell-of}
-use Rattle.tables.proofs.Moves.{testable, two-fits}
-use Rattle.phase3.proofs.ChangeSearch.{top-le, not-another, not-more, more-fits, compared}
+use Rattle.tables.proofs.Moves.{testable}
+use Rattle.phase3.proofs.ChangeSearch.{top-le, compared}
+use Rattle.phase3.proofs.Remembered.{given-le, with-same, with-low, with-test}
 use borrow.Author.Needs.{needs}
 use Rattle.phase3.proofs.with_may_count.Statement.{statement}
 use Rattle.phase3.proofs.with_may_count.Tie as tie
 
+is-another-requires : tie.Need-is-another-requires
+is-another-requires c κs = search needs
+
 returns : tie.Need-returns
-returns c = λ l are. sym (not-another _ _ _ _ _ (sym (c .before .is-another .ensures _ _ _) ∙ not-true _ (c .if1 .taken)))
+returns c = with-same (c .before .before .before .before .before .before .before .before .before .before .pre .0 .0) _ _ (sym (c .before .is-another .ensures _ _ _) ∙ not-true _ (c .if1 .taken))
+
+benefit-requires : tie.Need-benefit-requires
+benefit-requires c κs = search needs
+
+sub-if2 : tie.Need-sub-if2
+sub-if2 c = search needs
+
+mul-if2 : tie.Need-mul-if2
+mul-if2 c = search needs
+
+shared-slice-read-if2 : tie.Need-shared-slice-read-if2
+shared-slice-read-if2 c = search needs
 
 add-if2 : tie.Need-add-if2
 add-if2 c =
-    let s = c .before .before .before .before .before .before .before .before .before .before in
+    let s = c .before .before .before .before .before .before .before .before .before .before .before .before in
     let a = s .args in
+    let g = s .pre .0 .0 in
     omega (
       arith,
-      s .pre .0 .2 .each (a .k) (omega arith) (omega arith),
-      top-le (a .z .strategies) (s .pre .0 .0) (a .k),
-      benefit-lt (s .pre .0 .0) (a .i) (a .a),
+      s .pre .0 .1 .each (a .k) (omega (arith, g .low, g .above)) (g .high),
+      top-le (a .z .strategies) (g .benefits) (a .k),
+      benefit-lt (g .benefits) (a .i) (a .a),
+      c .before .benefit .ensures,
     )
 
 present-benefit-requires : tie.Need-present-benefit-requires
-present-benefit-requires c κs =
-    let s = c .before .before .before .before .before .before .before .before .before .before in
-    compared (s .pre .0 .0) (s .pre .0 .1) (s .pre .1 .0) (s .pre .1 .1) (s .pre .1 .2)
+present-benefit-requires c κs = let g = c .before .before .before .before .before .before .before .before .before .before .before .before .pre .0 .0 in compared (g .benefits) (g .running) (g .low) (g .above) (g .high)
 
 returns-2 : tie.Need-returns-2
-returns-2 c = λ l are.
-    let s = c .before .before .before .before .before .before .before .before .before .before .before .before in
+returns-2 c =
+    let s = c .before .before .before .before .before .before .before .before .before .before .before .before .before .before in
     let a = s .args in
-    let p = c .before .present-benefit .ensures (a .z) (now (a .uses)) l in
-    sym (not-more _ _ _ _ _ (omega (arith, p, c .before .before .before .benefit .ensures, s .pre .0 .2 .each (a .k) (omega arith) (omega arith))))
+    let g = s .pre .0 .0 in
+    with-low g _ _
+    (omega (
+      arith,
+      c .before .present-benefit .ensures (a .z) (now (a .uses)) (now (a .limits)),
+      c .before .before .before .benefit .ensures,
+      s .pre .0 .1 .each (a .k) (omega (arith, g .low, g .above)) (g .high),
+    ))
 
-room-requires : tie.Need-room-requires
-room-requires c κs =
-    let s = c .before .before .before .before .before .before .before .before .before .before .before .before in
-    let m = s .pre .1 in
-    let cell = cell-of (s .pre .0 .1 .bounded) in
-    (testable (s .pre .0 .1) (s .pre .0 .3), (cell _ _ (m .0) (omega arith) (m .3), cell _ _ (omega arith) (m .2) (omega arith)))
+refused-requires : tie.Need-refused-requires
+refused-requires c κs =
+    let s = c .before .before .before .before .before .before .before .before .before .before .before .before .before .before .before .before in
+    let g = s .pre .0 .0 in
+    let cell = cell-of (g .running .bounded) in (
+      (testable (g .running) (g .budgets .places), g .limits, s .pre .0 .2),
+      ((cell _ _ (g .low) (omega (arith, g .above, g .high)) (s .pre .1), cell _ _ (omega (arith, g .low, g .above)) (g .high) (omega arith)), given-le g),
+    )
+
+same-length : tie.Need-same-length
+same-length c = search needs
 
 returns-3 : tie.Need-returns-3
-returns-3 c = λ l are.
-    let s = c .before .before .before .before .before .before .before .before .before .before .before .before .before in
-    let a = s .args in
-    let m = s .pre .1 in
-    let p = c .before .before .present-benefit .ensures (a .z) (now (a .uses)) l in
-    c .room .ensures
-    ∙ two-fits (s .pre .0 .1) _ _ (m .0) (omega arith) _ _ _ _ (m .1) (m .2) are
-    ∙ sym (more-fits _ _ _ _ _ (sym (c .before .before .before .before .before .before .is-another .ensures _ _ _) ∙ not-false _ (c .before .before .before .before .before .if1 .left))
-    (omega (arith, p, c .before .before .before .before .benefit .ensures, s .pre .0 .2 .each (a .k) (omega arith) (omega arith))))
+returns-3 c =
+    let g = c .before .before .before .before .before .before .before .before .before .before .before .before .before .before .before .before .before .before .before .pre .0 .0 in
+    with-test g _ _ _ _
+    (sym (c .before .before .before .before .before .before .before .before .before .before .is-another .ensures _ _ _) ∙ not-false _ (c .before .before .before .before .before .before .before .before .before .if1 .left))
+    (c .before .before .refused .ensures _ _ g)
+    _
+    refl
 
 pub with-may-count-spec : {M : Type 1} → statement M
 with-may-count-spec =
     tie.close
     (tie.spec
-    (λ c κs. search needs)
+    is-another-requires
     returns
-    (λ c κs. search needs)
-    (λ c. search needs)
-    (λ c. search needs)
-    (λ c. search needs)
+    benefit-requires
+    sub-if2
+    mul-if2
+    shared-slice-read-if2
     add-if2
     present-benefit-requires
     returns-2
-    room-requires
+    refused-requires
+    same-length
     returns-3)

@@ -1,0 +1,73 @@
+-- `phase3::clear` meets its contract: the numbers passed are unreached.
+use Prim.Native.Nat.{ℕ, _+_, _-_, _≤_}
+use mathlib.Core.Path.{_≡_, _∙_}
+use native.Mathlib.Omega.{arith}
+use denote.Ref.{now}
+use lib.ListN.{getD, set, length, length-set}
+use lib.Seq.{getD-set-same, getD-set-other}
+use Rattle.base.proofs.All.{each-none, each-next}
+use Rattle.phase3.specs.Memory.{rowPlaces, unreached}
+use borrow.Author.Needs.{needs}
+use Rattle.phase3.proofs.clear.Statement.{statement}
+use Rattle.phase3.proofs.clear.Tie as tie
+
+abbrev Inv-loop : tie.InvT-loop
+Inv-loop resources row₀ r₀ row r = (r ≤ resources) × (length row ≡ rowPlaces) × (getD row 0 0 ≡ 0) × ((q : ℕ) → 1 ≤ q → q ≤ r → getD row q 0 ≡ unreached)
+
+abbrev μ-loop : tie.MeasureT-loop
+μ-loop resources row₀ r₀ row r = resources - r
+
+slice-write-row : tie.Need-slice-write-row Inv-loop μ-loop
+slice-write-row c = search needs
+
+loop-holds : tie.Need-loop-holds Inv-loop μ-loop
+loop-holds c = (search needs, simp length-set (c .pre .1), getD-set-same (now (c .args .row)) 0 0 0 (omega (arith, c .pre .1)), each-none _)
+
+add-row : tie.Need-add-row Inv-loop μ-loop
+add-row c = search needs
+
+mul-row : tie.Need-mul-row Inv-loop μ-loop
+mul-row c = search needs
+
+slice-write-row-2 : tie.Need-slice-write-row-2 Inv-loop μ-loop
+slice-write-row-2 c = search needs
+
+add-r : tie.Need-add-r Inv-loop μ-loop
+add-r c = search needs
+
+loop-less : tie.Need-loop-less Inv-loop μ-loop
+loop-less c = search needs
+
+loop-again : tie.Need-loop-again Inv-loop μ-loop
+loop-again c =
+    let l = c .before .loop in (
+      search needs,
+      simp length-set (l .inv .1),
+      getD-set-other (l .row) (l .r + 1) 0 _ 0 (λ e. omega arith) ∙ l .inv .2,
+      each-next (λ q. getD (set (l .row) (l .r + 1) unreached) q 0 ≡ unreached) (l .r)
+          (λ q low high. getD-set-other (l .row) (l .r + 1) q _ 0 (λ e. omega arith) ∙ l .inv .3 q low high)
+          (getD-set-same (l .row) (l .r + 1) _ 0 (omega (arith, l .inv .1))),
+    )
+
+same-length : tie.Need-same-length Inv-loop μ-loop
+same-length c = search needs
+
+returns : tie.Need-returns Inv-loop μ-loop
+returns c = (c .before .loop .inv .1, c .before .loop .inv .2, λ r low high. c .before .loop .inv .3 r low (omega arith))
+
+pub clear-spec : {M : Type 1} → statement M
+clear-spec =
+    tie.close
+    (tie.spec
+    Inv-loop
+    μ-loop
+    slice-write-row
+    loop-holds
+    add-row
+    mul-row
+    slice-write-row-2
+    add-r
+    loop-less
+    loop-again
+    same-length
+    returns)
