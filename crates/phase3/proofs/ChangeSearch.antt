@@ -1,7 +1,7 @@
 -- Laws of the search for changes: what raises nothing is no change, and how the nested loops find the first.
 use Prim.Native.Nat.{ℕ, zero, suc, _+_, _^_, _≤_, _<_}
 use mathlib.Core.Path.{_≡_, refl, sym, ap, _∙_}
-use mathlib.Core.Bool.{Bool, true, false, and-false, or-true, true≢false}
+use mathlib.Core.Bool.{Bool, true, false, _&&_, and-false, or-true, true≢false}
 use mathlib.Core.List.{List}
 use mathlib.Core.Option.{Option, none, some}
 use native.Mathlib.Omega.{arith}
@@ -45,7 +45,7 @@ use Rattle.tables.specs.declared.Size.{Size}
 use Rattle.tables.specs.Arrays.{benefitAt, tables, Benefits, Running}
 use Rattle.tables.proofs.Arrays.{benefit-nothing, benefit-lt, total-le}
 use Rattle.tables.proofs.Moves.{from-cell}
-use Rattle.phase3.specs.Improve.{after, isNothing, made, Found, countsOne, countsTwo, top, Compared, present, pairMayRise, withMayCount}
+use Rattle.phase3.specs.Improve.{after, isNothing, made, Found, countsOne, countsTwo, top, Compared, present, pairMayRise}
 use Rattle.phase3.specs.declared.Change.{Change}
 use Rattle.phase3.specs.declared.Change.the-variants.{Nothing, One, Two}
 
@@ -182,6 +182,11 @@ module _ (t : Table) where
         (first-found (t .segments) (pairsOf t c i) k d (omega arith) hk (λ p lp u. none-k p u lp) e)
 
 -- ---- what cannot rise is passed over
+
+-- without this no change that gives segment i strategy a counts
+abbrev pub withMayCount : Table → List ℕ → ℕ → ℕ → ℕ → Bool
+withMayCount t c i k a =
+    another t c i a && (ltb (present t c i k) (t .benefit i a + top t k) && within t (give (give c i a) k 0))
 
 module _ (t : Table) (c : List ℕ) (room : t .segments ≤ length c) (i k : ℕ) (low : 1 ≤ i) (above : i < k) (high : k ≤ t .segments) where
   pub low-pair : (a b : ℕ) → t .benefit i a + t .benefit k b ≤ present t c i k → pair t c i k a b ≡ none

@@ -22,7 +22,7 @@ use Rattle.tables.specs.Arrays.{usageAt, limitAt, tables, Benefits, Limits, Run
 use Rattle.tables.specs.Moves.{Budgets, roomFor}
 use Rattle.tables.proofs.Arrays.{limit-at, usage-lt, usage-nothing, benefit-nothing}
 use Rattle.tables.proofs.Moves.{places, two-fits}
-use Rattle.phase3.specs.Improve.{countsTwo, top, present, withMayCount}
+use Rattle.phase3.specs.Improve.{countsTwo, top, present}
 use Rattle.phase3.specs.Memory.{
   offset,
   unreached,
@@ -42,7 +42,7 @@ use Rattle.phase3.specs.Memory.{
   WithTest,
   PairTest,
 }
-use Rattle.phase3.proofs.ChangeSearch.{high-two, not-second, over-two, pair-none, with-none, of-none, low-pair, no-with, not-another, not-more, not-fits}
+use Rattle.phase3.proofs.ChangeSearch.{withMayCount, high-two, not-second, over-two, pair-none, with-none, of-none, low-pair, no-with, not-another, not-more, not-fits}
 
 -- ---- a row that goes down
 
@@ -124,14 +124,11 @@ module _ {z : Size} {p u l c sums given : List ℕ} {i k : ℕ} (s : Setting z p
   given-le r lr hr =
       omega (arith, s .budgets .each r lr hr, usage-lt (s .running .uses) i x r, usage-lt (s .running .uses) k y r)
 
-  pub refusal-none : (a b : ℕ) (row : List ℕ) → all (z .resources) (roomFor u sums given i a k b) ≡ true → Refusal t c i k a b row row false
-  refusal-none a b row e =
-      record {
-        lower = lower-same row;
-        tight = λ q. q;
-        fit = λ _. sym (two-fits (s .running) i a (s .low) (omega (arith, s .above, s .high)) p l k b (s .above) (s .high) (s .budgets)) ∙ e;
-        short = λ q. absurd (true≢false (sym q));
-      }
+  pub refusal-none : (a b : ℕ) (row : List ℕ) → Refusal t c i k a b row row false
+  refusal-none a b row = record { lower = lower-same row; tight = λ q. q; short = λ q. absurd (true≢false (sym q)) }
+
+  pub all-fit : (a b : ℕ) → all (z .resources) (roomFor u sums given i a k b) ≡ true → within t (give (give c i a) k b) ≡ true
+  all-fit a b e = sym (two-fits (s .running) i a (s .low) (omega (arith, s .above, s .high)) p l k b (s .above) (s .high) (s .budgets)) ∙ e
 
   module _ (a b : ℕ) (row : List ℕ) (r : ℕ) (lr : 1 ≤ r) (hr : r ≤ z .resources) (wide : length row ≡ rowPlaces) (e : roomFor u sums given i a k b r ≡ false) where
     abbrev v : ℕ
@@ -161,7 +158,6 @@ module _ {z : Size} {p u l c sums given : List ℕ} {i k : ℕ} (s : Setting z p
         record {
           lower = lower-set row r (min v (getD row r 0)) lr (omega arith);
           tight = λ q. tight-set row r (min v (getD row r 0)) inside (omega (arith, over, q .short r lr hr)) q;
-          fit = λ q. absurd (true≢false q);
           short = λ _ d tight. tight-refuses (s .low) (s .above) (s .high) (numbers (set row r (min v (getD row r 0)))) d tight a b r lr hr (omega (arith, there, excess-is));
         }
 
@@ -213,14 +209,14 @@ module _ {z : Size} {p u l c sums given : List ℕ} {i k : ℕ} (s : Setting z p
         (λ d q. pair-none t d i k a b (not-second t d i k a b (another-same d k b (q .second) ∙ e)))
 
     pub pair-test : (next : List ℕ) (refused : Bool) → present t c i k < t .benefit i a + t .benefit k b → another t c i a ≡ true → another t c k b ≡ true
-        → Refusal t c i k a b row next refused → (ok : Bool) → ok ≡ not refused → PairTest t c i k a b row next ok
-    pair-test next true h ei ek r ok q = rw q (pair-not next (r .lower) (r .tight) (λ d g. pair-none t d i k a b (over-two t d i k a b (r .short refl d g))))
-    pair-test next false h ei ek r ok q =
+        → Refusal t c i k a b row next refused → (refused ≡ false → within t (give (give c i a) k b) ≡ true) → (ok : Bool) → ok ≡ not refused → PairTest t c i k a b row next ok
+    pair-test next true h ei ek r fit ok q = rw q (pair-not next (r .lower) (r .tight) (λ d g. pair-none t d i k a b (over-two t d i k a b (r .short refl d g))))
+    pair-test next false h ei ek r fit ok q =
         rw q
         (record {
           lower = r .lower;
           tight = r .tight;
-          counted = λ _. high-two t c i a (s .low) (omega (arith, s .above, s .high)) (places (s .running)) k b (s .above) (s .high) h ei ek ∙ r .fit refl;
+          counted = λ _. high-two t c i a (s .low) (omega (arith, s .above, s .high)) (places (s .running)) k b (s .above) (s .high) h ei ek ∙ fit refl;
           passed = λ z. absurd (true≢false z);
         })
 

@@ -69,10 +69,6 @@ pub record Compared (b c : List ℕ) (i k : ℕ) : Type 0 where
 abbrev pub present : Table → List ℕ → ℕ → ℕ → ℕ
 present t c i k = t .benefit i (strategyAt c i) + t .benefit k (strategyAt c k)
 
--- without this no change of segments i and k counts, and without the next none that gives segment i strategy a
+-- without this no change of segments i and k counts
 abbrev pub pairMayRise : Table → List ℕ → ℕ → ℕ → Bool
 pairMayRise t c i k = ltb (present t c i k) (top t i + top t k)
-
-abbrev pub withMayCount : Table → List ℕ → ℕ → ℕ → ℕ → Bool
-withMayCount t c i k a =
-    another t c i a && (ltb (present t c i k) (t .benefit i a + top t k) && within t (give (give c i a) k 0))

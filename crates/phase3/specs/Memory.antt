@@ -111,11 +111,10 @@ pub record Searching (t : Table) (c : List ℕ) (i k : ℕ) (row : List ℕ) (a 
   pub tight : Tight t i k (strategyAt c i) (strategyAt c k) (numbers row) c
   pub before : (v : ℕ) → v < a → PassedWith t i k (strategyAt c i) (strategyAt c k) (numbers row) v
 
--- a test of the limits, with what the row then remembers: strategies a and b are refused, or fit
+-- a test of the limits, with what the row then remembers where strategies a and b are refused
 pub record Refusal (t : Table) (c : List ℕ) (i k a b : ℕ) (row next : List ℕ) (refused : Bool) : Type 0 where
   pub lower : Lower row next
   pub tight : Tight t i k (strategyAt c i) (strategyAt c k) (numbers row) c → Tight t i k (strategyAt c i) (strategyAt c k) (numbers next) c
-  pub fit : refused ≡ false → within t (give (give c i a) k b) ≡ true
   pub short : refused ≡ true → (e : List ℕ) → Tight t i k (strategyAt c i) (strategyAt c k) (numbers next) e → within t (give (give e i a) k b) ≡ false
 
 -- a test of a first strategy: none of its pairs counts, or it is another one

@@ -1,13 +1,13 @@
 // Phase 3: changes of one segment or two that raise the total and keep the limits, until none is left.
 ghost use mathlib.Core.Path.{_≡_};
 ghost use Prim.Native.Nat.{ℕ, _+_, _-_, _^_, _<_, _≤_, min};
-ghost use mathlib.Core.Bool.{true};
+ghost use mathlib.Core.Bool.{true, false};
 ghost use mathlib.Core.List.{List};
 ghost use lib.ListN.{getD, set, length};
 ghost use Rattle.base.specs.Over.{most};
 ghost use Rattle.rules.specs.District.{mostSegments, mostStrategies, mostResources};
 ghost use Rattle.rules.specs.Table.{Table};
-ghost use Rattle.rules.specs.Phases.{strategyAt, another, firstSingle, pairsOf, firstPair, change, phase3};
+ghost use Rattle.rules.specs.Phases.{strategyAt, give, within, another, firstSingle, pairsOf, firstPair, change, phase3};
 use rules::places::MOST_RESOURCES;
 use rules::places::MOST_SEGMENTS;
 use tables::COLUMNS;
@@ -192,6 +192,7 @@ fn refused(
     requires { ⌜ Cell i a × Cell k b ⌝ }
     requires { ⌜ ((r : ℕ) → 1 ≤ r → r ≤ z .resources → getD (now given) (r - 1) 0 ≤ getD (now limits) (r - 1) 0 + offset) ⌝ }
     ensures { λ v. ⌜ ((p c : List ℕ) → Setting z p (now (uses .entry)) (now (limits .entry)) c (now (sums .entry)) (now (given .entry)) i k → Refusal (tables z p (now (uses .entry)) (now (limits .entry))) c i k a b (now (row .entry)) (now (row .exit)) v) ⌝ }
+    ensures { λ v. ⌜ ((p c : List ℕ) → Setting z p (now (uses .entry)) (now (limits .entry)) c (now (sums .entry)) (now (given .entry)) i k → v ≡ false → within (tables z p (now (uses .entry)) (now (limits .entry))) (give (give c i a) k b) ≡ true) ⌝ }
 {
     let short = short_of(z.resources, uses, sums, given, i, a, k, b, *asked);
     if short == 0 {
@@ -202,8 +203,37 @@ fn refused(
     true
 }
 
+// The same by the resource alone that is asked first.
+fn refused_by_last(
+    z: Size,
+    uses: &[u64],
+    limits: &[u64],
+    sums: &[u64],
+    given: &[u64],
+    i: usize,
+    a: usize,
+    k: usize,
+    b: usize,
+    row: &mut [u64],
+    asked: usize,
+) -> bool
+    requires { ⌜ Testable (z .resources) (now uses) (now sums) (now given) × Limits (now limits) × (length (now row) ≡ rowPlaces) ⌝ }
+    requires { ⌜ Cell i a × Cell k b ⌝ }
+    requires { ⌜ ((r : ℕ) → 1 ≤ r → r ≤ z .resources → getD (now given) (r - 1) 0 ≤ getD (now limits) (r - 1) 0 + offset) ⌝ }
+    ensures { λ v. ⌜ ((p c : List ℕ) → Setting z p (now (uses .entry)) (now (limits .entry)) c (now (sums .entry)) (now (given .entry)) i k → Refusal (tables z p (now (uses .entry)) (now (limits .entry))) c i k a b (now (row .entry)) (now (row .exit)) v) ⌝ }
+{
+    if z.resources <= asked {
+        return false;
+    }
+    if tables::room_in(uses, sums, given, i, a, k, b, asked + 1) {
+        return false;
+    }
+    note(uses, limits, given, i, a, k, b, asked + 1, row);
+    true
+}
+
 // A pair with strategy a for segment i may count: it is another one, more than the present with the greatest benefit of
-// segment k, and within the limits where segment k gets nothing.
+// segment k, and the resource asked first does not refuse it where segment k gets nothing.
 fn with_may_count(
     z: Size,
     benefits: &[u64],
@@ -217,7 +247,7 @@ fn with_may_count(
     k: usize,
     a: usize,
     row: &mut [u64],
-    asked: &mut usize,
+    asked: usize,
 ) -> bool
     ghost { Table }
     requires { λ t. ⌜ tables z (now benefits) (now uses) (now limits) ≡ t ⌝ }
@@ -231,7 +261,7 @@ fn with_may_count(
     if tables::benefit(benefits, i, a) + tops[k - 1] <= present_benefit(benefits, choice, i, k) {
         return false;
     }
-    !refused(z, uses, limits, sums, given, i, a, k, 0, row, asked)
+    !refused_by_last(z, uses, limits, sums, given, i, a, k, 0, row, asked)
 }
 
 // Giving segment i strategy a counts. A strategy of greater benefit is another one, and a candidate.
@@ -366,7 +396,7 @@ fn search_pair(
             k,
             a,
             row,
-            asked,
+            *asked,
         ) {
             for b in 0..strategies_end {
                 if counts_two(

@@ -61,7 +61,8 @@ returns-3 c =
     (omega (arith, c .before .before .before .before .before .before .before .before .present-benefit .ensures (a .z) (now (a .uses)) (now (a .limits)), c .before .before .before .before .before .before .before .before .before .benefit2 .ensures, c .before .before .before .before .before .before .before .before .before .before .benefit .ensures))
     (s .pre .0 .2)
     (sym (c .before .before .before .before .before .before .is-another .ensures _ _ _) ∙ not-false _ (c .before .before .before .before .before .if2 .left))
-    (c .before .before .refused .ensures _ _ g)
+    (c .before .before .refused .ensures .0 _ _ g)
+    (c .before .before .refused .ensures .1 _ _ g)
     _
     refl
 

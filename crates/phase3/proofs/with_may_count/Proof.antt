@@ -58,9 +58,9 @@ returns-2 c =
       s .pre .0 .1 .each (a .k) (omega (arith, g .low, g .above)) (g .high),
     ))
 
-refused-requires : tie.Need-refused-requires
-refused-requires c κs =
-    let s = c .before .before .before .before .before .before .before .before .before .before .before .before .before .before .before .before in
+refused-by-last-requires : tie.Need-refused-by-last-requires
+refused-by-last-requires c κs =
+    let s = c .before .before .before .before .before .before .before .before .before .before .before .before .before .before .before in
     let g = s .pre .0 .0 in
     let cell = cell-of (g .running .bounded) in (
       (testable (g .running) (g .budgets .places), g .limits, s .pre .0 .2),
@@ -72,10 +72,10 @@ same-length c = search needs
 
 returns-3 : tie.Need-returns-3
 returns-3 c =
-    let g = c .before .before .before .before .before .before .before .before .before .before .before .before .before .before .before .before .before .before .before .pre .0 .0 in
+    let g = c .before .before .before .before .before .before .before .before .before .before .before .before .before .before .before .before .before .before .pre .0 .0 in
     with-test g _ _ _ _
-    (sym (c .before .before .before .before .before .before .before .before .before .before .is-another .ensures _ _ _) ∙ not-false _ (c .before .before .before .before .before .before .before .before .before .if1 .left))
-    (c .before .before .refused .ensures _ _ g)
+    (sym (c .before .before .before .before .before .before .before .before .before .is-another .ensures _ _ _) ∙ not-false _ (c .before .before .before .before .before .before .before .before .if1 .left))
+    (c .before .before .refused-by-last .ensures _ _ g)
     _
     refl
 
@@ -92,6 +92,6 @@ with-may-count-spec =
     add-if2
     present-benefit-requires
     returns-2
-    refused-requires
+    refused-by-last-requires
     same-length
     returns-3)
