@@ -26,6 +26,17 @@ fn hold(d: District) -> Unit
     }
 }
 
+// What a call that is accepted comes to: the new district with its programme, whatever the unit was.
+fn accept(d: District) -> Reply
+    ensures { λ r. ⌜ ((u : Unit) → r ≡ answered u 0 d) ⌝ }
+{
+    let unit = hold(d);
+    Reply {
+        answer: Answer::Accepted(0),
+        unit,
+    }
+}
+
 // What a call that changes the district comes to: the refusal, or the new district with its programme.
 fn conclude(u: Unit, refusal: usize, d: District) -> Reply
     ensures { λ r. ⌜ r ≡ answered u refusal d ⌝ }
@@ -36,11 +47,7 @@ fn conclude(u: Unit, refusal: usize, d: District) -> Reply
             unit: u,
         };
     }
-    let unit = hold(d);
-    Reply {
-        answer: Answer::Accepted(0),
-        unit,
-    }
+    accept(d)
 }
 
 // The unit before the first call. The demands are stated of every call, every file and every list of calls on it.
@@ -70,11 +77,17 @@ pub fn load(u: Unit, bytes: &[u8]) -> Reply
     conclude(u, refusal, d)
 }
 
-// What a fresh unit makes of a file.
+// What a fresh unit makes of a file. It is worked out only where the file is refused.
 pub fn of_file(bytes: &[u8]) -> Reply
     ensures { λ r. ⌜ r ≡ loadOf freshUnit (now (bytes .entry)) ⌝ }
 {
-    load(fresh(), bytes)
+    let read = file::load(bytes);
+    let refusal = read.refusal;
+    let d = read.district;
+    if refusal == 0 {
+        return accept(d);
+    }
+    conclude(fresh(), refusal, d)
 }
 
 // Bar, unbar, set limit and set rating.

@@ -1,8 +1,7 @@
 -- `unit::conclude` meets its contract.
-use borrow.Author.Needs.{needs}
-use Rattle.rules.specs.Answers.{answerOf, accepting}
 use Rattle.rules.specs.Calls.{answered}
 use Rattle.unit.proofs.Refused.{answer-refused, old-kept}
+use borrow.Author.Needs.{needs}
 use Rattle.unit.proofs.conclude.Statement.{statement}
 use Rattle.unit.proofs.conclude.Tie as tie
 
@@ -10,9 +9,11 @@ returns : tie.Need-returns
 unfolding answered
 returns c = rw (answer-refused _ _ (c .if1 .taken), old-kept _ _ _ (c .if1 .taken))
 
+accept-requires : tie.Need-accept-requires
+accept-requires c κs = search needs
+
 returns-2 : tie.Need-returns-2
-unfolding answered answerOf accepting
-returns-2 c = rw (c .before .if1 .left, c .hold .ensures)
+returns-2 c = rw (c .before .if1 .left) (c .accept .ensures _)
 
 pub conclude-spec : {M : Type 1} → statement M
-conclude-spec = tie.close (tie.spec returns (λ c κs. search needs) returns-2)
+conclude-spec = tie.close (tie.spec returns accept-requires returns-2)
