@@ -6,32 +6,44 @@ use mathlib.Core.List.{List}
 use native.Mathlib.Nat.{zero-div, mul-le-mul}
 use native.Mathlib.Omega.{arith}
 use borrow.Author.Tests.{lt-ltb, le-ltb, le-leb, lt-leb}
-use lib.ListN.{getD}
+use lib.ListN.{getD, take, drop}
+use lib.Seq.{getD-take, getD-drop}
 use Rattle.base.specs.Over.{sum, best}
 use Rattle.base.proofs.Sums.{sum-next, sum-bound, sum-cong}
 use Rattle.base.proofs.All.{all-true, all-fails}
 use Rattle.base.proofs.Best.{best-next, better-passed, better-first, better-taken, better-worse}
+use Rattle.rules.specs.District.{mostResources}
 use Rattle.rules.specs.Table.{Table}
 use Rattle.rules.specs.Phases.{strategyAt, chosenBenefit, used, holds, within, chosenShare, surplus, pullBy, pull, pulls, ratio, lesserRatio, weakest}
 use Rattle.tables.specs.declared.Size.{Size}
-use Rattle.tables.specs.Arrays.{benefitAt, limitAt, tables, Chosen, Cell, Running}
+use Rattle.tables.specs.Arrays.{entry, benefitAt, limitAt, tables, Chosen, Cell, Running}
 use Rattle.tables.proofs.Arrays.{limit-at, cell-of}
 use Rattle.phase1.specs.declared.Weak.{Weak}
-use Rattle.phase1.specs.Reduce.{heldShare, heldPull, Shares, Measured, Surplus, Surpluses, weakAt, weakerOf}
+use Rattle.phase1.specs.Reduce.{heldShare, rowPull, heldPull, Shares, Measured, Surplus, Surpluses, weakAt, weakerOf}
 
 -- a turn adds a resource's part of the pull, which is 0 where there is no surplus
-module _ (s c over : List ℕ) (i r : ℕ) {so-far : ℕ} (is : so-far ≡ sum r (heldPull s c over i)) where
-  pub pull-turn : {v : ℕ} → v ≡ heldShare s c (r + 1) i → so-far + v * getD over r 0 ≡ sum (r + 1) (heldPull s c over i)
-  pull-turn {v} e =
+module _ (row over : List ℕ) (r : ℕ) {so-far : ℕ} (is : so-far ≡ sum r (rowPull row over)) where
+  pub pull-turn : so-far + getD row r 0 * getD over r 0 ≡ sum (r + 1) (rowPull row over)
+  pull-turn =
       let here : r + 1 - 1 ≡ r = omega arith in
-      let part : v * getD over r 0 ≡ heldPull s c over i (r + 1) = rw e (ap (λ (k : ℕ). heldShare s c (r + 1) i * getD over k 0) (sym here)) in
-      rw part (sum-next r (heldPull s c over i) is)
+      rw here at (sum-next r (rowPull row over) is)
 
-  pub pull-skip : getD over r 0 ≤ 0 → so-far ≡ sum (r + 1) (heldPull s c over i)
+  pub pull-skip : getD over r 0 ≤ 0 → so-far ≡ sum (r + 1) (rowPull row over)
   pull-skip h =
       let none : getD over r 0 ≡ 0 = omega arith in
-      let same = rw none at (pull-turn {v = heldShare s c (r + 1) i} refl) in
+      let same = rw none at pull-turn in
       omega arith
+
+-- an entry of a row
+pub row-at : (s : List ℕ) (at n r : ℕ) → r < n → getD (take n (drop at s)) r 0 ≡ getD s (at + r) 0
+row-at s at n r h = getD-take n (drop at s) r 0 h ∙ getD-drop at s r 0
+
+-- the row of segment i's strategy
+pub row-pull : (s c over : List ℕ) (i n m : ℕ) → n ≡ mostResources → m ≤ mostResources
+    → sum m (rowPull (take n (drop (mostResources * entry i (strategyAt c i)) s)) over) ≡ sum m (heldPull s c over i)
+row-pull s c over i n m e few =
+    sum-cong m (rowPull (take n (drop (mostResources * entry i (strategyAt c i)) s)) over) (heldPull s c over i)
+    (λ r low high. ap (λ (v : ℕ). v * getD over (r - 1) 0) (row-at s (mostResources * entry i (strategyAt c i)) n (r - 1) (omega arith)))
 
 -- ---- bounds
 
@@ -43,12 +55,12 @@ module _ {z : Size} {s c : List ℕ} (measured : Measured z s c) where
   shares-le r lr hr n h =
       omega (arith, sum-bound n 10_000 (heldShare s c r) (λ i li hi. measured .small i r li (omega arith) lr hr), measured .bounded .segments)
 
-  module _ (over : List ℕ) (few : (r : ℕ) → 1 ≤ r → r ≤ z .resources → getD over (r - 1) 0 ≤ 640_000) (i : ℕ) (li : 1 ≤ i) (hi : i ≤ z .segments) where
-    pub pull-le : (n : ℕ) → n ≤ z .resources → sum n (heldPull s c over i) ≤ 102_400_000_000
-    pull-le n h =
-        let each = sum-bound n 6_400_000_000 (heldPull s c over i)
-        (λ r lr hr. mul-le-mul {n₁ = heldShare s c r i} {m₁ = getD over (r - 1) 0} {n₂ = 10_000} {m₂ = 640_000} (measured .small i r li hi lr (omega arith)) (few r lr (omega arith))) in
-        omega (arith, measured .bounded .resources)
+pub pull-le : (row over : List ℕ) (m : ℕ) → m ≤ mostResources → ((r : ℕ) → 1 ≤ r → r ≤ m → getD row (r - 1) 0 ≤ 10_000) → ((r : ℕ) → 1 ≤ r → r ≤ m → getD over (r - 1) 0 ≤ 640_000)
+    → (n : ℕ) → n ≤ m → sum n (rowPull row over) ≤ 102_400_000_000
+pull-le row over m few small surplus-small n h =
+    let each = sum-bound n 6_400_000_000 (rowPull row over)
+    (λ r lr hr. mul-le-mul {n₁ = getD row (r - 1) 0} {m₁ = getD over (r - 1) 0} {n₂ = 10_000} {m₂ = 640_000} (small r lr (omega arith)) (surplus-small r lr (omega arith))) in
+    omega arith
 
 -- ---- what arrays of shares and surpluses say of a table
 

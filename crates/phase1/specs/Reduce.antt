@@ -24,6 +24,10 @@ heldShare s c r i = shareAt s i (strategyAt c i) r
 abbrev pub heldPull : List ℕ → List ℕ → List ℕ → ℕ → ℕ → ℕ
 heldPull s c over i r = heldShare s c r i * getD over (r - 1) 0
 
+-- the same by a row of shares, one for each resource
+abbrev pub rowPull : List ℕ → List ℕ → ℕ → ℕ
+rowPull row over r = getD row (r - 1) 0 * getD over (r - 1) 0
+
 -- an array of the table's shares
 pub record Shares (z : Size) (b u l s : List ℕ) : Type 0 where
   pub places : length s ≡ useEntries

@@ -17,7 +17,7 @@ ghost use Rattle.rules.specs.Phases.{
   phase1,
 };
 ghost use Rattle.tables.specs.Arrays.{usageAt, tables, Benefits, Uses, Limits, Bounded, Cell, Chosen, Running, useEntries};
-ghost use Rattle.phase1.specs.Reduce.{shareAt, heldShare, heldPull, Shares, Measured, Held, Surplus, Surpluses, IsWeaker, follows};
+ghost use Rattle.phase1.specs.Reduce.{shareAt, heldShare, rowPull, heldPull, Shares, Measured, Held, Surplus, Surpluses, IsWeaker, follows};
 use rules::places::MOST_RESOURCES;
 use rules::places::MOST_SEGMENTS;
 use tables::COLUMNS;
@@ -145,22 +145,31 @@ fn surpluses(
     over
 }
 
-// The pull of segment i: its shares times the surpluses. A resource without surplus adds nothing.
+// A row of shares times the surpluses. A resource without surplus adds nothing.
+fn pull_by(resources: usize, row: &[u64], over: &[u64; MOST_RESOURCES]) -> u64
+    requires { ⌜ (resources ≤ mostResources) × (length (now row) ≡ mostResources) ⌝ }
+    requires { ⌜ ((r : ℕ) → 1 ≤ r → r ≤ resources → getD (now row) (r - 1) 0 ≤ 10_000) × ((r : ℕ) → 1 ≤ r → r ≤ resources → getD (now over) (r - 1) 0 ≤ 640_000) ⌝ }
+    ensures { λ v. ⌜ v ≡ sum resources (rowPull (now (row .entry)) (now (over .entry))) ⌝ }
+{
+    let mut all: u64 = 0;
+    for r in 0..resources {
+        let beyond = over[r];
+        if beyond > 0 {
+            all += row[r] * beyond;
+        }
+    }
+    all
+}
+
+// The pull of segment i: the shares of its strategy times the surpluses.
 fn pull_of(z: Size, shares: &[u64], choice: &[usize], over: &[u64; MOST_RESOURCES], i: usize) -> u64
     requires { ⌜ Measured z (now shares) (now choice) ⌝ }
     requires { ⌜ ((r : ℕ) → 1 ≤ r → r ≤ z .resources → getD (now over) (r - 1) 0 ≤ 640_000) ⌝ }
     requires { ⌜ (1 ≤ i) × (i ≤ z .segments) ⌝ }
     ensures { λ v. ⌜ v ≡ sum (z .resources) (heldPull (now (shares .entry)) (now (choice .entry)) (now (over .entry)) i) ⌝ }
 {
-    let mut all: u64 = 0;
-    let resources = z.resources;
-    for r in 0..resources {
-        let beyond = over[r];
-        if beyond > 0 {
-            all += chosen_share(shares, choice, i, r + 1) * beyond;
-        }
-    }
-    all
+    let at = MOST_RESOURCES * (COLUMNS * (i - 1) + choice[i - 1]);
+    pull_by(z.resources, &shares[at..at + MOST_RESOURCES], over)
 }
 
 // What a benefit gives for a pull, in millionths.

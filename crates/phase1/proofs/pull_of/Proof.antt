@@ -1,69 +1,92 @@
--- `phase1::pull_of` meets its contract: the sum so far is that of the resources passed.
-use Prim.Native.Nat.{_+_, _-_, _≤_}
-use mathlib.Core.Path.{_≡_, _∙_}
-use mathlib.Core.Logic.{⊎-elim}
+-- `phase1::pull_of` meets its contract: a row of shares is lent.
+use Prim.Native.Nat.{_+_, _-_, _*_, _≤_}
+use mathlib.Core.Path.{_∙_}
 use native.Mathlib.Omega.{arith}
-use borrow.Author.Needs.{needs}
 use denote.Ref.{now}
-use Rattle.base.specs.Over.{sum}
-use Rattle.base.proofs.Sums.{sum-none, sum-end}
-use Rattle.phase1.specs.Reduce.{heldPull}
-use Rattle.phase1.proofs.Pulls.{chosen-cell, pull-turn, pull-skip, pull-le}
+use lib.ListN.{length, length-take, length-drop}
+use Rattle.rules.specs.District.{mostResources, mostStrategies}
+use Rattle.rules.specs.Phases.{strategyAt}
+use Rattle.tables.specs.Arrays.{entry}
+use Rattle.phase1.proofs.Pulls.{row-at, row-pull}
+use borrow.Author.Needs.{needs}
 use Rattle.phase1.proofs.pull_of.Statement.{statement}
 use Rattle.phase1.proofs.pull_of.Tie as tie
 
-abbrev Inv-loop : tie.InvT-loop
-Inv-loop shares choice over i all₀ resources r₀ all r = (r ≤ resources) × (all ≡ sum r (heldPull shares choice over i))
+-- the strategy's number
+number : (c : tie.Start) → strategyAt (now (c .args .choice)) (c .args .i) ≤ mostStrategies
+number c = omega (arith, c .pre .0 .chosen .numbers (c .args .i), c .pre .0 .bounded .strategies)
 
-abbrev μ-loop : tie.MeasureT-loop
-μ-loop shares choice over i all₀ resources r₀ all r = resources - r
+sub-at : tie.Need-sub-at
+sub-at c = search needs
 
-loop-holds : tie.Need-loop-holds Inv-loop μ-loop
-loop-holds c = (search needs, sum-none _)
+mul-at : tie.Need-mul-at
+mul-at c = search needs
 
-chosen-share-requires : tie.Need-chosen-share-requires Inv-loop μ-loop
-chosen-share-requires c κs = let s = c .before .before .before .before .before .before in
-    ((s .pre .0 .places, s .pre .0 .chosen .places), (chosen-cell (s .pre .0) (s .args .i) (s .pre .1 .1 .0) (s .pre .1 .1 .1), search needs, omega (arith, s .pre .0 .bounded .resources)))
+sub-at-2 : tie.Need-sub-at-2
+sub-at-2 c = search needs
 
-mul-all : tie.Need-mul-all Inv-loop μ-loop
-mul-all c = let s = c .before .before .before .before .before .before .before in
-    let l = c .before .before .before .before .loop in
-    let more = pull-turn (now (s .args .shares)) (now (s .args .choice)) (now (s .args .over)) (s .args .i) (l .r) (l .inv .1) (c .chosen-share .ensures) in
-    omega (arith, pull-le (s .pre .0) (now (s .args .over)) (s .pre .1 .0) (s .args .i) (s .pre .1 .1 .0) (s .pre .1 .1 .1) (l .r + 1) (omega arith))
+mul-at-2 : tie.Need-mul-at-2
+mul-at-2 c = search needs
 
-add-all : tie.Need-add-all Inv-loop μ-loop
-add-all c = let s = c .before .before .before .before .before .before .before in
-    let l = c .before .before .before .before .loop in
-    let more = pull-turn (now (s .args .shares)) (now (s .args .choice)) (now (s .args .over)) (s .args .i) (l .r) (l .inv .1) (c .chosen-share .ensures) in
-    omega (arith, pull-le (s .pre .0) (now (s .args .over)) (s .pre .1 .0) (s .args .i) (s .pre .1 .1 .0) (s .pre .1 .1 .1) (l .r + 1) (omega arith))
+shared-slice-read-at : tie.Need-shared-slice-read-at
+shared-slice-read-at c = search needs
 
-loop-again : tie.Need-loop-again Inv-loop μ-loop
-loop-again c = let a = c .before .before .before .before .before .before .args in
-    let l = c .before .before .before .loop in (
-      search needs,
-      ⊎-elim
-          (λ w. w .2 ∙ pull-turn (now (a .shares)) (now (a .choice)) (now (a .over)) (a .i) (l .r) (l .inv .1) (w .1 .ensures))
-          (λ w. w .1 ∙ pull-skip (now (a .shares)) (now (a .choice)) (now (a .over)) (a .i) (l .r) (l .inv .1) (w .0 .left))
-          (c .if1 .came),
+add-at : tie.Need-add-at
+add-at c = let s = c .before .before .before in omega (arith, number s, s .pre .1 .1 .0, s .pre .1 .1 .1, s .pre .0 .bounded .segments, s .pre .0 .places)
+
+mul-at-3 : tie.Need-mul-at-3
+mul-at-3 c = let s = c .before .before .before in omega (arith, number s, s .pre .1 .1 .0, s .pre .1 .1 .1, s .pre .0 .bounded .segments, s .pre .0 .places)
+
+add-pull-by : tie.Need-add-pull-by
+add-pull-by c = let s = c .before .before .before in omega (arith, number s, s .pre .1 .1 .0, s .pre .1 .1 .1, s .pre .0 .bounded .segments, s .pre .0 .places)
+
+mul-pull-by : tie.Need-mul-pull-by
+mul-pull-by c = let s = c .before .before .before in omega (arith, number s, s .pre .1 .1 .0, s .pre .1 .1 .1, s .pre .0 .bounded .segments, s .pre .0 .places)
+
+sub-pull-by : tie.Need-sub-pull-by
+sub-pull-by c = search needs
+
+part-pull-by-start : tie.Need-part-pull-by-start
+part-pull-by-start c = search needs
+
+part-pull-by-end : tie.Need-part-pull-by-end
+part-pull-by-end c = let s = c .before .before .before in omega (arith, number s, s .pre .1 .1 .0, s .pre .1 .1 .1, s .pre .0 .bounded .segments, s .pre .0 .places)
+
+pull-by-requires : tie.Need-pull-by-requires
+pull-by-requires c κs =
+    let s = c .before .before .before .before in
+    let a = s .args in
+    let at = mostResources * entry (a .i) (strategyAt (now (a .choice)) (a .i)) in
+    let long : at + mostResources ≤ length (now (a .shares)) = omega (arith, number s, s .pre .1 .1 .0, s .pre .1 .1 .1, s .pre .0 .bounded .segments, s .pre .0 .places) in (
+      (s .pre .0 .bounded .resources, simp (length-take, length-drop) (omega (arith, long))),
+      (
+        (λ r low high. rw (row-at (now (a .shares)) at (at + mostResources - at) (r - 1) (omega (arith, s .pre .0 .bounded .resources))) (s .pre .0 .small (a .i) r (s .pre .1 .1 .0) (s .pre .1 .1 .1) low high)),
+        s .pre .1 .0,
+      ),
     )
 
-returns : tie.Need-returns Inv-loop μ-loop
-returns c = sum-end _ _ _ (c .before .loop .inv .1) (c .before .loop .inv .0) (omega arith)
+returns : tie.Need-returns
+returns c =
+    let s = c .before .before .before .before .before in
+    let a = s .args in
+    let at = mostResources * entry (a .i) (strategyAt (now (a .choice)) (a .i)) in
+    c .pull-by .ensures ∙ row-pull (now (a .shares)) (now (a .choice)) (now (a .over)) (a .i) (at + mostResources - at) (a .z .resources) (omega arith) (s .pre .0 .bounded .resources)
 
 pub pull-of-spec : {M : Type 1} → statement M
 pull-of-spec =
     tie.close
     (tie.spec
-    Inv-loop
-    μ-loop
-    loop-holds
-    (λ c. search needs)
-    (λ c. search needs)
-    (λ c. search needs)
-    chosen-share-requires
-    mul-all
-    add-all
-    (λ c. search needs)
-    (λ c. search needs)
-    loop-again
+    sub-at
+    mul-at
+    sub-at-2
+    mul-at-2
+    shared-slice-read-at
+    add-at
+    mul-at-3
+    add-pull-by
+    mul-pull-by
+    sub-pull-by
+    part-pull-by-start
+    part-pull-by-end
+    pull-by-requires
     returns)
