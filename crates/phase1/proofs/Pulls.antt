@@ -2,24 +2,25 @@
 use Prim.Native.Nat.{ℕ, _+_, _-_, _*_, _/_, _≤_, _<_}
 use mathlib.Core.Path.{_≡_, refl, ap, sym, _∙_}
 use mathlib.Core.Bool.{true, false}
-use mathlib.Core.List.{List}
+use mathlib.Core.List.{List, []}
 use native.Mathlib.Nat.{zero-div, mul-le-mul}
 use native.Mathlib.Omega.{arith}
 use borrow.Author.Tests.{lt-ltb, le-ltb, le-leb, lt-leb}
-use lib.ListN.{getD, take, drop}
+use lib.ListN.{getD, length, take, drop}
 use lib.Seq.{getD-take, getD-drop}
 use Rattle.base.specs.Over.{sum, best}
-use Rattle.base.proofs.Sums.{sum-next, sum-bound, sum-cong}
+use Rattle.base.proofs.Sums.{sum-next, sum-part, sum-bound, sum-cong}
 use Rattle.base.proofs.All.{all-true, all-fails}
 use Rattle.base.proofs.Best.{best-next, better-passed, better-first, better-taken, better-worse}
 use Rattle.rules.specs.District.{mostResources}
 use Rattle.rules.specs.Table.{Table}
-use Rattle.rules.specs.Phases.{strategyAt, chosenBenefit, used, holds, within, chosenShare, surplus, pullBy, pull, pulls, ratio, lesserRatio, weakest}
+use Rattle.rules.specs.Phases.{strategyAt, give, chosenBenefit, used, holds, within, chosenShare, surplus, pullBy, pull, pulls, ratio, lesserRatio, weakest}
+use Rattle.laws.proofs.Give.{given, sum-give}
 use Rattle.tables.specs.declared.Size.{Size}
 use Rattle.tables.specs.Arrays.{entry, benefitAt, limitAt, tables, Chosen, Cell, Running}
 use Rattle.tables.proofs.Arrays.{limit-at, cell-of}
 use Rattle.phase1.specs.declared.Weak.{Weak}
-use Rattle.phase1.specs.Reduce.{heldShare, rowPull, heldPull, Shares, Measured, Surplus, Surpluses, weakAt, weakerOf}
+use Rattle.phase1.specs.Reduce.{shareAt, ShareSums, ShareMove, heldShare, rowPull, heldPull, Shares, Measured, Surplus, Surpluses, weakAt, weakerOf}
 
 -- a turn adds a resource's part of the pull, which is 0 where there is no surplus
 module _ (row over : List ℕ) (r : ℕ) {so-far : ℕ} (is : so-far ≡ sum r (rowPull row over)) where
@@ -120,6 +121,26 @@ module _ {z : Size} {l s c sums : List ℕ} (measured : Measured z s c) (r : ℕ
         small = omega (arith, shares-le measured r lr hr (z .segments) (omega arith));
         is = λ b u shares running. omega (arith, surplus-some running b l r lr hr h, chosen-shares-are shares (measured .chosen) r lr hr);
       }
+
+-- ---- the sums of shares, step by step
+
+module _ {z : Size} {s c held : List ℕ} (measured : Measured z s c) (are : ShareSums z s c held) (i a : ℕ) (li : 1 ≤ i) (hi : i ≤ z .segments) where
+  room : z .segments ≤ length c
+  room = omega (arith, measured .bounded .segments, measured .chosen .places)
+
+  -- segment i's next share is as small as those of the programme that has it
+  pub share-moves : Measured z s (give c i a) → (r : ℕ) → 1 ≤ r → r ≤ z .resources → ShareMove s held i (strategyAt c i) a r
+  share-moves next r lr hr =
+      let new : heldShare s (give c i a) r i ≡ shareAt s i a r = ap (λ (j : ℕ). shareAt s i j r) (given c i a li (omega (arith, room))) in
+      record {
+        holds = rw (are .each r lr hr) (sum-part (z .segments) (heldShare s c r) i li hi);
+        few = rw (are .each r lr hr) (shares-le measured r lr hr (z .segments) (omega arith));
+        small = omega (arith, new, next .small i r li hi lr hr);
+      }
+
+  pub shares-moved : {v : List ℕ} → ((r : ℕ) → 1 ≤ r → r ≤ z .resources → getD v (r - 1) 0 + shareAt s i (strategyAt c i) r ≡ getD held (r - 1) 0 + shareAt s i a r) → ShareSums z s (give c i a) v
+  shares-moved h =
+      record { each = λ r lr hr. omega (arith, h r lr hr, are .each r lr hr, sum-give (tables z [] [] []) c i a li hi room (λ k j. shareAt s k j r)) }
 
 -- ---- the weaker of two: w stands for segment k, and segment i is compared with it
 

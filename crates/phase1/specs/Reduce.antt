@@ -5,7 +5,7 @@ use mathlib.Core.List.{List}
 use mathlib.Core.Bool.{Bool, _&&_, _||_}
 use lib.Dec.{eqb, ltb}
 use lib.ListN.{getD, length}
-use Rattle.base.specs.Over.{betterOf}
+use Rattle.base.specs.Over.{sum, betterOf}
 use Rattle.rules.specs.Table.{Table}
 use Rattle.rules.specs.Phases.{strategyAt, share, surplus, pulls, ratio, lesserRatio}
 use Rattle.laws.specs.Tables.{FitAlone, OfCandidates}
@@ -50,6 +50,16 @@ pub record Held (z : Size) (b u l s c sums : List ℕ) : Type 0 where
   pub fit : FitAlone (tables z b u l)
   pub shares : Shares z b u l s
   pub candidates : OfCandidates (tables z b u l) c
+
+-- the shares of programme c in each resource, together
+pub record ShareSums (z : Size) (s c held : List ℕ) : Type 0 where
+  pub each : (r : ℕ) → 1 ≤ r → r ≤ z .resources → getD held (r - 1) 0 ≡ sum (z .segments) (heldShare s c r)
+
+-- bounds under which resource r's share of strategy x can go from the sum, and that of a come, without a wrap
+pub record ShareMove (s held : List ℕ) (i x a r : ℕ) : Type 0 where
+  pub holds : shareAt s i x r ≤ getD held (r - 1) 0
+  pub few : getD held (r - 1) 0 ≤ 640_000
+  pub small : shareAt s i a r ≤ 10_000
 
 -- v is the surplus of resource r in every table with these limits, shares and running sums
 pub record Surplus (z : Size) (l s c sums : List ℕ) (r v : ℕ) : Type 0 where

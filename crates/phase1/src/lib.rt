@@ -1,7 +1,7 @@
 // Phase 1: each segment takes its top candidate; while some limit does not hold, the weakest segment steps down.
 ghost use mathlib.Core.Path.{_≡_};
 ghost use mathlib.Core.List.{List};
-ghost use Prim.Native.Nat.{ℕ, _-_, _*_, _/_, _^_, _<_, _≤_};
+ghost use Prim.Native.Nat.{ℕ, _+_, _-_, _*_, _/_, _^_, _<_, _≤_};
 ghost use lib.ListN.{getD, length};
 ghost use Rattle.base.specs.Over.{sum};
 ghost use Rattle.rules.specs.District.{mostSegments, mostStrategies, mostResources};
@@ -17,7 +17,7 @@ ghost use Rattle.rules.specs.Phases.{
   phase1,
 };
 ghost use Rattle.tables.specs.Arrays.{usageAt, tables, Benefits, Uses, Limits, Bounded, Cell, Chosen, Running, useEntries};
-ghost use Rattle.phase1.specs.Reduce.{shareAt, heldShare, rowPull, heldPull, Shares, Measured, Held, Surplus, Surpluses, IsWeaker, follows};
+ghost use Rattle.phase1.specs.Reduce.{shareAt, ShareSums, ShareMove, heldShare, rowPull, heldPull, Shares, Measured, Held, Surplus, Surpluses, IsWeaker, follows};
 use rules::places::MOST_RESOURCES;
 use rules::places::MOST_SEGMENTS;
 use tables::COLUMNS;
@@ -103,23 +103,51 @@ fn shares_in(z: Size, shares: &[u64], choice: &[usize], r: usize) -> u64
     all
 }
 
-// The surplus of resource r: what its shares are beyond 10,000, where its limit does not hold.
-fn surplus_of(
-    z: Size,
-    limits: &[u64],
+// The shares of a programme in each resource, together.
+fn share_sums(z: Size, shares: &[u64], choice: &[usize]) -> [u64; MOST_RESOURCES]
+    requires { ⌜ Measured z (now shares) (now choice) ⌝ }
+    ensures { λ v. ⌜ ShareSums z (now (shares .entry)) (now (choice .entry)) v ⌝ }
+{
+    let mut each = [0u64; MOST_RESOURCES];
+    let resources = z.resources;
+    for r in 0..resources {
+        each[r] = shares_in(z, shares, choice, r + 1);
+    }
+    each
+}
+
+// The same after segment i goes from x to a.
+fn moved_shares(
+    resources: usize,
     shares: &[u64],
-    choice: &[usize],
-    sums: &[u64],
-    r: usize,
-) -> u64
-    requires { ⌜ Limits (now limits) × Measured z (now shares) (now choice) × (length (now sums) ≡ mostResources) ⌝ }
-    requires { ⌜ (1 ≤ r) × (r ≤ z .resources) ⌝ }
-    ensures { λ v. ⌜ Surplus z (now (limits .entry)) (now (shares .entry)) (now (choice .entry)) (now (sums .entry)) r v ⌝ }
+    held: &[u64; MOST_RESOURCES],
+    i: usize,
+    x: usize,
+    a: usize,
+) -> [u64; MOST_RESOURCES]
+    requires { ⌜ (resources ≤ mostResources) × (length (now shares) ≡ useEntries) × Cell i x × Cell i a ⌝ }
+    requires { ⌜ ((r : ℕ) → 1 ≤ r → r ≤ resources → ShareMove (now shares) (now held) i x a r) ⌝ }
+    ensures { λ v. ⌜ ((r : ℕ) → 1 ≤ r → r ≤ resources → getD v (r - 1) 0 + shareAt (now (shares .entry)) i x r ≡ getD (now (held .entry)) (r - 1) 0 + shareAt (now (shares .entry)) i a r) ⌝ }
+{
+    let mut each = [0u64; MOST_RESOURCES];
+    for r in 0..resources {
+        let less = shares[MOST_RESOURCES * (COLUMNS * (i - 1) + x) + r];
+        let more = shares[MOST_RESOURCES * (COLUMNS * (i - 1) + a) + r];
+        each[r] = held[r] - less + more;
+    }
+    each
+}
+
+// The surplus of resource r: what its shares are beyond 10,000, where its limit does not hold.
+fn surplus_of(limits: &[u64], sums: &[u64], held: &[u64; MOST_RESOURCES], r: usize) -> u64
+    requires { ⌜ Limits (now limits) × (length (now sums) ≡ mostResources) ⌝ }
+    requires { ⌜ (1 ≤ r) × (r ≤ mostResources) ⌝ }
+    ensures { λ v. ⌜ ((z : Size) (s c : List ℕ) → r ≤ z .resources → Measured z s c → ShareSums z s c (now (held .entry)) → Surplus z (now (limits .entry)) s c (now (sums .entry)) r v) ⌝ }
 {
     if sums[r - 1] <= limits[r - 1] {
         return 0;
     }
-    let all = shares_in(z, shares, choice, r);
+    let all = held[r - 1];
     if all <= 10000 {
         return 0;
     }
@@ -130,17 +158,16 @@ fn surplus_of(
 fn surpluses(
     z: Size,
     limits: &[u64],
-    shares: &[u64],
-    choice: &[usize],
     sums: &[u64],
+    held: &[u64; MOST_RESOURCES],
 ) -> [u64; MOST_RESOURCES]
-    requires { ⌜ Limits (now limits) × Measured z (now shares) (now choice) × (length (now sums) ≡ mostResources) ⌝ }
-    ensures { λ v. ⌜ ((r : ℕ) → 1 ≤ r → r ≤ z .resources → Surplus z (now (limits .entry)) (now (shares .entry)) (now (choice .entry)) (now (sums .entry)) r (getD v (r - 1) 0)) ⌝ }
+    requires { ⌜ (z .resources ≤ mostResources) × Limits (now limits) × (length (now sums) ≡ mostResources) ⌝ }
+    ensures { λ v. ⌜ ((s c : List ℕ) → Measured z s c → ShareSums z s c (now (held .entry)) → (r : ℕ) → 1 ≤ r → r ≤ z .resources → Surplus z (now (limits .entry)) s c (now (sums .entry)) r (getD v (r - 1) 0)) ⌝ }
 {
     let mut over = [0u64; MOST_RESOURCES];
     let resources = z.resources;
     for r in 0..resources {
-        over[r] = surplus_of(z, limits, shares, choice, sums, r + 1);
+        over[r] = surplus_of(limits, sums, held, r + 1);
     }
     over
 }
@@ -223,11 +250,12 @@ fn weakest_of(
     shares: &[u64],
     choice: &[usize],
     sums: &[u64],
+    held: &[u64; MOST_RESOURCES],
 ) -> usize
-    requires { ⌜ Benefits (now benefits) × Limits (now limits) × Measured z (now shares) (now choice) × (length (now sums) ≡ mostResources) ⌝ }
+    requires { ⌜ Benefits (now benefits) × Limits (now limits) × Measured z (now shares) (now choice) × (length (now sums) ≡ mostResources) × ShareSums z (now shares) (now choice) (now held) ⌝ }
     ensures { λ i. ⌜ ((u : List ℕ) → Shares z (now (benefits .entry)) u (now (limits .entry)) (now (shares .entry)) → Running z u (now (choice .entry)) (now (sums .entry)) → i ≡ weakest (tables z (now (benefits .entry)) u (now (limits .entry))) (now (choice .entry))) ⌝ }
 {
-    let over = surpluses(z, limits, shares, choice, sums);
+    let over = surpluses(z, limits, sums, held);
     let mut least = Weak {
         segment: 0,
         ratio: 0,
@@ -271,17 +299,21 @@ pub fn reduce(
     ensures { λ t m. ⌜ m ≡ phase1 t (now (choice .entry)) .count ⌝ }
 {
     let mut steps: u64 = 0;
+    let mut held = share_sums(z, shares, choice);
     let bound = (z.segments * z.strategies) as u64;
     while steps < bound {
         if limits_hold(z, limits, sums) {
             return steps;
         }
-        let i = weakest_of(z, benefits, limits, shares, choice, sums);
+        let i = weakest_of(z, benefits, limits, shares, choice, sums, &held);
         if i == 0 {
             return steps;
         }
-        let j = next_candidate(z, benefits, i, choice[i - 1]);
+        let x = choice[i - 1];
+        let j = next_candidate(z, benefits, i, x);
         tables::make_one(z, uses, choice, sums, i, j);
+        let moved = moved_shares(z.resources, shares, &held, i, x, j);
+        held = moved;
         steps += 1;
     }
     steps

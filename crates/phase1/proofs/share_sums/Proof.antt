@@ -1,0 +1,68 @@
+-- `phase1::share_sums` meets its contract: the sums passed are right.
+use Prim.Native.Nat.{ℕ, _-_, _≤_}
+use mathlib.Core.Path.{_≡_, refl}
+use native.Mathlib.Omega.{arith}
+use denote.Ref.{now}
+use lib.ListN.{length, getD, length-set}
+use Rattle.base.specs.Over.{sum}
+use Rattle.base.proofs.All.{each-none, each-set}
+use Rattle.rules.specs.District.{mostResources}
+use Rattle.phase1.specs.Reduce.{heldShare}
+use borrow.Author.Needs.{needs}
+use Rattle.phase1.proofs.share_sums.Statement.{statement}
+use Rattle.phase1.proofs.share_sums.Tie as tie
+
+abbrev Inv-loop : tie.InvT-loop
+Inv-loop z shares choice each₀ resources r₀ each r = (r ≤ resources) × (length each ≡ mostResources) × ((q : ℕ) → 1 ≤ q → q ≤ r → getD each (q - 1) 0 ≡ sum (z .segments) (heldShare shares choice q))
+
+abbrev μ-loop : tie.MeasureT-loop
+μ-loop z shares choice each₀ resources r₀ each r = resources - r
+
+loop-holds : tie.Need-loop-holds Inv-loop μ-loop
+loop-holds c = (search needs, refl, each-none _)
+
+add-shares-in : tie.Need-add-shares-in Inv-loop μ-loop
+add-shares-in c = search needs
+
+shares-in-requires : tie.Need-shares-in-requires Inv-loop μ-loop
+shares-in-requires c κs = search needs
+
+mul-each : tie.Need-mul-each Inv-loop μ-loop
+mul-each c = search needs
+
+array-write-each : tie.Need-array-write-each Inv-loop μ-loop
+array-write-each c = search needs
+
+add-r : tie.Need-add-r Inv-loop μ-loop
+add-r c = search needs
+
+loop-less : tie.Need-loop-less Inv-loop μ-loop
+loop-less c = search needs
+
+loop-again : tie.Need-loop-again Inv-loop μ-loop
+loop-again c =
+    let a = c .before .before .before .before .before .args in
+    let l = c .before .before .loop in (
+      search needs,
+      simp length-set (l .inv .1),
+      each-set (λ q v. v ≡ sum (a .z .segments) (heldShare (now (a .shares)) (now (a .choice)) q)) (l .each) (l .r) _ (omega arith) (l .inv .2) (c .shares-in .ensures),
+    )
+
+returns : tie.Need-returns Inv-loop μ-loop
+returns c = record { each = λ r low high. c .before .loop .inv .2 r low (omega arith) }
+
+pub share-sums-spec : {M : Type 1} → statement M
+share-sums-spec =
+    tie.close
+    (tie.spec
+    Inv-loop
+    μ-loop
+    loop-holds
+    add-shares-in
+    shares-in-requires
+    mul-each
+    array-write-each
+    add-r
+    loop-less
+    loop-again
+    returns)
