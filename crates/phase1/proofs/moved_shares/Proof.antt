@@ -21,54 +21,6 @@ abbrev μ-loop : tie.MeasureT-loop
 loop-holds : tie.Need-loop-holds Inv-loop μ-loop
 loop-holds c = (search needs, refl, each-none _)
 
-sub-less : tie.Need-sub-less Inv-loop μ-loop
-sub-less c = search needs
-
-mul-less : tie.Need-mul-less Inv-loop μ-loop
-mul-less c = search needs
-
-add-less : tie.Need-add-less Inv-loop μ-loop
-add-less c = search needs
-
-mul-less-2 : tie.Need-mul-less-2 Inv-loop μ-loop
-mul-less-2 c = search needs
-
-add-less-2 : tie.Need-add-less-2 Inv-loop μ-loop
-add-less-2 c = search needs
-
-mul-less-3 : tie.Need-mul-less-3 Inv-loop μ-loop
-mul-less-3 c = search needs
-
-shared-slice-read-less : tie.Need-shared-slice-read-less Inv-loop μ-loop
-shared-slice-read-less c = search needs
-
-sub-more : tie.Need-sub-more Inv-loop μ-loop
-sub-more c = search needs
-
-mul-more : tie.Need-mul-more Inv-loop μ-loop
-mul-more c = search needs
-
-add-more : tie.Need-add-more Inv-loop μ-loop
-add-more c = search needs
-
-mul-more-2 : tie.Need-mul-more-2 Inv-loop μ-loop
-mul-more-2 c = search needs
-
-add-more-2 : tie.Need-add-more-2 Inv-loop μ-loop
-add-more-2 c = search needs
-
-mul-more-3 : tie.Need-mul-more-3 Inv-loop μ-loop
-mul-more-3 c = search needs
-
-shared-slice-read-more : tie.Need-shared-slice-read-more Inv-loop μ-loop
-shared-slice-read-more c = search needs
-
-mul-each : tie.Need-mul-each Inv-loop μ-loop
-mul-each c = search needs
-
-element-copy-out-each : tie.Need-element-copy-out-each Inv-loop μ-loop
-element-copy-out-each c = search needs
-
 sub-each : tie.Need-sub-each Inv-loop μ-loop
 sub-each c =
     let s = c .before .before .before .before .before in
@@ -84,18 +36,6 @@ add-each c =
     let here : r + 1 - 1 ≡ r = omega arith in
     let m = s .pre .1 (r + 1) (omega arith) (omega arith) in
     omega (arith, rw here at (m .holds), rw here at (m .few), rw here at (m .small))
-
-mul-each-2 : tie.Need-mul-each-2 Inv-loop μ-loop
-mul-each-2 c = search needs
-
-array-write-each : tie.Need-array-write-each Inv-loop μ-loop
-array-write-each c = search needs
-
-add-r : tie.Need-add-r Inv-loop μ-loop
-add-r c = search needs
-
-loop-less : tie.Need-loop-less Inv-loop μ-loop
-loop-less c = search needs
 
 loop-again : tie.Need-loop-again Inv-loop μ-loop
 loop-again c =
@@ -122,27 +62,27 @@ moved-shares-spec =
     Inv-loop
     μ-loop
     loop-holds
-    sub-less
-    mul-less
-    add-less
-    mul-less-2
-    add-less-2
-    mul-less-3
-    shared-slice-read-less
-    sub-more
-    mul-more
-    add-more
-    mul-more-2
-    add-more-2
-    mul-more-3
-    shared-slice-read-more
-    mul-each
-    element-copy-out-each
+    (λ c. search needs)
+    (λ c. search needs)
+    (λ c. search needs)
+    (λ c. search needs)
+    (λ c. search needs)
+    (λ c. search needs)
+    (λ c. search needs)
+    (λ c. search needs)
+    (λ c. search needs)
+    (λ c. search needs)
+    (λ c. search needs)
+    (λ c. search needs)
+    (λ c. search needs)
+    (λ c. search needs)
+    (λ c. search needs)
+    (λ c. search needs)
     sub-each
     add-each
-    mul-each-2
-    array-write-each
-    add-r
-    loop-less
+    (λ c. search needs)
+    (λ c. search needs)
+    (λ c. search needs)
+    (λ c. search needs)
     loop-again
     returns)

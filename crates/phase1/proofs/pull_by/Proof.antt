@@ -21,18 +21,6 @@ abbrev μ-loop : tie.MeasureT-loop
 loop-holds : tie.Need-loop-holds Inv-loop μ-loop
 loop-holds c = (search needs, sum-none _)
 
-mul-beyond : tie.Need-mul-beyond Inv-loop μ-loop
-mul-beyond c = search needs
-
-element-copy-out-beyond : tie.Need-element-copy-out-beyond Inv-loop μ-loop
-element-copy-out-beyond c = search needs
-
-mul-all : tie.Need-mul-all Inv-loop μ-loop
-mul-all c = search needs
-
-shared-slice-read-all : tie.Need-shared-slice-read-all Inv-loop μ-loop
-shared-slice-read-all c = search needs
-
 mul-all-2 : tie.Need-mul-all-2 Inv-loop μ-loop
 mul-all-2 c =
     let s = c .before .before .before .before .before in
@@ -48,12 +36,6 @@ add-all c =
     let l = c .before .before .before .before .loop in
     let more = pull-turn (now (a .row)) (now (a .over)) (l .r) (l .inv .1) in
     omega (arith, more, pull-le (now (a .row)) (now (a .over)) (a .resources) (s .pre .0 .0) (s .pre .1 .0) (s .pre .1 .1) (l .r + 1) (omega arith))
-
-add-r : tie.Need-add-r Inv-loop μ-loop
-add-r c = search needs
-
-loop-less : tie.Need-loop-less Inv-loop μ-loop
-loop-less c = search needs
 
 loop-again : tie.Need-loop-again Inv-loop μ-loop
 loop-again c =
@@ -76,13 +58,13 @@ pull-by-spec =
     Inv-loop
     μ-loop
     loop-holds
-    mul-beyond
-    element-copy-out-beyond
-    mul-all
-    shared-slice-read-all
+    (λ c. search needs)
+    (λ c. search needs)
+    (λ c. search needs)
+    (λ c. search needs)
     mul-all-2
     add-all
-    add-r
-    loop-less
+    (λ c. search needs)
+    (λ c. search needs)
     loop-again
     returns)

@@ -16,21 +16,6 @@ use Rattle.phase1.proofs.pull_of.Tie as tie
 number : (c : tie.Start) → strategyAt (now (c .args .choice)) (c .args .i) ≤ mostStrategies
 number c = omega (arith, c .pre .0 .chosen .numbers (c .args .i), c .pre .0 .bounded .strategies)
 
-sub-at : tie.Need-sub-at
-sub-at c = search needs
-
-mul-at : tie.Need-mul-at
-mul-at c = search needs
-
-sub-at-2 : tie.Need-sub-at-2
-sub-at-2 c = search needs
-
-mul-at-2 : tie.Need-mul-at-2
-mul-at-2 c = search needs
-
-shared-slice-read-at : tie.Need-shared-slice-read-at
-shared-slice-read-at c = search needs
-
 add-at : tie.Need-add-at
 add-at c = let s = c .before .before .before in omega (arith, number s, s .pre .1 .1 .0, s .pre .1 .1 .1, s .pre .0 .bounded .segments, s .pre .0 .places)
 
@@ -42,12 +27,6 @@ add-pull-by c = let s = c .before .before .before in omega (arith, number s, s .
 
 mul-pull-by : tie.Need-mul-pull-by
 mul-pull-by c = let s = c .before .before .before in omega (arith, number s, s .pre .1 .1 .0, s .pre .1 .1 .1, s .pre .0 .bounded .segments, s .pre .0 .places)
-
-sub-pull-by : tie.Need-sub-pull-by
-sub-pull-by c = search needs
-
-part-pull-by-start : tie.Need-part-pull-by-start
-part-pull-by-start c = search needs
 
 part-pull-by-end : tie.Need-part-pull-by-end
 part-pull-by-end c = let s = c .before .before .before in omega (arith, number s, s .pre .1 .1 .0, s .pre .1 .1 .1, s .pre .0 .bounded .segments, s .pre .0 .places)
@@ -76,17 +55,17 @@ pub pull-of-spec : {M : Type 1} → statement M
 pull-of-spec =
     tie.close
     (tie.spec
-    sub-at
-    mul-at
-    sub-at-2
-    mul-at-2
-    shared-slice-read-at
+    (λ c. search needs)
+    (λ c. search needs)
+    (λ c. search needs)
+    (λ c. search needs)
+    (λ c. search needs)
     add-at
     mul-at-3
     add-pull-by
     mul-pull-by
-    sub-pull-by
-    part-pull-by-start
+    (λ c. search needs)
+    (λ c. search needs)
     part-pull-by-end
     pull-by-requires
     returns)

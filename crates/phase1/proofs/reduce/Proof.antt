@@ -52,9 +52,6 @@ same-length-4 c = c .before .before .before .before .before .before .before .bef
 returns-2 : tie.Need-returns-2 Inv-loop μ-loop
 returns-2 c = down-nobody (c .before .before .before .before .before .before .before .before .before .loop .inv .0) (c .before .before .before .before .before .before .limits-hold .ensures) (c .before .before .before .before .before .if1 .left) (c .before .weakest-of .ensures) (c .if2 .taken)
 
-sub-x : tie.Need-sub-x Inv-loop μ-loop
-sub-x c = search needs
-
 mul-x : tie.Need-mul-x Inv-loop μ-loop
 mul-x c = omega (arith, weakest-cell (c .before .before .before .before .before .before .before .before .before .loop .inv .0) (c .before .before .before .before .before .before .limits-hold .ensures) (c .before .before .before .before .before .if1 .left) (c .before .weakest-of .ensures) (c .if2 .left) .high)
 
@@ -83,9 +80,6 @@ moved-shares-requires c κs =
 
 add-steps : tie.Need-add-steps Inv-loop μ-loop
 add-steps c = omega (arith, c .before .before .before .before .before .before .before .before .before .before .before .before .before .before .before .before .before .before .before .loop-test .taken, bound-le (c .before .before .before .before .before .before .before .before .before .before .before .before .before .before .before .before .before .before .before .before .before .before .before .before .before .before .before .before .before .before .pre .running .bounded))
-
-loop-less : tie.Need-loop-less Inv-loop μ-loop
-loop-less c = search needs
 
 loop-again : tie.Need-loop-again Inv-loop μ-loop
 loop-again c =
@@ -123,14 +117,14 @@ reduce-spec =
     same-length-3
     same-length-4
     returns-2
-    sub-x
+    (λ c. search needs)
     mul-x
     slice-read-x
     next-candidate-requires
     make-one-requires
     moved-shares-requires
     add-steps
-    loop-less
+    (λ c. search needs)
     loop-again
     same-length-5
     same-length-6

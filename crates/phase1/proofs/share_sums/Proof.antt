@@ -21,24 +21,6 @@ abbrev μ-loop : tie.MeasureT-loop
 loop-holds : tie.Need-loop-holds Inv-loop μ-loop
 loop-holds c = (search needs, refl, each-none _)
 
-add-shares-in : tie.Need-add-shares-in Inv-loop μ-loop
-add-shares-in c = search needs
-
-shares-in-requires : tie.Need-shares-in-requires Inv-loop μ-loop
-shares-in-requires c κs = search needs
-
-mul-each : tie.Need-mul-each Inv-loop μ-loop
-mul-each c = search needs
-
-array-write-each : tie.Need-array-write-each Inv-loop μ-loop
-array-write-each c = search needs
-
-add-r : tie.Need-add-r Inv-loop μ-loop
-add-r c = search needs
-
-loop-less : tie.Need-loop-less Inv-loop μ-loop
-loop-less c = search needs
-
 loop-again : tie.Need-loop-again Inv-loop μ-loop
 loop-again c =
     let a = c .before .before .before .before .before .args in
@@ -58,11 +40,11 @@ share-sums-spec =
     Inv-loop
     μ-loop
     loop-holds
-    add-shares-in
-    shares-in-requires
-    mul-each
-    array-write-each
-    add-r
-    loop-less
+    (λ c. search needs)
+    (λ c κs. search needs)
+    (λ c. search needs)
+    (λ c. search needs)
+    (λ c. search needs)
+    (λ c. search needs)
     loop-again
     returns)

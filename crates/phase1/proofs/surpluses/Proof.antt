@@ -24,24 +24,6 @@ abbrev μ-loop : tie.MeasureT-loop
 loop-holds : tie.Need-loop-holds Inv-loop μ-loop
 loop-holds c = (search needs, refl, λ z s d few measured are. each-none _)
 
-add-surplus-of : tie.Need-add-surplus-of Inv-loop μ-loop
-add-surplus-of c = search needs
-
-surplus-of-requires : tie.Need-surplus-of-requires Inv-loop μ-loop
-surplus-of-requires c κs = search needs
-
-mul-over : tie.Need-mul-over Inv-loop μ-loop
-mul-over c = search needs
-
-array-write-over : tie.Need-array-write-over Inv-loop μ-loop
-array-write-over c = search needs
-
-add-r : tie.Need-add-r Inv-loop μ-loop
-add-r c = search needs
-
-loop-less : tie.Need-loop-less Inv-loop μ-loop
-loop-less c = search needs
-
 loop-again : tie.Need-loop-again Inv-loop μ-loop
 loop-again c =
     let a = c .before .before .before .before .before .args in
@@ -62,11 +44,11 @@ surpluses-spec =
     Inv-loop
     μ-loop
     loop-holds
-    add-surplus-of
-    surplus-of-requires
-    mul-over
-    array-write-over
-    add-r
-    loop-less
+    (λ c. search needs)
+    (λ c κs. search needs)
+    (λ c. search needs)
+    (λ c. search needs)
+    (λ c. search needs)
+    (λ c. search needs)
     loop-again
     returns)

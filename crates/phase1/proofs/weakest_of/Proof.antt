@@ -24,19 +24,10 @@ surpluses-requires c κs = let p = c .before .before .before .before .before .pr
 loop-holds : tie.Need-loop-holds Inv-loop μ-loop
 loop-holds c = (search needs, λ u shares running. weakest-none _ _ _ _ _)
 
-add-weaker : tie.Need-add-weaker Inv-loop μ-loop
-add-weaker c = search needs
-
 weaker-requires : tie.Need-weaker-requires Inv-loop μ-loop
 weaker-requires c κs =
     let p = c .before .before .before .before .before .before .before .before .before .pre in
     ((p .0, p .2), ((λ r lr hr. c .before .before .before .surpluses .ensures _ _ (p .2) (p .4) r lr hr .small), (search needs, search needs)))
-
-add-k : tie.Need-add-k Inv-loop μ-loop
-add-k c = search needs
-
-loop-less : tie.Need-loop-less Inv-loop μ-loop
-loop-less c = search needs
 
 loop-again : tie.Need-loop-again Inv-loop μ-loop
 loop-again c =
@@ -57,9 +48,9 @@ weakest-of-spec =
     μ-loop
     surpluses-requires
     loop-holds
-    add-weaker
+    (λ c. search needs)
     weaker-requires
-    add-k
-    loop-less
+    (λ c. search needs)
+    (λ c. search needs)
     loop-again
     returns)

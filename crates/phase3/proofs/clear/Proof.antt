@@ -17,26 +17,8 @@ Inv-loop resources row₀ r₀ row r = (r ≤ resources) × (length row ≡ rowP
 abbrev μ-loop : tie.MeasureT-loop
 μ-loop resources row₀ r₀ row r = resources - r
 
-slice-write-row : tie.Need-slice-write-row Inv-loop μ-loop
-slice-write-row c = search needs
-
 loop-holds : tie.Need-loop-holds Inv-loop μ-loop
 loop-holds c = (search needs, simp length-set (c .pre .1), getD-set-same (now (c .args .row)) 0 0 0 (omega (arith, c .pre .1)), each-none _)
-
-add-row : tie.Need-add-row Inv-loop μ-loop
-add-row c = search needs
-
-mul-row : tie.Need-mul-row Inv-loop μ-loop
-mul-row c = search needs
-
-slice-write-row-2 : tie.Need-slice-write-row-2 Inv-loop μ-loop
-slice-write-row-2 c = search needs
-
-add-r : tie.Need-add-r Inv-loop μ-loop
-add-r c = search needs
-
-loop-less : tie.Need-loop-less Inv-loop μ-loop
-loop-less c = search needs
 
 loop-again : tie.Need-loop-again Inv-loop μ-loop
 loop-again c =
@@ -49,9 +31,6 @@ loop-again c =
           (getD-set-same (l .row) (l .r + 1) _ 0 (omega (arith, l .inv .1))),
     )
 
-same-length : tie.Need-same-length Inv-loop μ-loop
-same-length c = search needs
-
 returns : tie.Need-returns Inv-loop μ-loop
 returns c = (c .before .loop .inv .1, c .before .loop .inv .2, λ r low high. c .before .loop .inv .3 r low (omega arith))
 
@@ -61,13 +40,13 @@ clear-spec =
     (tie.spec
     Inv-loop
     μ-loop
-    slice-write-row
+    (λ c. search needs)
     loop-holds
-    add-row
-    mul-row
-    slice-write-row-2
-    add-r
-    loop-less
+    (λ c. search needs)
+    (λ c. search needs)
+    (λ c. search needs)
+    (λ c. search needs)
+    (λ c. search needs)
     loop-again
-    same-length
+    (λ c. search needs)
     returns)

@@ -11,12 +11,6 @@ use borrow.Author.Needs.{needs}
 use Rattle.phase3.proofs.counts_two.Statement.{statement}
 use Rattle.phase3.proofs.counts_two.Tie as tie
 
-benefit-requires : tie.Need-benefit-requires
-benefit-requires c κs = search needs
-
-benefit-requires-2 : tie.Need-benefit-requires-2
-benefit-requires-2 c κs = search needs
-
 add-new : tie.Need-add-new
 add-new c =
     let s = c .before .before .before .before .before .before .before .before .before in
@@ -34,9 +28,6 @@ returns c =
     pair-low (s .pre .0 .0) _ _ _
     (omega (arith, c .before .present-benefit .ensures (a .z) (now (a .uses)) (now (a .limits)), c .before .before .benefit2 .ensures, c .before .before .before .benefit .ensures))
 
-is-another-requires : tie.Need-is-another-requires
-is-another-requires c κs = search needs
-
 returns-2 : tie.Need-returns-2
 returns-2 c = pair-same (c .before .before .before .before .before .before .before .before .before .before .before .before .before .pre .0 .0) _ _ _ (sym (c .before .is-another .ensures _ _ _) ∙ not-true _ (c .if2 .taken))
 
@@ -48,9 +39,6 @@ refused-requires c κs =
       (testable (g .running) (g .budgets .places), g .limits, s .pre .0 .1),
       ((cell _ _ (g .low) (omega (arith, g .above, g .high)) (s .pre .1 .0), cell _ _ (omega (arith, g .low, g .above)) (g .high) (s .pre .1 .1)), given-le g),
     )
-
-same-length : tie.Need-same-length
-same-length c = search needs
 
 returns-3 : tie.Need-returns-3
 returns-3 c =
@@ -70,13 +58,13 @@ pub counts-two-spec : {M : Type 1} → statement M
 counts-two-spec =
     tie.close
     (tie.spec
-    benefit-requires
-    benefit-requires-2
+    (λ c κs. search needs)
+    (λ c κs. search needs)
     add-new
     present-benefit-requires
     returns
-    is-another-requires
+    (λ c κs. search needs)
     returns-2
     refused-requires
-    same-length
+    (λ c. search needs)
     returns-3)

@@ -5,18 +5,6 @@ use borrow.Author.Needs.{needs}
 use Rattle.phase3.proofs.first_change.Statement.{statement}
 use Rattle.phase3.proofs.first_change.Tie as tie
 
-first-one-requires : tie.Need-first-one-requires
-first-one-requires c κs = search needs
-
-is-nothing-requires : tie.Need-is-nothing-requires
-is-nothing-requires c κs = search needs
-
-first-two-requires : tie.Need-first-two-requires
-first-two-requires c κs = search needs
-
-same-length : tie.Need-same-length
-same-length c = search needs
-
 returns : tie.Need-returns
 returns c =
     let e = c .before .before .first-two .ensures in
@@ -29,9 +17,9 @@ pub first-change-spec : {M : Type 1} → statement M
 first-change-spec =
     tie.close
     (tie.spec
-    first-one-requires
-    is-nothing-requires
-    first-two-requires
-    same-length
+    (λ c κs. search needs)
+    (λ c κs. search needs)
+    (λ c κs. search needs)
+    (λ c. search needs)
     returns
     returns-2)

@@ -41,48 +41,12 @@ returns c =
       p .5,
     )
 
-sub-at : tie.Need-sub-at
-sub-at c = search needs
-
-mul-at : tie.Need-mul-at
-mul-at c = search needs
-
-sub-at-2 : tie.Need-sub-at-2
-sub-at-2 c = search needs
-
-add-at : tie.Need-add-at
-add-at c = search needs
-
-mul-at-2 : tie.Need-mul-at-2
-mul-at-2 c = search needs
-
-add-holds-still : tie.Need-add-holds-still
-add-holds-still c = search needs
-
-mul-holds-still : tie.Need-mul-holds-still
-mul-holds-still c = search needs
-
-sub-holds-still : tie.Need-sub-holds-still
-sub-holds-still c = search needs
-
-part-holds-still-start : tie.Need-part-holds-still-start
-part-holds-still-start c = search needs
-
-part-holds-still-end : tie.Need-part-holds-still-end
-part-holds-still-end c = search needs
-
 mark-of-requires : tie.Need-mark-of-requires
 mark-of-requires c κs =
     let s = c .before .before .before .before .before .before .before .before .before .before .before .before .pre in
     let g = s .0 .2 in
     let from = from-cell g in
     (g .chosen .places, from _ (s .1 .0) (omega (arith, s .1 .1, s .1 .2)), from _ (omega (arith, s .1 .0, s .1 .1)) (s .1 .2))
-
-holds-still-requires : tie.Need-holds-still-requires
-holds-still-requires c κs = search needs
-
-same-length : tie.Need-same-length
-same-length c = search needs
 
 returns-2 : tie.Need-returns-2
 returns-2 c =
@@ -96,29 +60,11 @@ returns-2 c =
       p .5,
     )
 
-add-look : tie.Need-add-look
-add-look c = search needs
-
-mul-look : tie.Need-mul-look
-mul-look c = search needs
-
-sub-look : tie.Need-sub-look
-sub-look c = search needs
-
-part-look-start : tie.Need-part-look-start
-part-look-start c = search needs
-
-part-look-end : tie.Need-part-look-end
-part-look-end c = search needs
-
 look-requires : tie.Need-look-requires
 look-requires c κs =
     let s = c .before .before .before .before .before .before .before .before .before .before .before .before .before .before .before .before .before .pre in
     let p = s .0 in
     ((p .0, p .1, p .2, p .3, simp (length-take, length-drop) (omega (arith, p .5 .places, p .2 .bounded .segments, s .1 .0, s .1 .1, s .1 .2))), s .1)
-
-same-length-2 : tie.Need-same-length-2
-same-length-2 c = search needs
 
 returns-3 : tie.Need-returns-3
 returns-3 c =
@@ -140,25 +86,25 @@ first-of-pair-spec =
     (tie.spec
     pair-may-rise-requires
     returns
-    sub-at
-    mul-at
-    sub-at-2
-    add-at
-    mul-at-2
-    add-holds-still
-    mul-holds-still
-    sub-holds-still
-    part-holds-still-start
-    part-holds-still-end
+    (λ c. search needs)
+    (λ c. search needs)
+    (λ c. search needs)
+    (λ c. search needs)
+    (λ c. search needs)
+    (λ c. search needs)
+    (λ c. search needs)
+    (λ c. search needs)
+    (λ c. search needs)
+    (λ c. search needs)
     mark-of-requires
-    holds-still-requires
-    same-length
+    (λ c κs. search needs)
+    (λ c. search needs)
     returns-2
-    add-look
-    mul-look
-    sub-look
-    part-look-start
-    part-look-end
+    (λ c. search needs)
+    (λ c. search needs)
+    (λ c. search needs)
+    (λ c. search needs)
+    (λ c. search needs)
     look-requires
-    same-length-2
+    (λ c. search needs)
     returns-3)

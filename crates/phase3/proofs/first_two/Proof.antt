@@ -59,14 +59,8 @@ first-of-pair-requires c κs =
       (omega arith, omega arith, omega arith),
     )
 
-is-nothing-requires : tie.Need-is-nothing-requires Inv-loop μ-loop Inv-search μ-search
-is-nothing-requires c κs = search needs
-
 add-k-2 : tie.Need-add-k-2 Inv-loop μ-loop Inv-search μ-search
 add-k-2 c = omega (arith, c .before .before .before .before .before .before .before .before .before .before .before .before .before .before .before .before .before .before .before .before .before .pre .0 .2 .bounded .segments, c .before .before .before .before .before .before .before .before .loop-test .taken)
-
-loop-less : tie.Need-loop-less Inv-loop μ-loop Inv-search μ-search
-loop-less c = search needs
 
 loop-again : tie.Need-loop-again Inv-loop μ-loop Inv-search μ-search
 loop-again c =
@@ -77,9 +71,6 @@ loop-again c =
 
 add-i : tie.Need-add-i Inv-loop μ-loop Inv-search μ-search
 add-i c = omega (arith, c .before .before .before .before .before .before .before .before .before .before .before .before .before .pre .0 .2 .bounded .segments, c .before .before .search-test .taken)
-
-search-less : tie.Need-search-less Inv-loop μ-loop Inv-search μ-search
-search-less c = search needs
 
 search-again : tie.Need-search-again Inv-loop μ-loop Inv-search μ-search
 search-again c =
@@ -128,12 +119,12 @@ first-two-spec =
     loop-holds
     slice-aggregate-first-of-pair
     first-of-pair-requires
-    is-nothing-requires
+    (λ c κs. search needs)
     add-k-2
-    loop-less
+    (λ c. search needs)
     loop-again
     add-i
-    search-less
+    (λ c. search needs)
     search-again
     same-length
     returns

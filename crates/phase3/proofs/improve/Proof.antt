@@ -17,9 +17,6 @@ Inv-loop z benefits uses limits choice₀ sums₀ tops memory₀ changes₀ choi
 abbrev μ-loop : tie.MeasureT-loop
 μ-loop z benefits uses limits choice₀ sums₀ tops memory₀ changes₀ choice sums memory changes = 2 ^ 46 - changes
 
-slice-aggregate-fill-tops : tie.Need-slice-aggregate-fill-tops Inv-loop μ-loop
-slice-aggregate-fill-tops c = search needs
-
 fill-tops-requires : tie.Need-fill-tops-requires Inv-loop μ-loop
 fill-tops-requires c κs =
     let s = c .before .before .before .before .before .before .pre in
@@ -28,20 +25,11 @@ fill-tops-requires c κs =
 loop-holds : tie.Need-loop-holds Inv-loop μ-loop
 loop-holds c = (under-start _ _ _ (c .before .before .before .before .before .before .before .before .pre .2), memory-start _ memoryPlaces refl)
 
-slice-aggregate-first-change : tie.Need-slice-aggregate-first-change Inv-loop μ-loop
-slice-aggregate-first-change c = search needs
-
-slice-aggregate-first-change-2 : tie.Need-slice-aggregate-first-change-2 Inv-loop μ-loop
-slice-aggregate-first-change-2 c = search needs
-
 first-change-requires : tie.Need-first-change-requires Inv-loop μ-loop
 first-change-requires c κs =
     let p = c .before .before .before .before .before .before .before .before .before .before .before .before .before .pre in
     let l = c .before .before .before .before .loop in
     ((p .0, p .1, l .inv .0 .running), (c .before .before .before .before .before .before .fill-tops .ensures, l .inv .1))
-
-is-nothing-requires : tie.Need-is-nothing-requires Inv-loop μ-loop
-is-nothing-requires c κs = search needs
 
 same-length : tie.Need-same-length Inv-loop μ-loop
 same-length c = c .before .before .before .before .before .before .before .before .loop .inv .0 .running .chosen .places ∙ sym (c .before .before .before .before .before .before .before .before .before .before .before .before .before .before .before .before .before .pre .2 .chosen .places)
@@ -84,13 +72,13 @@ improve-spec =
     (tie.spec
     Inv-loop
     μ-loop
-    slice-aggregate-fill-tops
+    (λ c. search needs)
     fill-tops-requires
     loop-holds
-    slice-aggregate-first-change
-    slice-aggregate-first-change-2
+    (λ c. search needs)
+    (λ c. search needs)
     first-change-requires
-    is-nothing-requires
+    (λ c κs. search needs)
     same-length
     same-length-2
     returns

@@ -19,12 +19,6 @@ both-give-up-requires c κs =
       (from _ (s .1 .0) (omega (arith, s .1 .1, s .1 .2)), from _ (omega (arith, s .1 .0, s .1 .1)) (s .1 .2)),
     )
 
-clear-requires : tie.Need-clear-requires
-clear-requires c κs = search needs
-
-slice-aggregate-search-pair : tie.Need-slice-aggregate-search-pair
-slice-aggregate-search-pair c = search needs
-
 search-pair-requires : tie.Need-search-pair-requires
 search-pair-requires c κs =
     let s = c .before .before .before .before .before .before .before .before .before .before .before .before .before .before .before .pre in
@@ -32,18 +26,12 @@ search-pair-requires c κs =
     let e = c .before .before .before .before .before .clear .ensures in
     (g, s .0 .3, searching-start g (e .0) (e .1) (e .2))
 
-is-nothing-requires : tie.Need-is-nothing-requires
-is-nothing-requires c κs = search needs
-
 mark-of-requires : tie.Need-mark-of-requires
 mark-of-requires c κs =
     let s = c .before .before .before .before .before .before .before .before .before .before .before .before .before .before .before .before .before .before .before .before .pre in
     let g = s .0 .2 in
     let from = from-cell g in
     (g .chosen .places, from _ (s .1 .0) (omega (arith, s .1 .1, s .1 .2)), from _ (omega (arith, s .1 .0, s .1 .1)) (s .1 .2))
-
-slice-write-row : tie.Need-slice-write-row
-slice-write-row c = search needs
 
 same-length : tie.Need-same-length
 same-length c = simp length-set (c .before .before .before .before .before .search-pair .ensures .1 .0 .0 ∙ sym (c .before .before .before .before .before .before .before .before .before .before .before .before .before .before .before .before .before .before .before .before .before .pre .0 .4))
@@ -67,9 +55,6 @@ returns c =
       ),
     )
 
-same-length-2 : tie.Need-same-length-2
-same-length-2 c = search needs
-
 returns-2 : tie.Need-returns-2
 returns-2 c =
     let e = c .before .before .before .before .search-pair .ensures in
@@ -81,13 +66,13 @@ look-spec =
     tie.close
     (tie.spec
     both-give-up-requires
-    clear-requires
-    slice-aggregate-search-pair
+    (λ c κs. search needs)
+    (λ c. search needs)
     search-pair-requires
-    is-nothing-requires
+    (λ c κs. search needs)
     mark-of-requires
-    slice-write-row
+    (λ c. search needs)
     same-length
     returns
-    same-length-2
+    (λ c. search needs)
     returns-2)

@@ -10,17 +10,11 @@ use Rattle.phase3.proofs.refused_by_last.Tie as tie
 returns : tie.Need-returns
 returns c = λ p d g. refusal-none g _ _ _
 
-add-room-in : tie.Need-add-room-in
-add-room-in c = search needs
-
 room-in-requires : tie.Need-room-in-requires
 room-in-requires c κs = let s = c .before .before .before .before .before .before .before .pre in (testable-part _ _ (s .0 .0) (omega arith), (s .1 .0 .0, s .1 .0 .1, omega arith))
 
 returns-2 : tie.Need-returns-2
 returns-2 c = λ p d g. refusal-none g _ _ _
-
-add-note : tie.Need-add-note
-add-note c = search needs
 
 note-requires : tie.Need-note-requires
 note-requires c κs =
@@ -28,9 +22,6 @@ note-requires c κs =
       (s .0 .0 .uses, s .0 .1, s .0 .0 .budgets-length, s .0 .2),
       ((s .1 .0 .0, s .1 .0 .1, omega arith, omega (arith, s .0 .0 .few)), s .1 .1 _ (omega arith) (omega arith)),
     )
-
-same-length : tie.Need-same-length
-same-length c = search needs
 
 returns-3 : tie.Need-returns-3
 returns-3 c =
@@ -42,10 +33,10 @@ refused-by-last-spec =
     tie.close
     (tie.spec
     returns
-    add-room-in
+    (λ c. search needs)
     room-in-requires
     returns-2
-    add-note
+    (λ c. search needs)
     note-requires
-    same-length
+    (λ c. search needs)
     returns-3)

@@ -56,9 +56,6 @@ counts-two-requires c κs =
 add-b : tie.Need-add-b Inv-loop μ-loop Inv-search μ-search
 add-b c = omega (arith, c .before .before .before .before .before .before .before .before .before .before .before .before .before .before .before .before .before .before .before .before .before .before .before .before .before .pre .0 .running .bounded .strategies, c .before .before .before .before .before .before .loop-test .taken)
 
-loop-less : tie.Need-loop-less Inv-loop μ-loop Inv-search μ-search
-loop-less c = search needs
-
 loop-again : tie.Need-loop-again Inv-loop μ-loop Inv-search μ-search
 loop-again c =
     let q = c .before .before .before .counts-two .ensures in
@@ -71,9 +68,6 @@ loop-again c =
 
 add-a : tie.Need-add-a Inv-loop μ-loop Inv-search μ-search
 add-a c = omega (arith, c .before .before .before .before .before .before .before .before .before .before .before .before .before .before .before .before .before .pre .0 .running .bounded .strategies, c .before .before .before .before .before .before .search-test .taken)
-
-search-less : tie.Need-search-less Inv-loop μ-loop Inv-search μ-search
-search-less c = search needs
 
 search-again : tie.Need-search-again Inv-loop μ-loop Inv-search μ-search
 search-again c =
@@ -133,10 +127,10 @@ search-pair-spec =
     loop-holds
     counts-two-requires
     add-b
-    loop-less
+    (λ c. search needs)
     loop-again
     add-a
-    search-less
+    (λ c. search needs)
     search-again
     same-length
     returns

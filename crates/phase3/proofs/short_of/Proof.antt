@@ -18,14 +18,8 @@ Inv-loop resources uses sums given i a k b asked r₀ r = (r ≤ resources) × (
 abbrev μ-loop : tie.MeasureT-loop
 μ-loop resources uses sums given i a k b asked r₀ r = resources - r
 
-add-room-in : tie.Need-add-room-in Inv-loop μ-loop
-add-room-in c = search needs
-
 room-in-requires : tie.Need-room-in-requires Inv-loop μ-loop
 room-in-requires c κs = let s = c .before .before .before .before in (testable-part _ _ (s .pre .0) (omega arith), (s .pre .1 .0, s .pre .1 .1, omega arith))
-
-add-result : tie.Need-add-result Inv-loop μ-loop
-add-result c = search needs
 
 returns : tie.Need-returns Inv-loop μ-loop
 returns c = record { number = omega arith; none-short = λ e. absurd (omega arith); no-room = λ l. sym (c .before .room-in .ensures) ∙ not-true _ (c .if2 .taken) }
@@ -33,23 +27,11 @@ returns c = record { number = omega arith; none-short = λ e. absurd (omega arit
 loop-holds : tie.Need-loop-holds Inv-loop μ-loop
 loop-holds c = (search needs, all-none _)
 
-add-room-in-2 : tie.Need-add-room-in-2 Inv-loop μ-loop
-add-room-in-2 c = search needs
-
 room-in-requires-2 : tie.Need-room-in-requires-2 Inv-loop μ-loop
 room-in-requires-2 c κs = let s = c .before .before .before .before .before .before in (testable-part _ _ (s .pre .0) (omega arith), (s .pre .1 .0, s .pre .1 .1, omega arith))
 
-add-result-2 : tie.Need-add-result-2 Inv-loop μ-loop
-add-result-2 c = search needs
-
 returns-2 : tie.Need-returns-2 Inv-loop μ-loop
 returns-2 c = record { number = omega arith; none-short = λ e. absurd (omega arith); no-room = λ l. sym (c .before .room-in2 .ensures) ∙ not-true _ (c .if3 .taken) }
-
-add-r : tie.Need-add-r Inv-loop μ-loop
-add-r c = search needs
-
-loop-less : tie.Need-loop-less Inv-loop μ-loop
-loop-less c = search needs
 
 loop-again : tie.Need-loop-again Inv-loop μ-loop
 loop-again c = (search needs, all-next _ _ (c .before .before .before .loop .inv .1) (sym (c .before .room-in2 .ensures) ∙ not-false _ (c .if3 .left)))
@@ -63,16 +45,16 @@ short-of-spec =
     (tie.spec
     Inv-loop
     μ-loop
-    add-room-in
+    (λ c. search needs)
     room-in-requires
-    add-result
+    (λ c. search needs)
     returns
     loop-holds
-    add-room-in-2
+    (λ c. search needs)
     room-in-requires-2
-    add-result-2
+    (λ c. search needs)
     returns-2
-    add-r
-    loop-less
+    (λ c. search needs)
+    (λ c. search needs)
     loop-again
     returns-3)

@@ -20,20 +20,8 @@ abbrev μ-loop : tie.MeasureT-loop
 loop-holds : tie.Need-loop-holds Inv-loop μ-loop
 loop-holds c = (search needs, refl, each-none _)
 
-mul-each : tie.Need-mul-each Inv-loop μ-loop
-mul-each c = search needs
-
-shared-slice-read-each : tie.Need-shared-slice-read-each Inv-loop μ-loop
-shared-slice-read-each c = search needs
-
 add-each : tie.Need-add-each Inv-loop μ-loop
 add-each c = omega (arith, c .before .before .before .pre .0 .1 .small (c .before .before .loop .r))
-
-mul-each-2 : tie.Need-mul-each-2 Inv-loop μ-loop
-mul-each-2 c = search needs
-
-shared-slice-read-each-2 : tie.Need-shared-slice-read-each-2 Inv-loop μ-loop
-shared-slice-read-each-2 c = search needs
 
 sub-each : tie.Need-sub-each Inv-loop μ-loop
 sub-each c =
@@ -42,18 +30,6 @@ sub-each c =
     let here : r + 1 - 1 ≡ r = omega arith in
     let small : getD (now (s .args .sums)) r 0 ≤ 2 ^ 47 = rw here at (s .pre .1 (r + 1) (omega arith) (omega arith)) in
     omega (arith, small)
-
-mul-each-3 : tie.Need-mul-each-3 Inv-loop μ-loop
-mul-each-3 c = search needs
-
-array-write-each : tie.Need-array-write-each Inv-loop μ-loop
-array-write-each c = search needs
-
-add-r : tie.Need-add-r Inv-loop μ-loop
-add-r c = search needs
-
-loop-less : tie.Need-loop-less Inv-loop μ-loop
-loop-less c = search needs
 
 loop-again : tie.Need-loop-again Inv-loop μ-loop
 loop-again c =
@@ -78,15 +54,15 @@ slacks-of-spec =
     Inv-loop
     μ-loop
     loop-holds
-    mul-each
-    shared-slice-read-each
+    (λ c. search needs)
+    (λ c. search needs)
     add-each
-    mul-each-2
-    shared-slice-read-each-2
+    (λ c. search needs)
+    (λ c. search needs)
     sub-each
-    mul-each-3
-    array-write-each
-    add-r
-    loop-less
+    (λ c. search needs)
+    (λ c. search needs)
+    (λ c. search needs)
+    (λ c. search needs)
     loop-again
     returns)

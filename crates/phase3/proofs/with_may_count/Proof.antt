@@ -11,23 +11,8 @@ use borrow.Author.Needs.{needs}
 use Rattle.phase3.proofs.with_may_count.Statement.{statement}
 use Rattle.phase3.proofs.with_may_count.Tie as tie
 
-is-another-requires : tie.Need-is-another-requires
-is-another-requires c κs = search needs
-
 returns : tie.Need-returns
 returns c = with-same (c .before .before .before .before .before .before .before .before .before .before .pre .0 .0) _ _ (sym (c .before .is-another .ensures _ _ _) ∙ not-true _ (c .if1 .taken))
-
-benefit-requires : tie.Need-benefit-requires
-benefit-requires c κs = search needs
-
-sub-if2 : tie.Need-sub-if2
-sub-if2 c = search needs
-
-mul-if2 : tie.Need-mul-if2
-mul-if2 c = search needs
-
-shared-slice-read-if2 : tie.Need-shared-slice-read-if2
-shared-slice-read-if2 c = search needs
 
 add-if2 : tie.Need-add-if2
 add-if2 c =
@@ -67,9 +52,6 @@ refused-by-last-requires c κs =
       ((cell _ _ (g .low) (omega (arith, g .above, g .high)) (s .pre .1), cell _ _ (omega (arith, g .low, g .above)) (g .high) (omega arith)), given-le g),
     )
 
-same-length : tie.Need-same-length
-same-length c = search needs
-
 returns-3 : tie.Need-returns-3
 returns-3 c =
     let g = c .before .before .before .before .before .before .before .before .before .before .before .before .before .before .before .before .before .before .pre .0 .0 in
@@ -83,15 +65,15 @@ pub with-may-count-spec : {M : Type 1} → statement M
 with-may-count-spec =
     tie.close
     (tie.spec
-    is-another-requires
+    (λ c κs. search needs)
     returns
-    benefit-requires
-    sub-if2
-    mul-if2
-    shared-slice-read-if2
+    (λ c κs. search needs)
+    (λ c. search needs)
+    (λ c. search needs)
+    (λ c. search needs)
     add-if2
     present-benefit-requires
     returns-2
     refused-by-last-requires
-    same-length
+    (λ c. search needs)
     returns-3)
