@@ -7,7 +7,7 @@
 //! 4 set limit, 5 set rating, 6 a show; 8 a page, whose first number is its
 //! room, cut to that of the longest page; 9 why; 10 an index reading and 11 a
 //! mile marker, whose first number is the record's bits; 12 a lost sample; 13
-//! roughness. Of why and of roughness only the refusal is answered. Survey
+//! roughness; 14 set leader. Of why and of roughness only the refusal is answered. Survey
 //! points, 7, change nothing and count as a show, as does any other kind.
 //! The list ends where no whole call is left.
 
@@ -34,6 +34,7 @@ pub enum Call {
     Marker(u32),
     Lost,
     Roughness,
+    SetLeader(u32, u32),
 }
 
 impl Call {
@@ -59,6 +60,7 @@ impl Call {
             Call::Marker(bits) => head(11, [*bits, 0, 0]),
             Call::Lost => head(12, [0; 3]),
             Call::Roughness => head(13, [0; 3]),
+            Call::SetLeader(i, leader) => head(14, [*i, *leader, 0]),
         }
     }
 
@@ -82,6 +84,7 @@ impl Call {
             11 => Call::Marker(a),
             12 => Call::Lost,
             13 => Call::Roughness,
+            14 => Call::SetLeader(a, b),
             _ => Call::Show,
         };
         Some((call, rest))
@@ -102,6 +105,7 @@ impl Call {
             Call::Marker(bits) => unit.marker(*bits),
             Call::Lost => unit.lost(),
             Call::Roughness => unit.roughness().map(|_| ()),
+            Call::SetLeader(i, leader) => unit.set_leader((*i).into(), (*leader).into()),
         }
     }
 }

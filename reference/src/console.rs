@@ -11,7 +11,7 @@
 //!   command, even a blank one, unless it begins with `#`.
 //! - The last line may lack its line feed.
 //! - A load reads at most 4,096 bytes of its file. No valid file is longer
-//!   than 3,788, so a cut file is refused on what was read.
+//!   than 3,852, so a cut file is refused on what was read.
 //! - An export is written to PATH with `.new` behind it, then renamed. Whatever
 //!   goes wrong on the way answers `cannot write`, and the new file is removed.
 
@@ -133,6 +133,7 @@ fn obey(unit: &mut Unit, line: &[u8], base: &Path) -> Option<Vec<u8>> {
         (b"unbar", &[i, j]) => unit.unbar(i, j),
         (b"limit", &[r, v]) => unit.set_limit(r, v),
         (b"rating", &[i, k, v]) => unit.set_rating(i, k, v),
+        (b"leader", &[i, leader]) => unit.set_leader(i, leader),
         (b"index", &[bits]) => unit.index(u32::try_from(bits).ok()?),
         (b"marker", &[bits]) => unit.marker(u32::try_from(bits).ok()?),
         (b"lost", []) => unit.lost(),

@@ -68,6 +68,9 @@ pub struct Segment {
     pub bars: u16,
     /// Current rating for each distress type.
     pub ratings: Vec<u8>,
+    /// The segment without which this one gets nothing: a number from 1, lower
+    /// than its own, or 0 for none.
+    pub leader: u8,
 }
 
 impl District {
@@ -82,5 +85,9 @@ impl District {
             types: vec![PavementType { overall: 0, minimum: vec![0] }],
             segments: Vec::new(),
         }
+    }
+
+    pub fn has_leaders(&self) -> bool {
+        self.segments.iter().any(|segment| segment.leader > 0)
     }
 }

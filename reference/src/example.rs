@@ -180,6 +180,7 @@ pub fn district() -> District {
             width,
             bars: WITHHELD | WITHHELD_ON_TYPE[usize::from(pavement) - 1],
             ratings: ratings.to_vec(),
+            leader: 0,
         })
         .collect();
     // In hundredths of a mile-foot.

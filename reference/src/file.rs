@@ -1,16 +1,27 @@
 //! The district file: records of a length, a kind and a payload.
+//!
+//! There are two forms. Where the first record has kind 8 and not 1, each
+//! segment has its leader behind its ratings.
 
 use crate::district::*;
 use crate::refusal::Refusal;
 
 /// No valid file is longer.
-pub const LONGEST: usize = 3_788;
+pub const LONGEST: usize = 3_852;
+
+/// No valid file without leaders is longer.
+pub const LONGEST_PLAIN: usize = 3_788;
+
+/// The kind of the first record, in a file without leaders and in one with them.
+const PLAIN: u16 = 1;
+const LED: u16 = 8;
 
 /// A district from any bytes, or the first ground for refusal, record by record.
 pub fn decode(bytes: &[u8]) -> Result<District, Refusal> {
     let mut records = Records { rest: bytes };
 
-    let counts = records.next(1, 6)?;
+    let (form, counts) = records.next_of(&[PLAIN, LED], 6)?;
+    let led = form == LED;
     let most = [
         (0, MOST_SEGMENTS),
         (1, MOST_STRATEGIES),
@@ -58,8 +69,8 @@ pub fn decode(bytes: &[u8]) -> Result<District, Refusal> {
     }
 
     let mut segments = Vec::with_capacity(n);
-    for _ in 0..n {
-        let payload = records.next(6, 10 + d)?;
+    for number in 1..=n {
+        let payload = records.next(6, 10 + d + usize::from(led))?;
         let segment = Segment {
             pavement: payload[0],
             traffic: two(&payload[1..3]),
@@ -67,7 +78,8 @@ pub fn decode(bytes: &[u8]) -> Result<District, Refusal> {
             length: two(&payload[5..7]),
             width: payload[7],
             bars: two(&payload[8..10]),
-            ratings: payload[10..].to_vec(),
+            ratings: payload[10..10 + d].to_vec(),
+            leader: if led { payload[10 + d] } else { 0 },
         };
         need((1..=y).contains(&usize::from(segment.pavement)))?;
         need((INDEX_LEAST..=INDEX_MOST).contains(&segment.traffic))?;
@@ -76,6 +88,7 @@ pub fn decode(bytes: &[u8]) -> Result<District, Refusal> {
         need((1..=WIDTH_MOST).contains(&segment.width))?;
         need(segment.bars >> s == 0)?;
         need(segment.ratings.iter().zip(&greatest).all(|(rating, most)| rating <= most))?;
+        need(usize::from(segment.leader) < number)?;
         segments.push(segment);
     }
 
@@ -87,8 +100,19 @@ pub fn decode(bytes: &[u8]) -> Result<District, Refusal> {
     Ok(District { years: t, limits, greatest, strategies, types, segments })
 }
 
-/// The file of a district. Decoding it gives the same district back.
+/// The file of a district, with leaders only where one is set. Decoding it
+/// gives the same district back.
 pub fn encode(district: &District) -> Vec<u8> {
+    encode_as(district, if district.has_leaders() { LED } else { PLAIN })
+}
+
+/// The file of a district with leaders, also where all of them are 0, a form
+/// that is read but never written by an export.
+pub fn encode_led(district: &District) -> Vec<u8> {
+    encode_as(district, LED)
+}
+
+fn encode_as(district: &District, form: u16) -> Vec<u8> {
     let mut out = Vec::with_capacity(LONGEST);
     let counts = [
         district.segments.len(),
@@ -98,7 +122,7 @@ pub fn encode(district: &District) -> Vec<u8> {
         district.types.len(),
         district.limits.len(),
     ];
-    record(&mut out, 1, &counts.map(|count| count as u8));
+    record(&mut out, form, &counts.map(|count| count as u8));
     record(&mut out, 2, &fours(&district.limits));
     record(&mut out, 3, &district.greatest);
     for strategy in &district.strategies {
@@ -120,6 +144,9 @@ pub fn encode(district: &District) -> Vec<u8> {
         payload.push(segment.width);
         payload.extend(segment.bars.to_le_bytes());
         payload.extend(&segment.ratings);
+        if form == LED {
+            payload.push(segment.leader);
+        }
         record(&mut out, 6, &payload);
     }
     record(&mut out, 7, &[]);
@@ -134,11 +161,17 @@ struct Records<'a> {
 impl<'a> Records<'a> {
     /// The payload of the next record, which must be of this kind and length.
     fn next(&mut self, kind: u16, length: usize) -> Result<&'a [u8], Refusal> {
+        self.next_of(&[kind], length).map(|(_, payload)| payload)
+    }
+
+    /// The same where any of some kinds is due: which one it is, and the payload.
+    fn next_of(&mut self, kinds: &[u16], length: usize) -> Result<(u16, &'a [u8]), Refusal> {
         if self.rest.len() < 4 {
             return Err(Refusal::FileEnds);
         }
         let (head, rest) = self.rest.split_at(4);
-        if two(&head[2..]) != kind {
+        let kind = two(&head[2..]);
+        if !kinds.contains(&kind) {
             return Err(Refusal::Kind);
         }
         if usize::from(two(head)) != length {
@@ -149,7 +182,7 @@ impl<'a> Records<'a> {
         }
         let (payload, rest) = rest.split_at(length);
         self.rest = rest;
-        Ok(payload)
+        Ok((kind, payload))
     }
 }
 

@@ -10,6 +10,7 @@ pub mod district;
 pub mod example;
 pub mod file;
 pub mod frames;
+pub mod leaders;
 pub mod listing;
 pub mod lists;
 pub mod make;

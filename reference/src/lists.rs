@@ -15,7 +15,7 @@ pub fn any_list(random: &mut Random) -> Vec<u8> {
         return random.bytes(length);
     }
     let count = random.size(0, 40);
-    let mut calls = list(random, count);
+    let mut calls = list(random, count, true);
     if random.chance(20) {
         let count = random.size(1, 200);
         calls.extend(records(random, count));
@@ -27,9 +27,9 @@ pub fn any_list(random: &mut Random) -> Vec<u8> {
     bytes
 }
 
-/// A list of so many calls over small districts; the first is a load more
-/// often than not.
-pub fn list(random: &mut Random, count: usize) -> Vec<Call> {
+/// A list of so many calls over small districts, in half of which leaders are
+/// set, or without leaders; the first is a load more often than not.
+pub fn list(random: &mut Random, count: usize, leaders: bool) -> Vec<Call> {
     let mut held = District::fresh();
     (0..count)
         .map(|at| {
@@ -37,19 +37,36 @@ pub fn list(random: &mut Random, count: usize) -> Vec<Call> {
             if load {
                 let shape = make::small_shape(random, 8, 4);
                 held = make::district(random, shape);
+                if leaders && random.chance(50) {
+                    make::set_leaders(random, &mut held);
+                }
                 return Call::Load(file::encode(&held));
             }
-            call(random, &held)
+            if leaders && random.chance(15) {
+                return set_leader(random, held.segments.len());
+            }
+            call(random, &held, leaders)
         })
         .collect()
 }
 
-/// Any call on a unit that holds, most likely, a district of this shape.
-fn call(random: &mut Random, held: &District) -> Call {
+/// Any lower number as a leader, now and then one that is not lower.
+fn set_leader(random: &mut Random, segments: usize) -> Call {
+    let segment = number(random, segments);
+    let leader = match random.below(10) {
+        0 => segment,
+        1 => *random.pick(&[0, 1, 63, 64, 256, u32::MAX]),
+        _ => random.below(u64::from(segment.max(1))) as u32,
+    };
+    Call::SetLeader(segment, leader)
+}
+
+/// Any other call on a unit that holds, most likely, a district of this shape.
+fn call(random: &mut Random, held: &District, leaders: bool) -> Call {
     let (n, s) = (held.segments.len(), held.strategies.len());
     let (d, r) = (held.greatest.len(), held.limits.len());
     match random.below(100) {
-        0..=3 => Call::Load(make::damaged_file(random)),
+        0..=3 => Call::Load(make::damaged_file(random, leaders)),
         4..=28 => Call::Bar(number(random, n), number(random, s)),
         29..=48 => Call::Unbar(number(random, n), number(random, s)),
         49..=68 => {
@@ -62,7 +79,10 @@ fn call(random: &mut Random, held: &District) -> Call {
             let most = held.greatest.get(distress.wrapping_sub(1) as usize).copied().unwrap_or(RATING_MOST);
             Call::SetRating(number(random, n), distress, rating(random, most.into()))
         }
-        89..=92 => Call::Export(room(random, file::encode(held).len(), file::LONGEST)),
+        89..=92 => {
+            let longest = if leaders { file::LONGEST } else { file::LONGEST_PLAIN };
+            Call::Export(room(random, file::encode(held).len(), longest))
+        }
         93..=95 => Call::Page(room(random, (n + 3) * page::LINE, page::LONGEST)),
         96 => Call::Why(number(random, n), number(random, s)),
         97 => Call::Show,

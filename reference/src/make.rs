@@ -291,6 +291,7 @@ fn segments(random: &mut Random, shape: Shape, family: Family, greatest: &[u8]) 
                     _ => random.within(0, u64::from(most)) as u8,
                 })
                 .collect(),
+            leader: 0,
         });
     }
     made
@@ -328,6 +329,43 @@ pub fn set_limits(random: &mut Random, district: &mut District) {
         };
         district.limits[r] = limit.min(LIMIT_MOST.into()) as u32;
     }
+}
+
+/// Names leaders: a few, one for each segment, chains, one that all follow, or
+/// a few that many follow. Now and then one of them can have nothing, so that
+/// none of its followers gets anything: it is barred from everything, or has no
+/// rating that could be raised.
+pub fn set_leaders(random: &mut Random, district: &mut District) {
+    let manner = random.below(6);
+    let few: Vec<u64> = (0..3).map(|_| random.within(1, MOST_SEGMENTS as u64)).collect();
+    for (own, segment) in (1..).zip(&mut district.segments) {
+        let below = |leader: u64| if leader < own { leader } else { 0 };
+        segment.leader = match manner {
+            0 if random.chance(80) => 0,
+            1 => below(1),
+            2 => own - 1,
+            3 if own % 4 == 1 => 0,
+            3 => own - 1,
+            4 => below(*random.pick(&few)),
+            _ => random.below(own),
+        } as u8;
+    }
+    let named: Vec<usize> = district.segments.iter().filter_map(|one| usize::from(one.leader).checked_sub(1)).collect();
+    if !named.is_empty() && random.chance(25) {
+        let leader = &mut district.segments[*random.pick(&named)];
+        match random.chance(50) {
+            true => leader.bars = (1 << district.strategies.len()) - 1,
+            false => leader.ratings = district.greatest.clone(),
+        }
+    }
+}
+
+/// The same district, in half of the cases with leaders.
+fn perhaps_led(random: &mut Random, mut district: District) -> District {
+    if random.chance(50) {
+        set_leaders(random, &mut district);
+    }
+    district
 }
 
 /// A small district in which many reasons hold, often more than one of the
@@ -383,6 +421,7 @@ pub fn telling_district(random: &mut Random) -> District {
             width: *random.pick(&[2, 4]),
             bars: random.draw() as u16 & random.draw() as u16 & random.draw() as u16 & ((1 << shape.strategies) - 1),
             ratings: (0..shape.distress_types).map(|_| random.within(4, 16) as u8).collect(),
+            leader: 0,
         })
         .collect();
     let mut district = District {
@@ -484,6 +523,7 @@ pub fn busy_district(random: &mut Random, shape: Shape) -> District {
             width: random.within(18, 40) as u8,
             bars: 0,
             ratings: (0..shape.distress_types).map(|_| random.within(0, 25) as u8).collect(),
+            leader: 0,
         })
         .collect();
     let mut district = District {
@@ -565,14 +605,14 @@ pub fn page_district(random: &mut Random) -> District {
         }
     }
     set_limits(random, &mut made);
-    made
+    perhaps_led(random, made)
 }
 
 /// A file for the program `page`: most often of a district as above.
 pub fn any_page_file(random: &mut Random) -> Vec<u8> {
     match random.below(10) {
         0..=6 => file::encode(&page_district(random)),
-        7 => damaged_file(random),
+        7 => damaged_file(random, true),
         _ => any_file(random),
     }
 }
@@ -582,9 +622,10 @@ pub fn any_file(random: &mut Random) -> Vec<u8> {
     match random.below(100) {
         0..=54 => {
             let shape = shape(random);
-            file::encode(&district(random, shape))
+            let made = district(random, shape);
+            file_of(random, made)
         }
-        55..=94 => damaged_file(random),
+        55..=94 => damaged_file(random, true),
         95..=96 => {
             let length = random.size(0, 200);
             random.bytes(length)
@@ -592,7 +633,8 @@ pub fn any_file(random: &mut Random) -> Vec<u8> {
         97 => Vec::new(),
         // Longer than any valid file, with a sound beginning.
         98 => {
-            let mut bytes = file::encode(&district(random, WIDEST));
+            let made = district(random, WIDEST);
+            let mut bytes = file_of(random, made);
             let length = random.size(1, 400);
             bytes.extend(random.bytes(length));
             bytes
@@ -601,6 +643,16 @@ pub fn any_file(random: &mut Random) -> Vec<u8> {
             let length = random.size(4_000, 9_000);
             random.bytes(length)
         }
+    }
+}
+
+/// A sound file, in either form: with leaders, without, or with none set
+/// in the form that has them.
+fn file_of(random: &mut Random, made: District) -> Vec<u8> {
+    let made = perhaps_led(random, made);
+    match random.chance(10) {
+        true => file::encode_led(&made),
+        false => file::encode(&made),
     }
 }
 
@@ -613,18 +665,22 @@ pub fn any_frame(random: &mut Random) -> Vec<u8> {
     frame
 }
 
-/// A sound file with one thing wrong (or, seldom, still right).
-pub fn damaged_file(random: &mut Random) -> Vec<u8> {
+/// A sound file, with leaders or in the older form alone, with one thing wrong
+/// (or, seldom, still right).
+pub fn damaged_file(random: &mut Random, leaders: bool) -> Vec<u8> {
     let shape = match random.chance(80) {
         true => small_shape(random, 6, 4),
         false => shape(random),
     };
     let mut made = district(random, shape);
+    if leaders && random.chance(10) {
+        return misled_file(random, made);
+    }
     if random.chance(30) {
         to_an_end(random, &mut made);
         return file::encode(&made);
     }
-    let mut bytes = file::encode(&made);
+    let mut bytes = if leaders { file_of(random, made) } else { file::encode(&made) };
     let starts = record_starts(&bytes);
     let start = *random.pick(&starts);
     let length = usize::from(u16::from_le_bytes([bytes[start], bytes[start + 1]]));
@@ -668,6 +724,17 @@ pub fn damaged_file(random: &mut Random) -> Vec<u8> {
         }
     }
     bytes
+}
+
+/// A file in which one leader is its own number, or near it, or any byte.
+fn misled_file(random: &mut Random, mut made: District) -> Vec<u8> {
+    set_leaders(random, &mut made);
+    if !made.segments.is_empty() {
+        let i = random.size(0, made.segments.len() - 1);
+        let own = i as u8 + 1;
+        made.segments[i].leader = *random.pick(&[own, own, own + 1, own - 1, 64, 65, 128, 255]);
+    }
+    file::encode_led(&made)
 }
 
 /// Puts one value at an end of its range, most often one step beyond it.
@@ -747,6 +814,7 @@ impl Script {
 /// why, and again after each of some edits.
 fn asking_script(random: &mut Random) -> Script {
     let made = telling_district(random);
+    let made = perhaps_led(random, made);
     let (n, s, r) = (made.segments.len() as u64, made.strategies.len() as u64, made.limits.len() as u64);
     let mut text = b"load d0.bin\n".to_vec();
     for _ in 0..=random.below(6) {
@@ -757,7 +825,8 @@ fn asking_script(random: &mut Random) -> Script {
             [numeral(random, n), numeral(random, s), random.below(n + 2).to_string(), random.below(s + 2).to_string()];
         text.extend(format!("why {} {}\nwhy {} {}\nshow\n", odd[0], odd[1], odd[2], odd[3]).into_bytes());
         let (i, j) = (random.within(1, n), random.within(1, s));
-        let edit = match random.below(5) {
+        let edit = match random.below(6) {
+            5 => format!("leader {i} {}\n", random.below(i)),
             0 => format!("bar {i} {j}\n"),
             1 => format!("unbar {i} {j}\n"),
             2 => format!("rating {i} {} {}\n", random.size(1, made.greatest.len()), random.below(21)),
@@ -773,7 +842,7 @@ fn asking_script(random: &mut Random) -> Script {
 fn metering_script(random: &mut Random) -> Script {
     let shape = small_shape(random, 4, 3);
     let mut files = vec![("d0.bin".to_string(), file::encode(&district(random, shape)))];
-    files.push(("bad.bin".to_string(), damaged_file(random)));
+    files.push(("bad.bin".to_string(), damaged_file(random, true)));
     let mut text = Vec::new();
     let count = random.size(1, 300);
     for record in lists::records(random, count) {
@@ -822,10 +891,10 @@ pub fn script(random: &mut Random) -> Script {
         for (most, count) in largest.iter_mut().zip(counts) {
             *most = count.max(*most);
         }
-        files.push((format!("d{at}.bin"), file::encode(&made)));
+        files.push((format!("d{at}.bin"), file_of(random, made)));
     }
     if random.chance(60) {
-        files.push(("bad.bin".to_string(), damaged_file(random)));
+        files.push(("bad.bin".to_string(), damaged_file(random, true)));
     }
     if random.chance(10) {
         files.push(("any file.bin".to_string(), any_file(random)));
@@ -865,8 +934,15 @@ fn script_line(random: &mut Random, files: &[(String, Vec<u8>)], largest: [usize
         }
         12..=19 => format!("export {}", random.pick(&["out0.bin", "out1.bin", "folder/out 2.bin", "d0.bin"])),
         20..=21 => format!("export {}", random.pick(&["folder", "none/out.bin", "folder/", "."])),
-        22..=33 => format!("bar {} {}", numeral(random, n), numeral(random, s)),
-        34..=41 => format!("unbar {} {}", numeral(random, n), numeral(random, s)),
+        22..=28 => format!("bar {} {}", numeral(random, n), numeral(random, s)),
+        29..=35 => {
+            let segment = random.within(1, n);
+            match random.chance(70) {
+                true => format!("leader {segment} {}", random.below(segment)),
+                false => format!("leader {} {}", numeral(random, n), numeral(random, n)),
+            }
+        }
+        36..=41 => format!("unbar {} {}", numeral(random, n), numeral(random, s)),
         42..=53 => {
             let value = match random.below(12) {
                 0 => 999_999_999,
@@ -967,6 +1043,12 @@ fn odd_line(random: &mut Random) -> Vec<u8> {
                 b"marker",
                 b"marker -1",
                 b"marker 18446744073709551615",
+                b"leader",
+                b"leader 1",
+                b"leader 1 0 0",
+                b"leader 1 -1",
+                b"Leader 1 0",
+                b"leaders 1 0",
                 b"lost 0",
                 b"lost ",
                 b"roughness 1",

@@ -58,12 +58,27 @@ impl Programme<'_> {
         self.choice[i] = option;
     }
 
+    /// Segment i has no leader, or one that has a strategy.
+    fn may_have(&self, i: usize) -> bool {
+        self.tables.leaders[i].is_none_or(|leader| self.choice[leader] != 0)
+    }
+
+    /// Whoever would have a strategy if these segments got these options has no
+    /// leader, or one that would have a strategy too.
+    fn respects_leaders(&self, changes: &[(usize, usize)]) -> bool {
+        let after = |i: usize| changes.iter().find(|change| change.0 == i).map_or(self.choice[i], |change| change.1);
+        let kept =
+            |(i, leader): (usize, &Option<usize>)| after(i) == 0 || leader.is_none_or(|leader| after(leader) != 0);
+        self.tables.leaders.iter().enumerate().all(kept)
+    }
+
     fn over_a_limit(&self) -> bool {
         self.used.iter().zip(&self.tables.room).any(|(used, room)| used > room)
     }
 
-    /// Phase 1: everyone takes the best; while a limit is exceeded, the
-    /// segment with the least benefit for its pull steps down.
+    /// Phase 1: everyone takes the best, unless the leader has nothing; while a
+    /// limit is exceeded, the segment with the least benefit for its pull steps
+    /// down. One that comes to nothing takes all that follow from it along.
     fn step_down(&mut self) -> u64 {
         let tables = self.tables;
         // Candidates by falling benefit, nothing last. The sort is stable, so
@@ -82,6 +97,10 @@ impl Programme<'_> {
         let mut shares = vec![0u64; tables.resources];
         let mut surplus = vec![0u64; tables.resources];
         for (i, order) in orders.iter().enumerate() {
+            // The leader's number is lower, so what it takes is known here.
+            if !self.may_have(i) {
+                continue;
+            }
             self.choose(i, order[0]);
             for (sum, share) in shares.iter_mut().zip(tables.segments[i].share(order[0])) {
                 *sum += share;
@@ -116,20 +135,28 @@ impl Programme<'_> {
                 *sum = *sum - old + new;
             }
             self.choose(i, new);
+            // From low numbers to high, so that followers of followers go too.
+            for follower in i + 1..tables.segments.len() {
+                if self.choice[follower] != 0 && !self.may_have(follower) {
+                    let given_up = tables.segments[follower].share(self.choice[follower]);
+                    shares.iter_mut().zip(given_up).for_each(|(sum, share)| *sum -= share);
+                    self.choose(follower, 0);
+                }
+            }
             steps += 1;
         }
         steps
     }
 
-    /// Phase 2: segments with nothing pick up what still fits, the greatest
-    /// benefit first.
+    /// Phase 2: segments with nothing, but not those whose leader has nothing,
+    /// pick up what still fits, the greatest benefit first.
     fn pick_up(&mut self) -> u64 {
         let tables = self.tables;
         let mut pickups = 0;
         loop {
             let mut best: Option<(i64, usize, usize)> = None;
             for (i, segment) in tables.segments.iter().enumerate() {
-                if self.choice[i] != 0 {
+                if self.choice[i] != 0 || !self.may_have(i) {
                     continue;
                 }
                 for option in 1..segment.count() {
@@ -153,7 +180,7 @@ impl Programme<'_> {
     }
 
     /// Phase 3: the first change of one or two segments that raises the total
-    /// within the limits is made, and the search begins again.
+    /// within the limits and respects leaders is made, and the search begins again.
     fn improve(&mut self) -> (u64, u64) {
         let tables = self.tables;
         let count = tables.segments.len();
@@ -172,7 +199,8 @@ impl Programme<'_> {
                 }
                 for option in 0..segment.count() {
                     // The one held doesn't rise, so it needs no test of its own.
-                    if segment.benefit[option] > segment.benefit[held] && within(segment.usage(option), &rest) {
+                    let rises = segment.benefit[option] > segment.benefit[held];
+                    if rises && within(segment.usage(option), &rest) && self.respects_leaders(&[(i, option)]) {
                         self.choose(i, option);
                         changes += 1;
                         continue 'search;
@@ -203,7 +231,9 @@ impl Programme<'_> {
                             continue;
                         }
                         for (b, &benefit) in second.benefit.iter().enumerate() {
-                            if benefit > missing && b != second_held && both_within(usage, second.usage(b), &rest) {
+                            let rises = benefit > missing && b != second_held;
+                            let fits = rises && both_within(usage, second.usage(b), &rest);
+                            if fits && self.respects_leaders(&[(i, a), (j, b)]) {
                                 self.choose(i, a);
                                 self.choose(j, b);
                                 changes += 1;

@@ -1,12 +1,12 @@
-//! Two small districts in which each reason of `why` comes up. Each segment is
+//! Small districts in which each reason of `why` comes up. Each segment is
 //! a foot wide, so a mile of it has an area of 100: a requirement of 1,000
 //! uses one unit. All indexes are 100, so percents are what survives.
 
 use crate::district::*;
 
-/// Both, with the names under which they are stored.
-pub fn districts() -> [(&'static str, District); 2] {
-    [("demands", demands()), ("limits", limits())]
+/// All three, with the names under which they are stored.
+pub fn districts() -> [(&'static str, District); 3] {
+    [("demands", demands()), ("limits", limits()), ("led", led())]
 }
 
 /// Segments in which demands decide: minimum ratings missed by either distress
@@ -69,7 +69,50 @@ pub fn limits() -> District {
     }
 }
 
+/// Segment 1 is barred from everything, 2 and 3 follow it and 6 follows 3, so
+/// these four have nothing. Segment 4 has strategy 1, and so has 5, which
+/// follows it; that leaves 4 of ten units.
+pub fn led() -> District {
+    let strategy =
+        |units: u32, gain: i8| Strategy { requirements: vec![1_000 * units], gains: vec![gain], survival: vec![100] };
+    let mut segments = vec![
+        segment(1, 0b1111_1111, &[10]),
+        segment(2, 0b0000_0010, &[10]),
+        segment(2, 0b0000_0010, &[20]),
+        segment(1, 0, &[0]),
+        segment(1, 0b0000_0010, &[10]),
+        segment(1, 0, &[10]),
+    ];
+    segments.iter_mut().zip([0, 1, 1, 0, 4, 3]).for_each(|(segment, leader)| segment.leader = leader);
+    District {
+        years: 1,
+        limits: vec![10],
+        greatest: vec![50],
+        strategies: vec![
+            strategy(3, 20),
+            strategy(3, 20),
+            strategy(3, 1),
+            strategy(3, 4),
+            strategy(3, 0),
+            strategy(11, -5),
+            strategy(11, 30),
+            strategy(8, 21),
+        ],
+        types: vec![PavementType { overall: 0, minimum: vec![0] }, PavementType { overall: 15, minimum: vec![12] }],
+        segments,
+    }
+}
+
 /// A mile, one foot wide.
 fn segment(pavement: u8, bars: u16, ratings: &[u8]) -> Segment {
-    Segment { pavement, traffic: 100, environment: 100, length: 100, width: 1, bars, ratings: ratings.to_vec() }
+    Segment {
+        pavement,
+        traffic: 100,
+        environment: 100,
+        length: 100,
+        width: 1,
+        bars,
+        ratings: ratings.to_vec(),
+        leader: 0,
+    }
 }

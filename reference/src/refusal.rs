@@ -28,6 +28,8 @@ pub enum Refusal {
     Reading = 12,
     /// Points where no reading is kept.
     NoReading = 13,
+    /// A leader that is not below the segment's own number.
+    Leader = 14,
 }
 
 impl Refusal {

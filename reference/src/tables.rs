@@ -9,6 +9,8 @@ pub struct Tables {
     /// Each limit in the unit of the uses.
     pub room: Vec<u64>,
     pub segments: Vec<Options>,
+    /// For each segment the place of its leader, which is lower than its own.
+    pub leaders: Vec<Option<usize>>,
 }
 
 /// What one segment may take: nothing in place 0, then its candidates by
@@ -27,7 +29,8 @@ impl Tables {
         let resources = district.limits.len();
         let room: Vec<u64> = (0..resources).map(|r| rating::room(district, r)).collect();
         let segments = (0..district.segments.len()).map(|i| Options::of(district, i, &room)).collect();
-        Tables { resources, room, segments }
+        let leaders = district.segments.iter().map(|segment| usize::from(segment.leader).checked_sub(1)).collect();
+        Tables { resources, room, segments, leaders }
     }
 }
 

@@ -101,6 +101,17 @@ impl Unit {
         Ok(())
     }
 
+    /// Names the segment without which this one gets nothing, or none by 0.
+    pub fn set_leader(&mut self, segment: u64, leader: u64) -> Result<(), Refusal> {
+        let i = place(segment, self.district.segments.len(), Refusal::Segment)?;
+        if leader >= segment {
+            return Err(Refusal::Leader);
+        }
+        self.district.segments[i].leader = leader as u8;
+        self.replan();
+        Ok(())
+    }
+
     /// Writes the district's file at the front of the buffer and gives its
     /// length; what lies behind stays as it was.
     pub fn export(&self, buffer: &mut [u8]) -> Result<usize, Refusal> {

@@ -8,10 +8,10 @@ use crate::district::*;
 use crate::make::{self, Shape, WIDEST};
 use crate::random::Random;
 use crate::unit::{plan, Plan};
-use crate::{example, file, frames, lists, page};
+use crate::{example, file, frames, leaders, lists, page};
 
-/// Room for every file.
-const ROOM: u32 = file::LONGEST as u32;
+/// Room for every file without leaders.
+const ROOM: u32 = file::LONGEST_PLAIN as u32;
 
 /// All frames, one after another.
 pub fn frames() -> Vec<u8> {
@@ -49,6 +49,10 @@ fn scripts() -> Vec<Vec<u8>> {
     losses_cut(&mut cases);
     ends_of_years(&mut cases);
     readings(&mut cases);
+    led_districts(&mut cases);
+    led_files(&mut cases);
+    set_leaders(&mut cases);
+    led_readings(&mut cases);
     cases.scripts
 }
 
@@ -487,7 +491,7 @@ fn what_a_refusal_leaves(cases: &mut Cases) {
 /// with a show behind.
 fn long_lists(cases: &mut Cases) {
     for (seed, count) in [(700, 100), (701, 200), (702, 300), (703, 400), (704, 500)] {
-        let mut calls = lists::list(&mut Random::new(seed), count);
+        let mut calls = lists::list(&mut Random::new(seed), count, false);
         cases.list(&calls);
         calls.push(Call::SetLimit(0, 1));
         cases.list(&calls);
@@ -640,6 +644,157 @@ fn readings(cases: &mut Cases) {
     }
 }
 
+/// Districts in which leaders decide, in each phase.
+fn led_districts(cases: &mut Cases) {
+    leaders::districts().iter().for_each(|(_, district)| cases.district(district));
+    let middle = |random: &mut Random| make::small_shape(random, 12, 4);
+    let kept = [
+        found_led(900, 3, middle, |plan, _| plan.steps > 0),
+        found_led(901, 3, middle, |plan, _| plan.pickups > 0),
+        found_led(902, 3, middle, |plan, _| plan.changes > 0),
+        found_led(903, 3, middle, |plan, _| plan.steps > 0 && plan.pickups > 0 && plan.changes > 0),
+        // More, and less, of each than without leaders.
+        found_led(904, 2, middle, |plan, unled| plan.pickups > unled.pickups),
+        found_led(905, 2, middle, |plan, unled| plan.changes > unled.changes),
+        found_led(906, 2, middle, |plan, unled| plan.steps > 1 && plan.steps < unled.steps),
+    ];
+    kept.iter().flatten().for_each(|district| cases.district(district));
+    // The longest file, each segment behind the one before it.
+    let chain: Vec<u8> = (0..MOST_SEGMENTS as u8).collect();
+    cases.district(&led(make::busy_district(&mut Random::new(7), WIDEST), &chain));
+}
+
+/// Files with leaders: 1 to 5 at each record, what a leader may be, and both forms.
+fn led_files(cases: &mut Cases) {
+    let mut district = plain(&[100], &[(10, &[1_000])], &[(1, 5), (2, 5), (3, 5)]);
+    district.limits[0] = 40;
+    for leaders in [[0, 0, 0], [0, 1, 0], [0, 0, 1], [0, 0, 2], [0, 1, 1], [0, 1, 2]] {
+        cases.file(file::encode_led(&led(district.clone(), &leaders)));
+    }
+    // 4: the segment itself, one behind it, none that there is.
+    for leaders in [[1, 0, 0], [2, 0, 0], [0, 2, 0], [0, 3, 0], [0, 0, 3], [0, 0, 4], [0, 0, 64], [0, 0, 255]] {
+        cases.file(file::encode_led(&led(district.clone(), &leaders)));
+    }
+    let bytes = file::encode(&led(district.clone(), &[0, 1, 2]));
+    let starts = make::record_starts(&bytes);
+    for (at, &start) in starts.iter().enumerate() {
+        let end = starts.get(at + 1).copied().unwrap_or(bytes.len());
+        cases.file(bytes[..start].to_vec());
+        cases.file(bytes[..start + 3].to_vec());
+        if end > start + 4 {
+            cases.file(bytes[..end - 1].to_vec());
+        }
+        cases.file(with(&bytes, start + 2, bytes[start + 2] + 1));
+        cases.file(with(&bytes, start, bytes[start] + 1));
+        cases.file(with(&bytes, start, bytes[start].wrapping_sub(1)));
+    }
+    cases.file([&bytes[..], &[0]].concat());
+    // The other kind of first record: its segments are a byte too long, or too short.
+    cases.file(with(&bytes, 2, 1));
+    cases.file(with(&file::encode(&district), 2, 8));
+    // The high byte of the first kind; kind 8 where another is due.
+    cases.file(with(&bytes, 3, 8));
+    for start in starts {
+        cases.file(with(&bytes, start + 2, 8));
+    }
+    // A leader out of its range, and a byte that follows, or a wrong kind behind it.
+    let misled = file::encode_led(&led(district.clone(), &[0, 2, 0]));
+    cases.file([&misled[..], &[0]].concat());
+    cases.file(with(&misled, misled.len() - 2, 9));
+    // No segment, in the form with leaders.
+    cases.file(file::encode_led(&District::fresh()));
+    cases.file(with(&file::encode_led(&District::fresh()), 4, 65));
+    // Room for the export: that of the file without leaders, a byte less than with them, enough.
+    for leaders in [[0, 0, 0], [0, 1, 0], [0, 0, 1], [0, 0, 2], [0, 1, 2]] {
+        let calls =
+            |room: usize| [Call::Load(file::encode_led(&led(district.clone(), &leaders))), Call::Export(room as u32)];
+        for room in [bytes.len() - 4, bytes.len() - 3, bytes.len() - 1, bytes.len()] {
+            cases.list(&calls(room));
+        }
+    }
+    // The longest file. All is barred in it, so that there is nothing to plan.
+    let mut widest = led(make::busy_district(&mut Random::new(7), WIDEST), &[0, 1]);
+    widest.segments.iter_mut().for_each(|segment| segment.bars = (1 << MOST_STRATEGIES) - 1);
+    for room in [file::LONGEST_PLAIN, file::LONGEST - 1, file::LONGEST] {
+        cases.after(&widest, &[Call::Export(room as u32)]);
+    }
+    cases.after(&widest, &[Call::SetLeader(2, 0), Call::Export(ROOM)]);
+    cases.after(&widest, &[Call::SetLeader(2, 0), Call::Export(ROOM - 1)]);
+    // A file without leaders takes those away that were held.
+    cases.list(&[load(&led(district.clone(), &[0, 1, 2])), load(&district), Call::Bar(1, 1)]);
+    cases.list(&[load(&district), load(&led(district.clone(), &[0, 1, 2])), Call::Bar(1, 1)]);
+    cases.list(&[load(&led(district.clone(), &[0, 1, 2])), Call::Load(misled), Call::Bar(1, 1)]);
+}
+
+/// Setting a leader: 6 before 14, what may be set, what is left alone, and that the plan is made afresh.
+fn set_leaders(cases: &mut Cases) {
+    let chain = leaders::named("step");
+    let unled = led(chain.clone(), &[0; 4]);
+    let mut calls = Vec::new();
+    for number in [0, 5, 257, u32::MAX] {
+        calls.extend([Call::SetLeader(number, 0), Call::SetLeader(number, 1), Call::SetLeader(number, u32::MAX)]);
+    }
+    for (i, leader) in (1..=4).flat_map(|i| (0..=5).map(move |leader| (i, leader))) {
+        calls.push(Call::SetLeader(i, leader));
+    }
+    for (i, leader) in (1..=4).flat_map(|i| [256, 257, u32::MAX].map(move |leader| (i, leader))) {
+        calls.push(Call::SetLeader(i, leader));
+    }
+    for call in calls {
+        cases.after(&unled, std::slice::from_ref(&call));
+        cases.after(&chain, &[call, Call::Show]);
+    }
+    cases.list(&[Call::SetLeader(1, 0)]);
+    cases.list(&[Call::SetLeader(1, 1)]);
+    cases.list(&[Call::SetLeader(0, 0)]);
+    // One after the other, and taken back; each plan is made afresh.
+    let edits = [
+        Call::SetLeader(2, 1),
+        Call::SetLeader(3, 2),
+        Call::SetLeader(4, 3),
+        Call::SetLimit(1, 29),
+        Call::SetLeader(3, 1),
+        Call::SetLeader(4, 4),
+        Call::SetRating(1, 1, 50),
+        Call::SetLeader(4, 1),
+        Call::SetLeader(2, 0),
+        Call::SetRating(1, 1, 0),
+        Call::Bar(1, 1),
+        Call::SetLeader(3, 3),
+        Call::Unbar(1, 1),
+        Call::SetLimit(1, 40),
+        Call::SetLeader(4, 0),
+        Call::SetLeader(3, 0),
+    ];
+    for count in 1..=edits.len() {
+        cases.after(&unled, &edits[..count]);
+    }
+    // The leader of a segment stays through all other edits of it, and of its leader.
+    for edit in [Call::Bar(3, 1), Call::Unbar(3, 1), Call::SetRating(3, 1, 1), Call::SetLimit(1, 30), Call::Bar(2, 1)] {
+        cases.after(&chain, &[edit, Call::Bar(2, 2), Call::SetLimit(1, 40)]);
+    }
+    // Bars and window stay.
+    cases.after(&chain, &[Call::SetLeader(1, 0), Call::SetLeader(2, 0), Call::SetLeader(3, 2), Call::SetLimit(1, 100)]);
+    let one = Call::Index(lists::reading(1_024));
+    cases.list(&[one.clone(), load(&chain), Call::SetLeader(3, 1), Call::Roughness]);
+    cases.list(&[one, load(&chain), Call::SetLeader(3, 3), Call::Roughness]);
+    // A kind of call that there is not.
+    cases.scripts.push([&encode(&[load(&chain)])[..], &[15, 3, 0, 0, 0, 1, 0, 0, 0, 0, 0, 0, 0]].concat());
+    for (seed, count) in [(710, 60), (711, 120), (712, 240)] {
+        let mut calls = lists::list(&mut Random::new(seed), count, true);
+        cases.list(&calls);
+        calls.push(Call::Show);
+        cases.list(&calls);
+    }
+}
+
+/// Small districts that a wrong reading of what leaders do plans otherwise: see `wrong/`.
+fn led_readings(cases: &mut Cases) {
+    // Phase 1: the shares of followers that have gone count no more.
+    let gone = small(&[2], &[(&[14_371], 19, 100)], &[(8, 1, 0), (1, 1, 0), (1, 1, 0), (6, 1, 0)]);
+    cases.district(&led(gone, &[0, 0, 2, 0]));
+}
+
 // ---- districts
 
 /// Districts whose pages are stored with the console, by the names of their files.
@@ -712,6 +867,7 @@ fn two_of_each() -> District {
         width: 24,
         bars: 0,
         ratings: ratings.to_vec(),
+        leader: 0,
     };
     District {
         years: 2,
@@ -758,6 +914,7 @@ fn plain(limits: &[u32], strategies: &[(i8, &[u32])], segments: &[(u16, u8)]) ->
                 width: 10,
                 bars: 0,
                 ratings: vec![rating],
+                leader: 0,
             })
             .collect(),
     }
@@ -807,6 +964,12 @@ pub fn small(limits: &[u32], strategies: &[(&[u32], i8, u8)], segments: &[(u16, 
     district
 }
 
+/// The district with these leaders.
+pub fn led(mut district: District, leaders: &[u8]) -> District {
+    district.segments.iter_mut().zip(leaders).for_each(|(segment, &leader)| segment.leader = leader);
+    district
+}
+
 /// The first districts, from a seed, whose plan is as wanted.
 fn found(
     seed: u64,
@@ -820,6 +983,29 @@ fn found(
         let shape = shape(&mut random);
         let district = make::district(&mut random, shape);
         if wanted(&district, &plan(&district)) {
+            kept.push(district);
+        }
+    }
+    kept
+}
+
+/// The same of districts with leaders, whose plan is not that without them: the plan
+/// with leaders, and the one without.
+fn found_led(
+    seed: u64,
+    count: usize,
+    shape: impl Fn(&mut Random) -> Shape,
+    wanted: impl Fn(&Plan, &Plan) -> bool,
+) -> Vec<District> {
+    let mut random = Random::new(seed);
+    let mut kept = Vec::new();
+    while kept.len() < count {
+        let shape = shape(&mut random);
+        let mut district = make::district(&mut random, shape);
+        let unled = plan(&district);
+        make::set_leaders(&mut random, &mut district);
+        let plan = plan(&district);
+        if plan != unled && wanted(&plan, &unled) {
             kept.push(district);
         }
     }

@@ -1,5 +1,5 @@
 //! Why a segment does not have a strategy, or that it has it: the first that
-//! holds of eight reasons.
+//! holds of nine reasons.
 
 use crate::district::District;
 use crate::rating;
@@ -18,6 +18,8 @@ pub enum Reason {
     },
     OverallMissed,
     BenefitNotAbove0,
+    /// The segment has a leader, and that has no strategy.
+    LeaderHasNothing,
     /// The first resource whose limit the strategy is over, whatever the rest has.
     OverAlone {
         resource: usize,
@@ -32,7 +34,7 @@ pub enum Reason {
 }
 
 impl Reason {
-    /// The place in the order of the eight, from 1.
+    /// The place in the order of the nine, from 1.
     pub fn number(self) -> u8 {
         match self {
             Reason::InTheProgramme => 1,
@@ -40,9 +42,10 @@ impl Reason {
             Reason::MinimumMissed { .. } => 3,
             Reason::OverallMissed => 4,
             Reason::BenefitNotAbove0 => 5,
-            Reason::OverAlone { .. } => 6,
-            Reason::OverBeside { .. } => 7,
-            Reason::NoGreater => 8,
+            Reason::LeaderHasNothing => 6,
+            Reason::OverAlone { .. } => 7,
+            Reason::OverBeside { .. } => 8,
+            Reason::NoGreater => 9,
         }
     }
 }
@@ -57,6 +60,7 @@ impl fmt::Display for Reason {
             }
             Reason::OverallMissed => write!(out, "overall requirement missed"),
             Reason::BenefitNotAbove0 => write!(out, "benefit not above 0"),
+            Reason::LeaderHasNothing => write!(out, "the leader has nothing"),
             Reason::OverAlone { resource } => write!(out, "over limit {resource} alone"),
             Reason::OverBeside { resource } => write!(out, "over limit {resource} beside the others"),
             Reason::NoGreater => write!(out, "fits, but the total would be no greater"),
@@ -83,6 +87,9 @@ pub fn why(district: &District, programme: &[u8], i: usize, j: usize) -> Reason 
     }
     if rating::benefit(district, segment, strategy) <= 0 {
         return Reason::BenefitNotAbove0;
+    }
+    if segment.leader > 0 && programme[usize::from(segment.leader) - 1] == 0 {
+        return Reason::LeaderHasNothing;
     }
     let over = |r: usize, beside: u64| rating::usage(segment, strategy, r) + beside > rating::room(district, r);
     let resources = district.limits.len();

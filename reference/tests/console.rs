@@ -52,15 +52,18 @@ fn a_fresh_unit() {
     assert_eq!(answers("fresh", input), expected);
 }
 
-/// All eight answers of `why`, its refusals, and that it leaves the unit alone.
+/// All nine answers of `why`, its refusals, and that it leaves the unit alone.
 #[test]
 fn reasons() {
     let folder = folder("reasons");
     fs::write(folder.join("demands"), file::encode(&reference::reasons::demands())).unwrap();
     fs::write(folder.join("limits"), file::encode(&reference::reasons::limits())).unwrap();
-    let input = b"why 1 1\nload demands\nwhy 1 2\nwhy 1 8\nwhy 1 6\nwhy 1 7\nwhy 2 9\nload limits\nwhy 1 4\nwhy 2 7\n\
+    fs::write(folder.join("led"), file::encode(&reference::reasons::led())).unwrap();
+    let input = b"why 1 1\nload led\nwhy 2 1\nload demands\nwhy 1 2\nwhy 1 8\n\
+        why 1 6\nwhy 1 7\nwhy 2 9\nload limits\nwhy 1 4\nwhy 2 7\n\
         why 2 8\nwhy 3 9\nwhy 3 0\nwhy 1 0\nwhy 1 11\nwhy 01 18446744073709551615\nshow\n";
-    let expected = "refused 6\nok\nin the programme\nbarred\nminimum rating missed: distress 2, year 2\n\
+    let expected =
+        "refused 6\nok\nthe leader has nothing\nok\nin the programme\nbarred\nminimum rating missed: distress 2, year 2\n\
         overall requirement missed\nbenefit not above 0\nok\nover limit 2 alone\nover limit 2 beside the others\n\
         fits, but the total would be no greater\nrefused 6\nrefused 6\nrefused 7\nrefused 7\nrefused 7\n\
         1 1\n2 1\nbenefit 400000\nceiling 520000\nsteps 7 0 1\n";
@@ -68,6 +71,18 @@ fn reasons() {
     console::run(&mut &input[..], &mut output, &folder).unwrap();
     assert_eq!(String::from_utf8(output).unwrap(), expected);
     fs::remove_dir_all(&folder).unwrap();
+}
+
+/// Setting a leader, its refusals, and the length of both forms of a file.
+#[test]
+fn leaders() {
+    let input = b"leader 1 0\nload card.bin\nleader 2 1\nshow\nexport led.bin\nbar 1 1\nbar 1 2\nshow\nleader 2 2\n\
+        leader 3 3\nleader 1 1\nleader 2 256\nload led.bin\nshow\nleader 02 00\nexport card2.bin\n";
+    let expected = format!(
+        "refused 6\nok\nok\n{CARD_LISTING}ok 89\nok\nok\n1 0\n2 0\nbenefit 0\nceiling 3500000\nsteps 0 0 0\n\
+         refused 14\nrefused 6\nrefused 14\nrefused 14\nok\n{CARD_LISTING}ok\nok 87\n"
+    );
+    assert_eq!(answers("leaders", input), expected);
 }
 
 /// Records, their refusals, and points with the last marker; all that is no
@@ -173,6 +188,14 @@ fn lines_that_are_no_commands() {
         "marker 9223372036854775808",
         "marker 0 0",
         "marker  0",
+        "leader",
+        "leader 1",
+        "leader 1 0 0",
+        "leader  1 0",
+        "leader 1 x",
+        "leader 1 -1",
+        "Leader 1 0",
+        "leaders 1 0",
         "lost 1",
         "lost ",
         " lost",

@@ -123,7 +123,33 @@ impl Rules<'_> {
         programme.iter().enumerate().map(|(i, &j)| self.benefit(i, j)).sum()
     }
 
-    /// All of the eight reasons that hold, with every distress type, year and
+    fn leader(&self, i: usize) -> Option<usize> {
+        match self.d.segments[i].leader {
+            0 => None,
+            number => Some(usize::from(number) - 1),
+        }
+    }
+
+    fn leader_has_nothing(&self, programme: &[usize], i: usize) -> bool {
+        match self.leader(i) {
+            None => false,
+            Some(leader) => programme[leader] == 0,
+        }
+    }
+
+    /// Segment i names l, or one that follows from l.
+    fn follows(&self, i: usize, l: usize) -> bool {
+        match self.leader(i) {
+            None => false,
+            Some(leader) => leader == l || self.follows(leader, l),
+        }
+    }
+
+    fn respects_leaders(&self, programme: &Programme) -> bool {
+        (0..programme.len()).all(|i| programme[i] == 0 || !self.leader_has_nothing(programme, i))
+    }
+
+    /// All of the nine reasons that hold, with every distress type, year and
     /// resource that could be named, in the order in which they are asked for.
     fn reasons(&self, programme: &Programme, i: usize, j: usize) -> Vec<String> {
         let mut holding = Vec::new();
@@ -138,6 +164,7 @@ impl Rules<'_> {
         }
         say(!self.overall_met(i, j), "overall requirement missed".to_string());
         say(self.benefit(i, j) <= 0, "benefit not above 0".to_string());
+        say(self.leader_has_nothing(programme, i), "the leader has nothing".to_string());
         for r in 0..self.d.limits.len() {
             say(self.usage(i, j, r) > self.room(r), format!("over limit {} alone", r + 1));
         }
@@ -189,7 +216,11 @@ impl Rules<'_> {
 
     fn phase_one(&self) -> (Programme, u64) {
         let (n, _, _, resources) = self.counts();
-        let mut programme: Programme = (0..n).map(|i| self.next(i, None)).collect();
+        let mut programme = Programme::new();
+        for i in 0..n {
+            let nothing = self.leader_has_nothing(&programme, i);
+            programme.push(if nothing { 0 } else { self.next(i, None) });
+        }
         let mut steps = 0;
         while !self.within_limits(&programme) {
             let surplus = |r: usize| {
@@ -213,6 +244,9 @@ impl Rules<'_> {
             }
             let i = least.unwrap().1;
             programme[i] = self.next(i, Some(programme[i]));
+            if programme[i] == 0 {
+                (0..n).filter(|&l| self.follows(l, i)).for_each(|l| programme[l] = 0);
+            }
             steps += 1;
         }
         (programme, steps)
@@ -223,7 +257,7 @@ impl Rules<'_> {
         let mut pickups = 0;
         loop {
             let mut best: Option<(i128, Programme)> = None;
-            for i in (0..n).filter(|&i| programme[i] == 0) {
+            for i in (0..n).filter(|&i| programme[i] == 0 && !self.leader_has_nothing(programme, i)) {
                 for j in (1..=s).filter(|&j| self.candidate(i, j)) {
                     let mut with = programme.clone();
                     with[i] = j;
@@ -244,7 +278,10 @@ impl Rules<'_> {
     fn first_change(&self, programme: &Programme) -> Option<Programme> {
         let (n, s, _, _) = self.counts();
         let may = |i: usize, j: usize| j != programme[i] && (j == 0 || self.candidate(i, j));
-        let counts = |changed: &Programme| self.within_limits(changed) && self.total(changed) > self.total(programme);
+        let counts = |changed: &Programme| {
+            let rises = self.total(changed) > self.total(programme);
+            rises && self.within_limits(changed) && self.respects_leaders(changed)
+        };
         for i in 0..n {
             for j in (0..=s).filter(|&j| may(i, j)) {
                 let mut changed = programme.clone();
@@ -360,6 +397,30 @@ fn telling_districts() {
     }
 }
 
+/// The same kinds of districts with leaders. In some of them plans differ from
+/// those without.
+#[test]
+fn districts_with_leaders() {
+    let mut random = Random::new(24);
+    let mut decided = 0;
+    for case in 0..5_000 {
+        let mut shape = make::small_shape(&mut random, 7, 4);
+        let mut district = match case % 5 {
+            0 | 1 => make::district(&mut random, shape),
+            2 => make::telling_district(&mut random),
+            _ => {
+                shape.segments += 2;
+                make::busy_district(&mut random, shape)
+            }
+        };
+        let unled = plan(&district);
+        make::set_leaders(&mut random, &mut district);
+        check(&district);
+        decided += u32::from(plan(&district) != unled);
+    }
+    assert!(decided > 1_000, "only {decided} differ");
+}
+
 /// Every value at the end of its range that makes products large.
 fn extreme(n: usize, s: usize, r: usize, limit: u32) -> District {
     let cells = MOST_DISTRESS_TYPES * MOST_YEARS;
@@ -384,6 +445,7 @@ fn extreme(n: usize, s: usize, r: usize, limit: u32) -> District {
                 width: WIDTH_MOST,
                 bars: 0,
                 ratings: vec![0; MOST_DISTRESS_TYPES],
+                leader: 0,
             })
             .collect(),
     }

@@ -63,6 +63,9 @@ fn vectors_answers_lists_of_calls() {
         encode(&[Call::Index(0), Call::Load(card_bytes()), Call::Index(1)]),
         encode(&[Call::Index(0), Call::Load(card_bytes()), Call::Roughness]),
         encode(&[Call::Load(card_bytes()), Call::Marker(u32::MAX), Call::Lost]),
+        encode(&[Call::Load(card_bytes()), Call::SetLeader(2, 2)]),
+        encode(&[Call::Load(card_bytes()), Call::SetLeader(3, 3)]),
+        encode(&[Call::Load(card_bytes()), Call::SetLeader(2, 1)]),
         // No whole call is left: the load, then nothing.
         [&load[..], &[2, 2, 0, 0, 0, 2]].concat(),
         load[..load.len() - 1].to_vec(),
@@ -73,7 +76,8 @@ fn vectors_answers_lists_of_calls() {
     let expected =
         [CARD_LISTING, "refused 6\n", CARD_LISTING, "refused 7\n", CARD_LISTING, "refused 13\n", "refused 12\n"]
             .concat()
-            + &[CARD_LISTING, CARD_LISTING, CARD_LISTING, nothing].concat();
+            + &[CARD_LISTING, CARD_LISTING, "refused 14\n", "refused 6\n"].concat()
+            + &[CARD_LISTING, CARD_LISTING, nothing].concat();
     assert_eq!(String::from_utf8(output_of(vectors, &[], &input)).unwrap(), expected);
 }
 
@@ -82,7 +86,7 @@ fn vectors_answers_lists_of_calls() {
 fn stored_lists_cover_refusals_and_phases() {
     let input = output_of(env!("CARGO_BIN_EXE_generate"), &["vectors"], b"");
     let printed = String::from_utf8(output_of(env!("CARGO_BIN_EXE_vectors"), &[], &input)).unwrap();
-    for number in (1..=9).chain(11..=13) {
+    for number in (1..=9).chain(11..=14) {
         assert!(printed.contains(&format!("refused {number}\n")));
     }
     for phase in 1..=3 {

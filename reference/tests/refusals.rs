@@ -4,7 +4,7 @@ mod common;
 
 use common::{card, card_bytes};
 use reference::district::*;
-use reference::file::{decode, encode, LONGEST};
+use reference::file::{decode, encode, encode_led, LONGEST, LONGEST_PLAIN};
 use reference::make::{self, WIDEST};
 use reference::random::Random;
 use reference::refusal::Refusal;
@@ -194,20 +194,31 @@ fn round_trip_of_made_districts() {
         assert!(bytes.len() <= LONGEST);
         assert_eq!(decode(&bytes).as_ref(), Ok(&district));
     }
-    let widest = make::district(&mut random, WIDEST);
+    let mut widest = make::district(&mut random, WIDEST);
+    assert_eq!(encode(&widest).len(), LONGEST_PLAIN);
+    // One leader is enough for the other form, and a byte more in each of 64 segments.
+    widest.segments[63].leader = 63;
     assert_eq!(encode(&widest).len(), LONGEST);
+    assert_eq!(decode(&encode(&widest)).as_ref(), Ok(&widest));
 }
 
 #[test]
 fn what_is_accepted_is_what_export_gives_back() {
     let mut random = Random::new(12);
-    let mut seen = [0; 6];
+    let (mut seen, mut emptied) = ([0; 6], 0);
     for _ in 0..5_000 {
         let bytes = make::any_file(&mut random);
         seen[usize::from(number_of(&bytes))] += 1;
         if let Ok(district) = decode(&bytes) {
+            // A file with leaders that are all 0 comes back in the older form.
+            if bytes[2] == 8 && !district.has_leaders() {
+                emptied += 1;
+                assert_eq!(encode_led(&district), bytes);
+                assert_eq!(decode(&encode(&district)), Ok(district));
+                continue;
+            }
             assert_eq!(encode(&district), bytes);
         }
     }
-    assert!(seen.iter().all(|&count| count > 100), "{seen:?}");
+    assert!(seen.iter().all(|&count| count > 100) && emptied > 10, "{seen:?}, {emptied}");
 }

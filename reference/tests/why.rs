@@ -1,6 +1,6 @@
-//! The eight reasons, worked out by hand on two small districts and the card.
+//! The nine reasons, worked out by hand on three small districts and the card.
 //!
-//! In both districts a point of gain counts in the effect with the percents of a
+//! In all of them a point of gain counts in the effect with the percents of a
 //! year's start and end, halved, and a benefit is 100 times the effect.
 
 mod common;
@@ -134,6 +134,54 @@ fn limits_that_are_exceeded() {
     }
 }
 
+/// Segments 1, 2, 3 and 6 have nothing: 1 is barred from everything, 2 and 3
+/// follow it, and 6 follows 3. What is demanded of 2 and 3, 12 and 15, and a
+/// benefit come first, limits behind.
+#[test]
+fn leaders_that_have_nothing() {
+    let mut unit = holding(&reasons::led());
+    let plan = unit.show();
+    assert_eq!((&plan.strategies[..6], plan.total), (&[0, 0, 0, 1, 1, 0][..], 400_000));
+    check(&unit, 1, &[Barred; 8]);
+    check(
+        &unit,
+        2,
+        &[
+            // 30: it would fit.
+            LeaderHasNothing,
+            Barred,
+            // 11, then 14.
+            minimum(1, 1),
+            OverallMissed,
+            // 10 and 5.
+            minimum(1, 1),
+            minimum(1, 1),
+            // 11 units of 10, and 8 beside 6.
+            LeaderHasNothing,
+            LeaderHasNothing,
+        ],
+    );
+    // From a rating of 20 all that is demanded is there; strategies 5 and 6 gain nothing.
+    let led = LeaderHasNothing;
+    check(&unit, 3, &[led, Barred, led, led, BenefitNotAbove0, BenefitNotAbove0, led, led]);
+    // The leader of 6 has nothing since its own leader has nothing.
+    check(&unit, 6, &[led, led, led, led, BenefitNotAbove0, BenefitNotAbove0, led, led]);
+    // 4 has no leader, and 5 one that has a strategy.
+    let limits = [OverAlone { resource: 1 }, OverBeside { resource: 1 }];
+    let no = BenefitNotAbove0;
+    check(&unit, 4, &[InTheProgramme, NoGreater, NoGreater, NoGreater, no, no, limits[0], limits[1]]);
+    check(&unit, 5, &[InTheProgramme, Barred, NoGreater, NoGreater, no, no, limits[0], limits[1]]);
+    // Behind nobody it gets its three units.
+    unit.set_leader(2, 0).unwrap();
+    assert_eq!(unit.why(2, 1), Ok(InTheProgramme));
+    assert_eq!(unit.why(2, 7), Ok(OverAlone { resource: 1 }));
+    assert_eq!(unit.why(6, 1), Ok(LeaderHasNothing));
+    unit.set_leader(6, 4).unwrap();
+    // Of four segments alike the lowest goes without.
+    assert_eq!(unit.why(6, 1), Ok(InTheProgramme));
+    assert_eq!(unit.why(2, 1), Ok(OverBeside { resource: 1 }));
+}
+
 /// A reason is that of the district and the programme held now.
 #[test]
 fn reasons_follow_the_calls() {
@@ -195,8 +243,12 @@ fn numbers_that_there_are_not() {
 fn made_districts_have_every_reason() {
     let mut random = Random::new(31);
     let mut seen = BTreeSet::new();
-    for _ in 0..200 {
-        let unit = holding(&make::telling_district(&mut random));
+    for case in 0..300 {
+        let mut district = make::telling_district(&mut random);
+        if case % 2 == 1 {
+            make::set_leaders(&mut random, &mut district);
+        }
+        let unit = holding(&district);
         let (n, s) = (unit.district().segments.len() as u64, unit.district().strategies.len() as u64);
         for (i, j) in (1..=n).flat_map(|i| (1..=s).map(move |j| (i, j))) {
             let reason = unit.why(i, j).unwrap();
@@ -208,13 +260,13 @@ fn made_districts_have_every_reason() {
             seen.insert((reason.number(), later));
         }
     }
-    // Five reasons without a number, one with two numbers, two with one.
-    assert_eq!(seen.len(), 5 + 4 + 2 * 2, "{seen:?}");
+    // Six reasons without a number, one with two numbers, two with one.
+    assert_eq!(seen.len(), 6 + 4 + 2 * 2, "{seen:?}");
 }
 
 #[test]
 fn nothing_is_altered() {
-    for district in [reasons::demands(), reasons::limits()] {
+    for district in [reasons::demands(), reasons::limits(), reasons::led()] {
         let unit = holding(&district);
         let before = unit.clone();
         for (i, j) in (0..4).flat_map(|i| (0..12).map(move |j| (i, j))) {

@@ -9,7 +9,7 @@ use lib.ListN.{length, getD, take, drop, replicate}
 use Rattle.base.specs.Choice.{pick, only}
 use Rattle.base.specs.Over.{between}
 use Rattle.base.specs.Text.{text}
-use Rattle.rules.specs.declared.Edit.the-variants.{Bar, Unbar, SetLimit, SetRating}
+use Rattle.rules.specs.declared.Edit.the-variants.{Bar, Unbar, SetLimit, SetRating, SetLeader}
 use Rattle.rules.specs.declared.Sent.{Sent}
 use Rattle.rules.specs.declared.Sent.the-variants.{Index, Marker, Lost}
 use Rattle.command.specs.declared.Arguments.{Arguments}
@@ -127,6 +127,7 @@ rows =
     ∷ row "marker" Name.Marker (Numbers 1)
     ∷ row "lost" Name.Lost (Numbers 0)
     ∷ row "roughness" Name.Roughness (Numbers 0)
+    ∷ row "leader" Name.Leader (Numbers 2)
     ∷ []
 
 -- a record of the meter with these bits; a float has 32, and a number that has more is no command
@@ -149,6 +150,7 @@ made Name.Index v = sendOf (v 0) (Index (v 0))
 made Name.Marker v = sendOf (v 0) (Marker (v 0))
 made Name.Lost v = Command.Send Lost
 made Name.Roughness v = Command.Roughness
+made Name.Leader v = Command.Alter (SetLeader (v 0) (v 1))
 
 -- the command of the first of some rows, where there is one
 unfoldable pub firstMade : List Row → (ℕ → ℕ) → Command

@@ -41,6 +41,7 @@ pub enum Name {
     Marker,
     Lost,
     Roughness,
+    Leader,
 }
 
 // What a word takes: so many numbers, or a path.
@@ -52,7 +53,7 @@ pub enum Takes {
 // A word, with blanks behind it up to 9 bytes; what it names; and what it takes.
 pub struct Row(pub [u8; 9], pub Name, pub Takes);
 
-const WORDS: usize = 14;
+const WORDS: usize = 15;
 
 const ROWS: [Row; WORDS] = [
     Row(*b"load     ", Name::Load, Takes::Path),
@@ -69,6 +70,7 @@ const ROWS: [Row; WORDS] = [
     Row(*b"marker   ", Name::Marker, Takes::Numbers(1)),
     Row(*b"lost     ", Name::Lost, Takes::Numbers(0)),
     Row(*b"roughness", Name::Roughness, Takes::Numbers(0)),
+    Row(*b"leader   ", Name::Leader, Takes::Numbers(2)),
 ];
 
 pub enum Kind {
@@ -317,6 +319,7 @@ fn make(name: Name, numbers: [usize; 4]) -> Command
         Name::Marker => send(a, Sent::Marker((a % 4294967296) as u32)),
         Name::Lost => Command::Send(Sent::Lost),
         Name::Roughness => Command::Roughness,
+        Name::Leader => Command::Alter(Edit::SetLeader(a, b)),
     }
 }
 

@@ -1,4 +1,4 @@
--- Request 4, of a unit in any state: a question that nothing refuses has a reason for its answer, any other its number; one of the first seven
+-- Request 4, of a unit in any state: a question that nothing refuses has a reason for its answer, any other its number; one of the first eight
 -- reasons is the first that holds.
 use Prim.Native.Nat.{ℕ, zero, suc}
 use mathlib.Core.Path.{_≡_, sym}

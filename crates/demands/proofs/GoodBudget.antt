@@ -1,9 +1,8 @@
--- Request 7: where each segment's best candidate can be had at once, total and ceiling are equal, after every list of calls.
+-- Request 7: where each segment's best candidate can be had at once, with leaders respected, total and ceiling are equal, after every list of calls.
 use Rattle.rules.specs.Lists.{districtAfter}
-use Rattle.grammar.proofs.InRanges.{in-ranges}
 use Rattle.theorems.specs.GoodBudget.{GoodBudget}
 use Rattle.theorems.proofs.GoodBudget.{at-ceiling}
-use Rattle.demands.proofs.Lists.{after-in, programme-after}
+use Rattle.demands.proofs.Lists.{few-after, lower-after, programme-after}
 
 pub good-budget : GoodBudget
-good-budget cs = rw (programme-after cs) (at-ceiling (districtAfter cs) (in-ranges (districtAfter cs) (after-in cs) .segments))
+good-budget cs = rw (programme-after cs) (at-ceiling (districtAfter cs) (few-after cs) (lower-after cs))

@@ -1,10 +1,11 @@
 -- The unit after any list of calls, the empty one too, refused calls included: it holds the district that follows from the calls alone, which
 -- is in the file's ranges, with that district's programme. All that is promised of districts in range then holds of it.
-use Prim.Native.Nat.{ℕ, zero, suc}
+use Prim.Native.Nat.{ℕ, zero, suc, _≤_}
 use mathlib.Core.List.{List, [], _∷_}
 use mathlib.Core.Path.{_≡_, refl, ap, _∙_}
 use mathlib.Core.Bool.{true}
-use Rattle.rules.specs.District.{District, freshDistrict}
+use native.Mathlib.Omega.{arith}
+use Rattle.rules.specs.District.{District, mostSegments, segmentsOf, leaderOf, freshDistrict}
 use Rattle.rules.specs.File.{inRange}
 use Rattle.rules.specs.Table.{tableOf}
 use Rattle.rules.specs.Plan.{programmeOf, planOf}
@@ -12,6 +13,8 @@ use Rattle.rules.specs.Answers.{accepting}
 use Rattle.rules.specs.Calls.{unitOf, freshUnit, answered, loadOf, alterOf, showOf}
 use Rattle.rules.specs.Lists.{Call, Load, Alter, ExportTo, PageTo, Show, AskWhy, refusalOf, altered, districtFrom, districtAfter, outcomeOf, unitFrom, unitAfter}
 use Rattle.rules.specs.declared.Unit.{Unit}
+use Rattle.laws.specs.Tables.{LowerLeaders}
+use Rattle.grammar.proofs.InRanges.{in-ranges}
 use Rattle.grammar.proofs.Edits.{edit-kept}
 use Rattle.grammar.proofs.Fresh.{fresh-in-range}
 use Rattle.file.proofs.Forth.{loads-as}
@@ -83,8 +86,15 @@ pub after-in : (cs : List Call) → inRange (districtAfter cs) ≡ true
 unfolding districtAfter
 after-in cs = from-in freshDistrict cs fresh-in-range
 
+-- what is promised of programmes takes this of its ranges
+pub few-after : (cs : List Call) → segmentsOf (districtAfter cs) ≤ mostSegments
+few-after cs = in-ranges (districtAfter cs) (after-in cs) .segments
+
+pub lower-after : (cs : List Call) → LowerLeaders (leaderOf (districtAfter cs)) (segmentsOf (districtAfter cs))
+lower-after cs i l h = in-ranges (districtAfter cs) (after-in cs) .leader i l (omega (arith, few-after cs))
+
 -- ---- so it has a programme
 
-pub programme-after : (cs : List Call) → showOf (unitAfter cs) ≡ programmeOf (tableOf (districtAfter cs))
+pub programme-after : (cs : List Call) → showOf (unitAfter cs) ≡ programmeOf (tableOf (districtAfter cs)) (leaderOf (districtAfter cs))
 unfolding showOf unitOf planOf
 programme-after cs = ap (λ (u : Unit). u .programme) (after cs) ∙ rw (after-in cs)

@@ -10,11 +10,10 @@ use Rattle.rules.specs.Lists.{districtAfter}
 use Rattle.rules.specs.Demands.{TheRules}
 use Rattle.rules.specs.declared.Unit.{Unit}
 use Rattle.rules.specs.declared.Answer.the-variants.{Accepted}
-use Rattle.grammar.proofs.InRanges.{in-ranges}
 use Rattle.file.proofs.Back.{decode-encode}
 use Rattle.theorems.proofs.Promises as promises
 use Rattle.demands.proofs.EveryFile.{exports}
-use Rattle.demands.proofs.Lists.{after, district-after, after-in, programme-after}
+use Rattle.demands.proofs.Lists.{after, district-after, after-in, few-after, programme-after}
 
 loads-again : (u : Unit) (d : District) → inRange d ≡ true → loadOf u (encode d) ≡ record { answer = Accepted 0; unit = unitOf d }
 unfolding loadOf answered loadRefusal loadRefusalOf districtIn loadedOf answerOf accepting
@@ -25,7 +24,7 @@ the-rules cs =
     record {
       district = district-after cs;
       programme = programme-after cs;
-      finished = promises.finished (districtAfter cs) (in-ranges (districtAfter cs) (after-in cs) .segments);
+      finished = promises.finished (districtAfter cs) (few-after cs);
       exported = λ buffer room. rw (after cs) (exports (districtAfter cs) (encode (districtAfter cs)) buffer refl room);
       reloaded = λ u. rw (after cs) (loads-again u (districtAfter cs) (after-in cs));
     }

@@ -1,13 +1,13 @@
 // The edits of a district: what refuses each, and the district with the one value altered. Every function is total, for
 // any numbers and any value of the type, so that no call relies on a check made before it.
 ghost use mathlib.Core.Path.{_≡_};
-ghost use Prim.Native.Nat.{_-_, _<_};
+ghost use Prim.Native.Nat.{_+_, _-_, _<_};
 ghost use lib.ListN.{getD, set};
 ghost use Rattle.base.specs.Bits.{setBit, clearBit};
 ghost use Rattle.base.specs.Over.{between};
 ghost use Rattle.rules.specs.Answers.{unless, oneTo};
-ghost use Rattle.rules.specs.Calls.{barRefusal, limitRefusal, ratingRefusal, editRefusal, edited as Calls·edited};
-ghost use Rattle.rules.specs.District.{barsPlace, greatestOf, barsOf, withLimit, withBar, withoutBar, withRating, freshDistrict};
+ghost use Rattle.rules.specs.Calls.{barRefusal, limitRefusal, ratingRefusal, leaderRefusal, editRefusal, edited as Calls·edited};
+ghost use Rattle.rules.specs.District.{perSegment, segmentPlace, greatestOf, barsOf, withLimit, withBar, withoutBar, withRating, withLeader, freshDistrict};
 use rules::District;
 use rules::Edit;
 use rules::places::*;
@@ -37,6 +37,17 @@ fn with_value(d: District, at: usize, value: usize) -> District
     let mut e = d;
     e[at] = value;
     e
+}
+
+// The same at a place of a segment; there is none past the last segment.
+fn with_in_segment(d: District, segment: usize, at: usize, value: usize) -> District
+    requires { ⌜ at < perSegment ⌝ }
+    ensures { λ r. ⌜ r ≡ set d (segmentPlace segment + at) value ⌝ }
+{
+    if MOST_SEGMENTS < segment {
+        return d;
+    }
+    with_value(d, SEGMENTS + PER_SEGMENT * place(segment) + at, value)
 }
 
 // ---- refusals, in the order of their tests; a refusal is its number, and 0 is none
@@ -160,25 +171,41 @@ fn bars_of(d: District, segment: usize) -> usize
     value_at(d, SEGMENTS + PER_SEGMENT * place(segment) + BARS)
 }
 
-fn with_bars(d: District, segment: usize, bars: usize) -> District
-    ensures { λ r. ⌜ r ≡ set d (barsPlace segment) bars ⌝ }
-{
-    if MOST_SEGMENTS < segment {
-        return d;
-    }
-    with_value(d, SEGMENTS + PER_SEGMENT * place(segment) + BARS, bars)
-}
-
 fn with_bar(d: District, segment: usize, strategy: usize) -> District
     ensures { λ r. ⌜ r ≡ withBar d segment strategy ⌝ }
 {
-    with_bars(d, segment, set_bit(bars_of(d, segment), place(strategy)))
+    with_in_segment(
+        d,
+        segment,
+        BARS,
+        set_bit(bars_of(d, segment), place(strategy)),
+    )
 }
 
 fn without_bar(d: District, segment: usize, strategy: usize) -> District
     ensures { λ r. ⌜ r ≡ withoutBar d segment strategy ⌝ }
 {
-    with_bars(d, segment, clear_bit(bars_of(d, segment), place(strategy)))
+    with_in_segment(
+        d,
+        segment,
+        BARS,
+        clear_bit(bars_of(d, segment), place(strategy)),
+    )
+}
+
+// ---- leaders
+
+fn leader_refusal(d: District, segment: usize, leader: usize) -> usize
+    ensures { λ r. ⌜ r ≡ leaderRefusal d segment leader ⌝ }
+{
+    let below = refuse_unless(leader < segment, LEADER_NOT_BELOW, 0);
+    one_to(segment, d[SEGMENT_COUNT], NO_SUCH_SEGMENT, below)
+}
+
+fn with_leader(d: District, segment: usize, leader: usize) -> District
+    ensures { λ r. ⌜ r ≡ withLeader d segment leader ⌝ }
+{
+    with_in_segment(d, segment, LEADER, leader)
 }
 
 // ---- any edit
@@ -191,6 +218,7 @@ pub fn refusal(d: District, e: Edit) -> usize
         Edit::Unbar(i, j) => bar_refusal(d, i, j),
         Edit::SetLimit(r, limit) => limit_refusal(d, r, limit),
         Edit::SetRating(i, k, rating) => rating_refusal(d, i, k, rating),
+        Edit::SetLeader(i, leader) => leader_refusal(d, i, leader),
     }
 }
 
@@ -202,6 +230,7 @@ pub fn edited(d: District, e: Edit) -> District
         Edit::Unbar(i, j) => without_bar(d, i, j),
         Edit::SetLimit(r, limit) => with_limit(d, r, limit),
         Edit::SetRating(i, k, rating) => with_rating(d, i, k, rating),
+        Edit::SetLeader(i, leader) => with_leader(d, i, leader),
     }
 }
 

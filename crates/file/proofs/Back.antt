@@ -11,13 +11,13 @@ use lib.Seq.{getD-drop, take-at, drop-at, take-suc, take-all, take-add}
 use Rattle.base.proofs.Bytes.{length-bytes, number-bytes}
 use Rattle.base.specs.Bytes.{bytesOf, numberOf}
 use Rattle.rules.specs.District.{District, valueAt, districtPlaces}
-use Rattle.rules.specs.File.{found, size, readNumbers, readRecord, readRecords, decode, numberBytes, recordBytes, recordsBytes, encode, inRange}
+use Rattle.rules.specs.File.{found, size, readNumbers, readRecord, readRecords, decodeAs, decode, numberBytes, recordBytes, recordsBytes, encodeAs, formOf, encode, inRange}
 use Rattle.rules.specs.Format.{slotOf, present, fieldAt, inside, fileRecords}
 use Rattle.rules.specs.declared.Slot.{Slot}
-use Rattle.grammar.specs.Places.{startOf, Ready, InRange}
-use Rattle.grammar.proofs.Fits.{value-fits}
-use Rattle.grammar.proofs.InRange.{in-range}
-use Rattle.grammar.proofs.Slots.{slot-all, start-next, ready}
+use Rattle.grammar.specs.Places.{Form, Suits, startOf, Ready, InRange}
+use Rattle.grammar.proofs.Forms.{form-range, form-fits}
+use Rattle.grammar.proofs.Slots.{form-all, slot-all, start-next, ready}
+use Rattle.file.proofs.TwoForms.{form-of, suits-own, form-encoded}
 use Rattle.file.proofs.Steps.{widths-small, widths-take, number-good, length-numbers, header-there, header-none, record-none, record-there, records-found}
 
 -- what is written first is read first
@@ -68,25 +68,32 @@ module _ (d : District) (s : Slot) (place : ℕ) (r : Ready s place) (room : pla
 
 -- ---- the file
 
-kind-small : (n : ℕ) → slotOf n .kind < 65536
-kind-small = slot-all (λ (s : Slot). s .kind < 65536) (omega arith) (omega arith) (omega arith) (λ n. omega arith) (λ n. omega arith) (λ n. omega arith) (omega arith)
+kind-small : (form : ℕ) → Form form → (n : ℕ) → slotOf form n .kind < 65536
+kind-small form f = slot-all (λ (s : Slot). s .kind < 65536) form (form-all (λ (g : ℕ). g < 65536) (omega arith) (omega arith) form f) (omega arith) (omega arith) (λ n. omega arith) (λ n. omega arith) (λ n. omega arith) (omega arith)
 
-records-back : (d : District) → InRange d → (m n : ℕ) → n + m ≡ fileRecords → readRecords m n (take (startOf n) d) (recordsBytes m d n (startOf n)) ≡ found d []
-unfolding readRecords recordsBytes
-records-back d ok zero n e =
-    let z : n ≡ fileRecords = omega arith in
-    rw z (ap (λ (l : List ℕ). found l []) (take-all districtPlaces d (omega (arith, ok .places))))
-records-back d ok (suc m) n e =
-    let p = startOf n in
-    let s = slotOf n in
-    let r = ready n (omega arith) in
-    let rest = recordsBytes m d (n + 1) (p + s .places) in
-    let k = record-back d s p r (omega (arith, r .room, ok .places)) (λ i h. ok .values n i (omega arith) h) (λ i h. value-fits d ok n i (omega arith) h) (kind-small n) rest in
-    let ih = rw (start-next n) at (records-back d ok m (n + 1) (omega arith)) in
-    records-found m n (take p d) (recordBytes d s p ++ rest) (take (s .places) (drop p d)) rest k
-    ∙ ap (λ (l : List ℕ). readRecords m (n + 1) l rest) (sym (take-add p (s .places) d))
-    ∙ ih
+module _ (form : ℕ) (f : Form form) (d : District) (ok : InRange form d) where
+  records-back : (m n : ℕ) → n + m ≡ fileRecords → readRecords form m n (take (startOf n) d) (recordsBytes form m d n (startOf n)) ≡ found d []
+  unfolding readRecords recordsBytes
+  records-back zero n e =
+      let z : n ≡ fileRecords = omega arith in
+      rw z (ap (λ (l : List ℕ). found l []) (take-all districtPlaces d (omega (arith, ok .places))))
+  records-back (suc m) n e =
+      let p = startOf n in
+      let s = slotOf form n in
+      let r = ready form f n (omega arith) in
+      let rest = recordsBytes form m d (n + 1) (p + s .places) in
+      let k = record-back d s p r (omega (arith, r .room, ok .places)) (λ i h. ok .values n i (omega arith) h) (λ i h. form-fits form f d ok n i (omega arith) h) (kind-small form f n) rest in
+      let ih = rw (start-next form n) at (records-back m (n + 1) (omega arith)) in
+      records-found form m n (take p d) (recordBytes d s p ++ rest) (take (s .places) (drop p d)) rest k
+      ∙ ap (λ (l : List ℕ). readRecords form m (n + 1) l rest) (sym (take-add p (s .places) d))
+      ∙ ih
 
+-- of each form,
+pub decode-encode-as : (form : ℕ) → Form form → (d : District) → inRange d ≡ true → Suits form d → decodeAs form (encodeAs form d) ≡ found d []
+unfolding decodeAs encodeAs
+decode-encode-as form f d e s = records-back form f d (form-range form f d e s) fileRecords 0 refl
+
+-- and of the form that the district's file gets
 pub decode-encode : (d : District) → inRange d ≡ true → decode (encode d) ≡ found d []
 unfolding decode encode
-decode-encode d e = records-back d (in-range d e) fileRecords 0 refl
+decode-encode d e = rw (form-encoded (formOf d) (form-of d) d) (decode-encode-as (formOf d) (form-of d) d e (suits-own d))

@@ -1,7 +1,7 @@
 -- A file that loads is the file of the district that it loads as, which is in the file's ranges.
 use Prim.Native.Nat.{ℕ, zero, suc, _+_, _-_, _≤_, _<_}
 use mathlib.Core.Path.{_≡_, refl, sym, ap, subst, _∙_}
-use mathlib.Core.Bool.{Bool, true, false}
+use mathlib.Core.Bool.{Bool, true, false, _&&_}
 use mathlib.Core.List.{List, [], _∷_, _++_, append-assoc, append-nil}
 use mathlib.Core.Logic.{⊎-elim}
 use native.Mathlib.Nat.{add-zero, zero-add, eq-or-lt-of-le}
@@ -16,15 +16,17 @@ use Rattle.base.specs.Bytes.{Bytes, bytesOf, numberOf}
 use Rattle.base.specs.Choice.{pick}
 use Rattle.rules.specs.Answers.{accepting}
 use Rattle.rules.specs.Calls.{loadRefusalOf, loadRefusal, loadedOf, districtIn}
+use Rattle.rules.specs.Demands.{ledByNone}
 use Rattle.rules.specs.District.{District, valueAt, districtPlaces}
-use Rattle.rules.specs.File.{Read, refused, found, value, widths, size, readNumbers, readRecord, readRecords, decode, numberBytes, headerBytes, recordBytes, recordsBytes, encode, inRange}
-use Rattle.rules.specs.Format.{slotOf, present, fieldAt, inside, fileRecords}
+use Rattle.rules.specs.File.{Read, refused, found, value, widths, size, readNumbers, readRecord, readRecords, decodeAs, formIn, decode, numberBytes, headerBytes, recordBytes, recordsBytes, encodeAs, leaderless, encode, inRange}
+use Rattle.rules.specs.Format.{leaderForm, slotOf, present, fieldAt, inside, fileRecords}
 use Rattle.rules.specs.declared.Slot.{Slot}
-use Rattle.grammar.specs.Places.{startOf, Ready}
-use Rattle.grammar.proofs.InRange.{range-in}
+use Rattle.grammar.specs.Places.{Form, Suits, startOf, Ready}
+use Rattle.grammar.proofs.Forms.{range-form}
 use Rattle.grammar.proofs.Slots.{start-next, ready}
 use Rattle.file.specs.Readings.{loadedFrom}
 use Rattle.file.specs.declared.Loaded.{Loaded}
+use Rattle.file.proofs.TwoForms.{form-in, form-kept}
 use Rattle.file.proofs.Refusals.{refusals}
 use Rattle.file.proofs.Steps.{widths-none, widths-take, header-there, header-none, record-none, records-found, records-refused}
 
@@ -162,92 +164,102 @@ module _ (u : District) (s : Slot) (bs vs rest : List ℕ) where
 -- ---- the file
 
 -- what it says of the bytes that the records from the n-th on are read as d, after the numbers u, and leave the bytes end
-record TookAll (d : District) (m n : ℕ) (u bs end : List ℕ) : Type 0 where
+record TookAll (form : ℕ) (d : District) (m n : ℕ) (u bs end : List ℕ) : Type 0 where
   none : end ≡ []
   front : take (startOf n) d ≡ u
   all-of : length d ≡ districtPlaces
-  bytes : Bytes bs → bs ≡ recordsBytes m d n (startOf n)
-  good : (q i : ℕ) → n ≤ q → q < fileRecords → i < slotOf q .places → inside (fieldAt d (slotOf q) i) (valueAt d (startOf q + i)) ≡ true
+  bytes : Bytes bs → bs ≡ recordsBytes form m d n (startOf n)
+  good : (q i : ℕ) → n ≤ q → q < fileRecords → i < slotOf form q .places → inside (fieldAt d (slotOf form q) i) (valueAt d (startOf q + i)) ≡ true
 
 header-take : {s : Slot} {place : ℕ} → Ready s place → (d : District) → headerBytes (take place d) s ≡ headerBytes d s
 header-take {s} {place} r d = rw (r .here d, widths-take r d (s .places) 0 (omega arith))
 
 -- one record in front
-module _ (d : District) (m n : ℕ) (lt : n < fileRecords) (u bs vs rest end : List ℕ) (len : length u ≡ startOf n) (k : TookRecord u (slotOf n) bs vs rest) (ih : TookAll d m (n + 1) (u ++ vs) rest end) where
-  next-front : take (startOf n + slotOf n .places) d ≡ u ++ vs
-  next-front = rw (start-next n) at (ih .front)
+module _ (form : ℕ) (f : Form form) (d : District) (m n : ℕ) (lt : n < fileRecords) (u bs vs rest end : List ℕ) (len : length u ≡ startOf n) (k : TookRecord u (slotOf form n) bs vs rest) (ih : TookAll form d m (n + 1) (u ++ vs) rest end) where
+  next-front : take (startOf n + slotOf form n .places) d ≡ u ++ vs
+  next-front = rw (start-next form n) at (ih .front)
 
   this-front : take (startOf n) d ≡ u
   this-front =
-      sym (take-take (startOf n) (startOf n + slotOf n .places) d (omega arith)) ∙ ap (take (startOf n)) next-front ∙ take-at u vs (startOf n) len
+      sym (take-take (startOf n) (startOf n + slotOf form n .places) d (omega arith)) ∙ ap (take (startOf n)) next-front ∙ take-at u vs (startOf n) len
 
-  agree : (i : ℕ) → i < slotOf n .places → fieldAt u (slotOf n) i ≡ fieldAt d (slotOf n) i
-  agree i h = ap (λ (l : List ℕ). fieldAt l (slotOf n) i) (sym this-front) ∙ ready n lt .field d i h
+  agree : (i : ℕ) → i < slotOf form n .places → fieldAt u (slotOf form n) i ≡ fieldAt d (slotOf form n) i
+  agree i h = ap (λ (l : List ℕ). fieldAt l (slotOf form n) i) (sym this-front) ∙ ready form f n lt .field d i h
 
-  value-is : (i : ℕ) → i < slotOf n .places → getD d (startOf n + i) 0 ≡ getD vs i 0
+  value-is : (i : ℕ) → i < slotOf form n .places → getD d (startOf n + i) 0 ≡ getD vs i 0
   value-is i h =
-      sym (getD-take (startOf n + slotOf n .places) d (startOf n + i) 0 (omega arith))
+      sym (getD-take (startOf n + slotOf form n .places) d (startOf n + i) 0 (omega arith))
       ∙ ap (λ (l : List ℕ). getD l (startOf n + i) 0) next-front
       ∙ ap (λ (p : ℕ). getD (u ++ vs) (p + i) 0) (sym len)
       ∙ getD-append-add u vs i 0
 
-  this-good : (i : ℕ) → i < slotOf n .places → inside (fieldAt d (slotOf n) i) (valueAt d (startOf n + i)) ≡ true
+  this-good : (i : ℕ) → i < slotOf form n .places → inside (fieldAt d (slotOf form n) i) (valueAt d (startOf n + i)) ≡ true
   this-good i h = rw (← agree i h, value-is i h) (k .good i h)
 
   rest-bytes : Bytes bs → Bytes rest
   rest-bytes h =
-      bytes-suffix (valueBytes u (slotOf n) 0 vs) rest (bytes-suffix (headerBytes u (slotOf n)) (valueBytes u (slotOf n) 0 vs ++ rest) (subst Bytes (k .bytes h) h))
+      bytes-suffix (valueBytes u (slotOf form n) 0 vs) rest (bytes-suffix (headerBytes u (slotOf form n)) (valueBytes u (slotOf form n) 0 vs ++ rest) (subst Bytes (k .bytes h) h))
 
-  these-bytes : Bytes bs → bs ≡ recordsBytes (suc m) d n (startOf n)
+  these-bytes : Bytes bs → bs ≡ recordsBytes form (suc m) d n (startOf n)
   unfolding recordsBytes
   these-bytes h =
-      let s = slotOf n in
+      let s = slotOf form n in
       let p = startOf n in
       k .bytes h
-      ∙ ap (λ (y : List ℕ). y ++ (valueBytes u s 0 vs ++ rest)) (ap (λ (l : List ℕ). headerBytes l s) (sym this-front) ∙ header-take (ready n lt) d)
+      ∙ ap (λ (y : List ℕ). y ++ (valueBytes u s 0 vs ++ rest)) (ap (λ (l : List ℕ). headerBytes l s) (sym this-front) ∙ header-take (ready form f n lt) d)
       ∙ ap (λ (y : List ℕ). headerBytes d s ++ (y ++ rest)) (values-are d u s agree vs (s .places) 0 p (k .count) (omega arith) value-is)
       ∙ sym (append-assoc (headerBytes d s) (numberBytes (s .places) d s 0 p) rest)
-      ∙ ap (λ (y : List ℕ). recordBytes d s p ++ y) (rw (start-next n) at (ih .bytes (rest-bytes h)))
+      ∙ ap (λ (y : List ℕ). recordBytes d s p ++ y) (rw (start-next form n) at (ih .bytes (rest-bytes h)))
 
-  took-record : TookAll d (suc m) n u bs end
+  took-record : TookAll form d (suc m) n u bs end
   took-record = record { none = ih .none; front = this-front; all-of = ih .all-of; bytes = these-bytes; good = every }
     where
-      every : (q i : ℕ) → n ≤ q → q < fileRecords → i < slotOf q .places → inside (fieldAt d (slotOf q) i) (valueAt d (startOf q + i)) ≡ true
+      every : (q i : ℕ) → n ≤ q → q < fileRecords → i < slotOf form q .places → inside (fieldAt d (slotOf form q) i) (valueAt d (startOf q + i)) ≡ true
       every q i a b c =
-          ⊎-elim (λ (e : n ≡ q). subst (λ (q : ℕ). i < slotOf q .places → inside (fieldAt d (slotOf q) i) (valueAt d (startOf q + i)) ≡ true) e (this-good i) c)
+          ⊎-elim (λ (e : n ≡ q). subst (λ (q : ℕ). i < slotOf form q .places → inside (fieldAt d (slotOf form q) i) (valueAt d (startOf q + i)) ≡ true) e (this-good i) c)
           (λ l. ih .good q i (omega arith) b c)
           (eq-or-lt-of-le a)
 
-records-forth : (d : District) (m n : ℕ) (u bs rest : List ℕ) → n + m ≡ fileRecords → length u ≡ startOf n → readRecords m n u bs ≡ found d rest → TookAll d m n u bs rest
-unfolding readRecords recordsBytes
-records-forth d zero n u [] rest e l q =
-    let z : n ≡ fileRecords = omega arith in
-    let a : length u ≡ districtPlaces = rw z at l in
-    let v : u ≡ d = found-values u [] d rest q in
-    record { none = sym (found-rest u [] d rest q); front = rw z (take-all districtPlaces d (omega (arith, ap length v)) ∙ sym v); all-of = omega (arith, ap length v); bytes = λ h. refl; good = λ q i x y w. absurd (omega arith) }
-records-forth d zero n u (b ∷ bs) rest e l q = absurd (never 5 d rest q)
-records-forth d (suc m) n u bs rest e l q = go (readRecord u (slotOf n) bs) refl (λ vs cs. records-forth d m (n + 1) (u ++ vs) cs rest (omega arith))
-  where
-    go : (o : Read) → readRecord u (slotOf n) bs ≡ o → ((vs cs : List ℕ) → length (u ++ vs) ≡ startOf (n + 1) → readRecords m (n + 1) (u ++ vs) cs ≡ found d rest → TookAll d m (n + 1) (u ++ vs) cs rest) → TookAll d (suc m) n u bs rest
-    go (refused k) t ih = absurd (never k d rest (sym (records-refused m n u bs k t) ∙ q))
-    go (found vs cs) t ih =
-        let k = record-forth u (slotOf n) bs vs cs t in
-        let c : length (u ++ vs) ≡ startOf (n + 1) = omega (arith, length-append u vs, start-next n, k .count) in
-        took-record d m n (omega arith) u bs vs cs rest l k (ih vs cs c (sym (records-found m n u bs vs cs t) ∙ q))
+module _ (form : ℕ) (f : Form form) where
+  records-forth : (d : District) (m n : ℕ) (u bs rest : List ℕ) → n + m ≡ fileRecords → length u ≡ startOf n → readRecords form m n u bs ≡ found d rest → TookAll form d m n u bs rest
+  unfolding readRecords recordsBytes
+  records-forth d zero n u [] rest e l q =
+      let z : n ≡ fileRecords = omega arith in
+      let a : length u ≡ districtPlaces = rw z at l in
+      let v : u ≡ d = found-values u [] d rest q in
+      record { none = sym (found-rest u [] d rest q); front = rw z (take-all districtPlaces d (omega (arith, ap length v)) ∙ sym v); all-of = omega (arith, ap length v); bytes = λ h. refl; good = λ q i x y w. absurd (omega arith) }
+  records-forth d zero n u (b ∷ bs) rest e l q = absurd (never 5 d rest q)
+  records-forth d (suc m) n u bs rest e l q = go (readRecord u (slotOf form n) bs) refl (λ vs cs. records-forth d m (n + 1) (u ++ vs) cs rest (omega arith))
+    where
+      go : (o : Read) → readRecord u (slotOf form n) bs ≡ o → ((vs cs : List ℕ) → length (u ++ vs) ≡ startOf (n + 1) → readRecords form m (n + 1) (u ++ vs) cs ≡ found d rest → TookAll form d m (n + 1) (u ++ vs) cs rest) → TookAll form d (suc m) n u bs rest
+      go (refused k) t ih = absurd (never k d rest (sym (records-refused form m n u bs k t) ∙ q))
+      go (found vs cs) t ih =
+          let k = record-forth u (slotOf form n) bs vs cs t in
+          let c : length (u ++ vs) ≡ startOf (n + 1) = omega (arith, length-append u vs, start-next form n, k .count) in
+          took-record form f d m n (omega arith) u bs vs cs rest l k (ih vs cs c (sym (records-found form m n u bs vs cs t) ∙ q))
 
-pub encode-decode : (file d rest : List ℕ) → decode file ≡ found d rest → (Bytes file → encode d ≡ file) × (inRange d ≡ true) × (rest ≡ [])
+-- of each form,
+pub encode-decode-as : (form : ℕ) → Form form → (file d rest : List ℕ) → decodeAs form file ≡ found d rest → (Bytes file → encodeAs form d ≡ file) × (inRange d ≡ true) × Suits form d × (rest ≡ [])
+unfolding decodeAs encodeAs
+encode-decode-as form f file d rest e =
+    let k = records-forth form f d fileRecords 0 [] file rest refl refl e in
+    let r = range-form form f d (record { places = k .all-of; values = λ n i a b. k .good n i (omega arith) a b }) in
+    ((λ h. sym (k .bytes h)), r .0, r .1, k .none)
+
+-- and of the form that the file names, where that is the form of the district's file
+pub encode-decode : (file d rest : List ℕ) → decode file ≡ found d rest → (Bytes file → (eqb (formIn file) leaderForm && leaderless d) ≡ false → encode d ≡ file) × (inRange d ≡ true) × (rest ≡ [])
 unfolding decode encode
 encode-decode file d rest e =
-    let k = records-forth d fileRecords 0 [] file rest refl refl e in
-    ((λ h. sym (k .bytes h)), range-in d (record { places = k .all-of; values = λ n i a b. k .good n i (omega arith) a b }), k .none)
+    let k = encode-decode-as (formIn file) (form-in file) file d rest e in
+    ((λ h t. ap (λ (g : ℕ). encodeAs g d) (form-kept (formIn file) (form-in file) d (k .2) t) ∙ k .0 h), k .1, k .3)
 
 -- ---- what a file loads as
 
-pub loads-as : (file : List ℕ) → loadRefusal file ≡ 0 → (Bytes file → encode (districtIn file) ≡ file) × (inRange (districtIn file) ≡ true)
+pub loads-as : (file : List ℕ) → loadRefusal file ≡ 0 → (Bytes file → ledByNone file ≡ false → encode (districtIn file) ≡ file) × (inRange (districtIn file) ≡ true)
 unfolding loadRefusal loadRefusalOf districtIn loadedOf
 loads-as file e = go (decode file) refl
   where
-    go : (o : Read) → decode file ≡ o → (Bytes file → encode (loadedOf (decode file)) ≡ file) × (inRange (loadedOf (decode file)) ≡ true)
+    go : (o : Read) → decode file ≡ o → (Bytes file → (eqb (formIn file) leaderForm && leaderless (loadedOf (decode file))) ≡ false → encode (loadedOf (decode file)) ≡ file) × (inRange (loadedOf (decode file)) ≡ true)
     go (refused n) q = absurd (omega (arith, refusals file n q, ap loadRefusalOf q))
     go (found d rest) q = let k = encode-decode file d rest q in rw q (k .0, k .1)
 

@@ -9,23 +9,26 @@ use lib.ListN.{length, replicate, length-append}
 use borrow.Author.Tests.{ltb-true, lt-ltb}
 use Rattle.base.specs.Bytes.{bytesOf}
 use Rattle.base.specs.Choice.{pick}
-use Rattle.rules.specs.District.{District, greatestOf, mostResources, mostDistresses, mostSegments, strategiesAt, segmentsAt, barsAt, perSegment}
-use Rattle.rules.specs.File.{widths, size, headerBytes, recordBytes, recordsBytes, encode, numbersInRange, recordsInRange, inRange, longestFile}
-use Rattle.rules.specs.Format.{number, absent, ranged, slotOf, present, kindField, fieldAt, fileRecords, mostCounts}
+use Rattle.base.specs.Over.{all}
+use Rattle.rules.specs.District.{District, greatestOf, leaderOf, withLeader, mostResources, mostDistresses, mostSegments, strategiesAt, segmentsAt, barsAt, perSegment}
+use Rattle.rules.specs.File.{widths, size, headerBytes, recordBytes, recordsBytes, encodeAs, leaderless, formOf, encode, numbersInRange, recordsInRange, inRange, longestFile}
+use Rattle.rules.specs.Format.{plainForm, leaderForm, number, absent, ranged, slotOf, present, kindField, fieldAt, fileRecords, mostCounts}
 use Rattle.rules.specs.declared.Field.{Field}
 use Rattle.rules.specs.declared.Slot.{Slot}
-use Rattle.grammar.specs.Places.{InRange}
+use Rattle.grammar.specs.Places.{Form, InRange}
 use Rattle.grammar.proofs.InRange.{in-range}
 use Rattle.grammar.proofs.InRanges.{segments, strategies, years, distresses, pavements, resources}
+use Rattle.grammar.proofs.Slots.{form-all}
 use Rattle.file.proofs.Steps.{length-record}
+use Rattle.file.proofs.TwoForms.{form-of}
 
--- a district with every count at its greatest, and else the smallest numbers that the file may hold
+-- a district with every count at its greatest, a leader, and else the smallest numbers that the file may hold
 least-segments : ℕ → List ℕ
 least-segments zero = []
 least-segments (suc n) = 1 ∷ 100 ∷ 100 ∷ 1 ∷ 1 ∷ replicate (perSegment - barsAt) 0 ++ least-segments n
 
 pub full : District
-full = mostCounts ++ (replicate mostResources 0 ++ (replicate mostDistresses 1 ++ (replicate (segmentsAt - strategiesAt) 0 ++ least-segments mostSegments)))
+full = withLeader (mostCounts ++ (replicate mostResources 0 ++ (replicate mostDistresses 1 ++ (replicate (segmentsAt - strategiesAt) 0 ++ least-segments mostSegments)))) mostSegments 1
 
 -- a field is no wider than another; a test passes only where another does
 record Le (f g : Field) : Type 0 where
@@ -61,23 +64,24 @@ imp-same false a b a′ b′ h k = k
 
 ruleset mono = (le-number, le-absent, le-imp, le-same, imp-refl, imp-ltb, imp-same)
 
--- the bytes of m records, from the n-th on
-total : ℕ → District → ℕ → ℕ
-total zero d n = 0
-total (suc m) d n = (length (headerBytes d (slotOf n)) + size d (slotOf n)) + total m d (n + 1)
+-- the bytes of m records of a form, from the n-th on
+total : ℕ → ℕ → District → ℕ → ℕ
+total form zero d n = 0
+total form (suc m) d n = (length (headerBytes d (slotOf form n)) + size d (slotOf form n)) + total form m d (n + 1)
 
-length-records : (d : District) (m n place : ℕ) → length (recordsBytes m d n place) ≡ total m d n
+length-records : (form : ℕ) (d : District) (m n place : ℕ) → length (recordsBytes form m d n place) ≡ total form m d n
 unfolding recordsBytes total
-length-records d zero n place = refl
-length-records d (suc m) n place =
-    length-append (recordBytes d (slotOf n) place) (recordsBytes m d (n + 1) (place + slotOf n .places))
-    ∙ omega (arith, length-record d (slotOf n) place, length-records d m (n + 1) (place + slotOf n .places))
+length-records form d zero n place = refl
+length-records form d (suc m) n place =
+    let s = slotOf form n in
+    length-append (recordBytes d s place) (recordsBytes form m d (n + 1) (place + s .places))
+    ∙ omega (arith, length-record d s place, length-records form d m (n + 1) (place + s .places))
 
-length-file : (d : District) → length (encode d) ≡ total fileRecords d 0
-unfolding encode
-length-file d = length-records d fileRecords 0 0
+length-file : (form : ℕ) (d : District) → length (encodeAs form d) ≡ total form fileRecords d 0
+unfolding encodeAs
+length-file form d = length-records form d fileRecords 0 0
 
-module _ (d : District) (ok : InRange d) where
+module _ (d : District) (ok : InRange leaderForm d) where
   present-top : (s : Slot) → Imp (present d s) (present mostCounts s)
   present-top s =
       let N = segments d ok .1 in
@@ -85,8 +89,8 @@ module _ (d : District) (ok : InRange d) where
       let Y = pavements d ok .1 in
       search mono depth 20
 
-  kind-top : (k n : ℕ) → Le (kindField d k n) (kindField mostCounts k n)
-  kind-top k n =
+  kind-top : (s : Slot) (n : ℕ) → Le (kindField d s n) (kindField mostCounts s n)
+  kind-top s n =
       let T = years d ok .1 in
       let D = distresses d ok .1 in
       let R = resources d ok .1 in
@@ -94,7 +98,7 @@ module _ (d : District) (ok : InRange d) where
 
   field-top : (s : Slot) (n : ℕ) → fieldAt d s n .width ≤ fieldAt mostCounts s n .width
   unfolding fieldAt
-  field-top s n = le-imp (present d s) (present mostCounts s) (kindField d (s .kind) n) (kindField mostCounts (s .kind) n) (present-top s) (kind-top (s .kind) n) .le
+  field-top s n = le-imp (present d s) (present mostCounts s) (kindField d s n) (kindField mostCounts s n) (present-top s) (kind-top s n) .le
 
   widths-top : (m : ℕ) (s : Slot) (n : ℕ) → widths m d s n ≤ widths m mostCounts s n
   widths-top zero s n = omega arith
@@ -108,20 +112,34 @@ module _ (d : District) (ok : InRange d) where
       go true false i x y h = absurd (true≢false (sym (i .imp refl)))
       go false b i x y h = omega arith
 
-  total-top : (m n : ℕ) → total m d n ≤ total m mostCounts n
+  total-top : (form m n : ℕ) → total form m d n ≤ total form m mostCounts n
   unfolding total
-  total-top zero n = omega arith
-  total-top (suc m) n = omega (arith, header-top (slotOf n), widths-top (slotOf n .places) (slotOf n) 0, total-top m (n + 1))
+  total-top form zero n = omega arith
+  total-top form (suc m) n =
+      let s = slotOf form n in
+      omega (arith, header-top s, widths-top (s .places) s 0, total-top form m (n + 1))
 
-total-most : total fileRecords mostCounts 0 ≡ longestFile
+-- in the plain form there is a byte less for each of 64 segments
+total-most : total leaderForm fileRecords mostCounts 0 ≡ longestFile
 unfolding total fieldAt
 total-most = refl
 
-chain : {a b c m : ℕ} → a ≡ b → b ≤ c → c ≡ m → a ≤ m
+total-plain : total plainForm fileRecords mostCounts 0 + mostSegments ≡ longestFile
+unfolding total fieldAt
+total-plain = refl
+
+chain : {a b c m : ℕ} → a ≡ b → b ≤ c → c ≤ m → a ≤ m
 chain e h f = omega arith
 
+pub longest-as : (form : ℕ) → Form form → (d : District) → inRange d ≡ true → length (encodeAs form d) ≤ longestFile
+longest-as form f d e = chain (length-file form d) (total-top d (in-range d e) form fileRecords 0) most
+  where
+    most : total form fileRecords mostCounts 0 ≤ longestFile
+    most = form-all (λ (g : ℕ). total g fileRecords mostCounts 0 ≤ longestFile) (omega (arith, total-plain)) (omega (arith, total-most)) form f
+
 pub longest : (d : District) → inRange d ≡ true → length (encode d) ≤ longestFile
-longest d e = chain (length-file d) (total-top d (in-range d e) fileRecords 0) total-most
+unfolding encode
+longest d e = longest-as (formOf d) (form-of d) d e
 
 -- ---- one is as long
 
@@ -129,6 +147,10 @@ pub full-in-range : inRange full ≡ true
 unfolding full least-segments greatestOf ranged fieldAt numbersInRange recordsInRange inRange
 full-in-range = refl
 
+full-led : formOf full ≡ leaderForm
+unfolding full least-segments leaderOf all leaderless formOf
+full-led = refl
+
 pub full-long : length (encode full) ≡ longestFile
-unfolding total full least-segments fieldAt
-full-long = length-file full ∙ refl
+unfolding total full least-segments fieldAt encode
+full-long = rw full-led (length-file leaderForm full ∙ refl)

@@ -11,10 +11,11 @@ use Rattle.base.specs.Bytes.{numberOf}
 use Rattle.rules.specs.Answers.{unless, answerOf, accepting, cutShort, otherKind, otherLength, outOfRange, bytesFollow}
 use Rattle.rules.specs.Calls.{loadRefusalOf, loadRefusal, loadedOf, districtIn, exported}
 use Rattle.rules.specs.District.{District, districtPlaces}
-use Rattle.rules.specs.File.{Read, refused, found, value, size, readNumbers, readRecord, andThen, readRecords, decode}
+use Rattle.rules.specs.File.{Read, refused, found, value, size, readNumbers, kindIn, readRecord, andThen, readRecords, decodeAs, formIn, decode}
 use Rattle.rules.specs.Format.{present, fieldAt, inside, slotOf, fileRecords}
 use Rattle.rules.specs.declared.Answer.the-variants.{Accepted, Refused}
 use Rattle.rules.specs.declared.Slot.{Slot}
+use Rattle.file.specs.Forms.{loadedAs}
 use Rattle.file.specs.Readings.{loadedFrom}
 
 -- a refusal is one of document 01's table for files
@@ -34,26 +35,30 @@ unfolding readRecord
 record-right d s bs =
     pick-all Right (present d s) _ _
     (pick-all Right (ltb (length bs) 4) (refused cutShort) _ (omega arith, omega arith)
-    (pick-all Right (eqb (numberOf (take 2 (drop 2 bs))) (s .kind)) _ (refused otherKind)
+    (pick-all Right (eqb (kindIn bs) (s .kind)) _ (refused otherKind)
     (pick-all Right (eqb (numberOf (take 2 bs)) (size d s)) _ (refused otherLength)
     (pick-all Right (ltb (length bs - 4) (size d s)) (refused cutShort) _ (omega arith, omega arith) (numbers-right (s .places) d s 0 [] (drop 4 bs)))
     (omega arith, omega arith))
     (omega arith, omega arith)))
     (numbers-right (s .places) d s 0 [] bs)
 
-records-right : (m n : ℕ) (d : District) (bs : List ℕ) → Right (readRecords m n d bs)
+records-right : (form m n : ℕ) (d : District) (bs : List ℕ) → Right (readRecords form m n d bs)
 unfolding readRecords
-records-right zero n d [] = tt
-records-right zero n d (b ∷ bs) = (omega arith, omega arith)
-records-right (suc m) n d bs = then (readRecord d (slotOf n) bs) (λ vs rest. readRecords m (n + 1) (d ++ vs) rest) (record-right d (slotOf n) bs) (λ vs rest. records-right m (n + 1) (d ++ vs) rest)
+records-right form zero n d [] = tt
+records-right form zero n d (b ∷ bs) = (omega arith, omega arith)
+records-right form (suc m) n d bs = then (readRecord d (slotOf form n) bs) (λ vs rest. readRecords form m (n + 1) (d ++ vs) rest) (record-right d (slotOf form n) bs) (λ vs rest. records-right form m (n + 1) (d ++ vs) rest)
   where
     then : (r : Read) (next : List ℕ → List ℕ → Read) → Right r → ((vs rest : List ℕ) → Right (next vs rest)) → Right (andThen r next)
     then (refused k) next h all = h
     then (found vs rest) next h all = all vs rest
 
+pub refusals-as : (form : ℕ) (file : List ℕ) (n : ℕ) → decodeAs form file ≡ refused n → (1 ≤ n) × (n ≤ bytesFollow)
+unfolding decodeAs
+refusals-as form file n e = subst Right e (records-right form fileRecords 0 [] file)
+
 pub refusals : (file : List ℕ) (n : ℕ) → decode file ≡ refused n → (1 ≤ n) × (n ≤ bytesFollow)
 unfolding decode
-refusals file n e = subst Right e (records-right fileRecords 0 [] file)
+refusals file n e = refusals-as (formIn file) file n e
 
 pub refusal-most : (file : List ℕ) → loadRefusal file ≤ bytesFollow
 unfolding loadRefusal loadRefusalOf
@@ -65,14 +70,19 @@ refusal-most file = go (decode file) refl
 
 -- ---- what a load gives
 
-pub loaded-found : (file : List ℕ) (d : District) (rest : List ℕ) → decode file ≡ found d rest → record { refusal = 0; district = d } ≡ loadedFrom file
-unfolding loadRefusal loadRefusalOf districtIn loadedOf accepting
-loaded-found file d rest e = rw e
+pub loaded-found : (form : ℕ) (file : List ℕ) (d : District) (rest : List ℕ) → decodeAs form file ≡ found d rest → record { refusal = 0; district = d } ≡ loadedAs form file
+unfolding loadRefusalOf loadedOf accepting
+loaded-found form file d rest e = rw e
 
-pub loaded-refused : (file : List ℕ) (n : ℕ) → decode file ≡ refused n → record { refusal = n; district = replicate districtPlaces 0 } ≡ loadedFrom file
-unfolding loadRefusal loadRefusalOf districtIn loadedOf accepting
-loaded-refused file zero e = absurd (omega (arith, refusals file zero e .0))
-loaded-refused file (suc n) e = rw e
+pub loaded-refused : (form : ℕ) (file : List ℕ) (n : ℕ) → decodeAs form file ≡ refused n → record { refusal = n; district = replicate districtPlaces 0 } ≡ loadedAs form file
+unfolding loadRefusalOf loadedOf accepting
+loaded-refused form file zero e = absurd (omega (arith, refusals-as form file zero e .0))
+loaded-refused form file (suc n) e = rw e
+
+-- in a form in which the file is read as it is in its own
+pub loaded-from : (form : ℕ) (file : List ℕ) → decodeAs form file ≡ decode file → loadedAs form file ≡ loadedFrom file
+unfolding loadRefusal districtIn
+loaded-from form file e = rw e
 
 -- ---- what a call gives that writes into a buffer: whether that has the bytes that are needed decides
 

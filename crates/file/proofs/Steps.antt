@@ -12,8 +12,8 @@ use Rattle.base.proofs.Bytes.{length-bytes}
 use Rattle.base.proofs.Choice.{picks, pick-yes, pick-no, pick-all}
 use Rattle.base.specs.Bytes.{bytesOf, numberOf}
 use Rattle.rules.specs.District.{District}
-use Rattle.rules.specs.File.{refused, found, value, widths, size, readNumbers, readRecord, readRecords, numberBytes, headerBytes, recordBytes, recordsBytes, numbersInRange, recordsInRange}
-use Rattle.rules.specs.Format.{present, fieldAt, inside, slotOf, fileRecords}
+use Rattle.rules.specs.File.{refused, found, value, widths, size, readNumbers, kindIn, readRecord, readRecords, numberBytes, headerBytes, recordBytes, recordsBytes, numbersInRange, recordsInRange}
+use Rattle.rules.specs.Format.{leaderForm, present, fieldAt, inside, slotOf, fileRecords}
 use Rattle.rules.specs.declared.Field.{Field}
 use Rattle.rules.specs.declared.Slot.{Slot}
 use Rattle.rules.specs.Answers.{outOfRange, bytesFollow}
@@ -94,17 +94,17 @@ numbers-step m d s n place f h e =
     rw (less m n h, e, q)
 
 -- a record less to write
-pub records-step : (d : District) (n place : ℕ) (s : Slot) → n < fileRecords → s ≡ slotOf n → recordsBytes (fileRecords - n) d n place ≡ recordBytes d s place ++ recordsBytes (fileRecords - (n + 1)) d (n + 1) (place + s .places)
+pub records-step : (form : ℕ) (d : District) (n place : ℕ) (s : Slot) → n < fileRecords → s ≡ slotOf form n → recordsBytes form (fileRecords - n) d n place ≡ recordBytes d s place ++ recordsBytes form (fileRecords - (n + 1)) d (n + 1) (place + s .places)
 unfolding recordsBytes
-records-step d n place s h e = rw (less fileRecords n h, e)
+records-step form d n place s h e = rw (less fileRecords n h, e)
 
-pub length-records : (m : ℕ) (d : District) (n place : ℕ) → length (recordsBytes m d n place) ≤ 464 * m
+pub length-records : (form m : ℕ) (d : District) (n place : ℕ) → length (recordsBytes form m d n place) ≤ 464 * m
 unfolding recordsBytes
-length-records zero d n place = omega arith
-length-records (suc m) d n place =
-    let s = slotOf n in
+length-records form zero d n place = omega arith
+length-records form (suc m) d n place =
+    let s = slotOf form n in
     let h = pick-all (λ (l : List ℕ). length l ≤ 4) (present d s) (bytesOf 2 (size d s) ++ bytesOf 2 (s .kind)) [] (omega arith) (omega arith) in
-    omega (arith, h, length-append (recordBytes d s place) (recordsBytes m d (n + 1) (place + s .places)), length-record d s place, widths-small (s .places) d s 0, few-places n, length-records m d (n + 1) (place + s .places))
+    omega (arith, h, length-append (recordBytes d s place) (recordsBytes form m d (n + 1) (place + s .places)), length-record d s place, widths-small (s .places) d s 0, few-places form n, length-records form m d (n + 1) (place + s .places))
 
 -- ---- reading a record
 
@@ -113,29 +113,29 @@ module _ (d : District) (s : Slot) (bs : List ℕ) where
   unfolding readRecord
   record-none t = sym (pick-no _ _ _ _ t refl)
 
-  pub record-there : present d s ≡ true → 4 ≤ length bs → numberOf (take 2 (drop 2 bs)) ≡ s .kind → numberOf (take 2 bs) ≡ size d s → size d s ≤ length bs - 4 → readRecord d s bs ≡ readNumbers (s .places) d s 0 [] (drop 4 bs)
+  pub record-there : present d s ≡ true → 4 ≤ length bs → kindIn bs ≡ s .kind → numberOf (take 2 bs) ≡ size d s → size d s ≤ length bs - 4 → readRecord d s bs ≡ readNumbers (s .places) d s 0 [] (drop 4 bs)
   unfolding readRecord
   record-there t l k n h = sym (search picks depth 10)
 
 -- ---- reading the file
 
-pub records-found : (m n : ℕ) (d bs vs rest : List ℕ) → readRecord d (slotOf n) bs ≡ found vs rest → readRecords (suc m) n d bs ≡ readRecords m (n + 1) (d ++ vs) rest
+pub records-found : (form m n : ℕ) (d bs vs rest : List ℕ) → readRecord d (slotOf form n) bs ≡ found vs rest → readRecords form (suc m) n d bs ≡ readRecords form m (n + 1) (d ++ vs) rest
 unfolding readRecords
-records-found m n d bs vs rest e = rw e
+records-found form m n d bs vs rest e = rw e
 
-pub records-refused : (m n : ℕ) (d bs : List ℕ) (k : ℕ) → readRecord d (slotOf n) bs ≡ refused k → readRecords (suc m) n d bs ≡ refused k
+pub records-refused : (form m n : ℕ) (d bs : List ℕ) (k : ℕ) → readRecord d (slotOf form n) bs ≡ refused k → readRecords form (suc m) n d bs ≡ refused k
 unfolding readRecords
-records-refused m n d bs k e = rw e
+records-refused form m n d bs k e = rw e
 
-pub records-end : (n : ℕ) (d bs : List ℕ) → length bs ≡ 0 → readRecords 0 n d bs ≡ found d []
+pub records-end : (form n : ℕ) (d bs : List ℕ) → length bs ≡ 0 → readRecords form 0 n d bs ≡ found d []
 unfolding readRecords
-records-end n d [] h = refl
-records-end n d (b ∷ bs) h = absurd (omega arith)
+records-end form n d [] h = refl
+records-end form n d (b ∷ bs) h = absurd (omega arith)
 
-pub records-over : (n : ℕ) (d bs : List ℕ) → 0 < length bs → readRecords 0 n d bs ≡ refused bytesFollow
+pub records-over : (form n : ℕ) (d bs : List ℕ) → 0 < length bs → readRecords form 0 n d bs ≡ refused bytesFollow
 unfolding readRecords
-records-over n d [] h = absurd (omega arith)
-records-over n d (b ∷ bs) h = refl
+records-over form n d [] h = absurd (omega arith)
+records-over form n d (b ∷ bs) h = refl
 
 -- ---- ranges
 
@@ -145,6 +145,6 @@ range-step m d s n place f h e =
     let q : place + (n + 1) ≡ place + n + 1 = omega arith in
     rw (less m n h, e, q, getD-drop (place + n) d 0 0, add-zero (place + n), drop-drop 1 (place + n) d)
 
-pub ranges-step : (d : District) (n place : ℕ) (s : Slot) → n < fileRecords → s ≡ slotOf n → recordsInRange (fileRecords - n) d n (drop place d) ≡ (numbersInRange (s .places) d s 0 (drop place d) && recordsInRange (fileRecords - (n + 1)) d (n + 1) (drop (place + s .places) d))
+pub ranges-step : (d : District) (n place : ℕ) (s : Slot) → n < fileRecords → s ≡ slotOf leaderForm n → recordsInRange (fileRecords - n) d n (drop place d) ≡ (numbersInRange (s .places) d s 0 (drop place d) && recordsInRange (fileRecords - (n + 1)) d (n + 1) (drop (place + s .places) d))
 unfolding recordsInRange
-ranges-step d n place s h e = rw (less fileRecords n h, e, drop-drop (slotOf n .places) place d)
+ranges-step d n place s h e = rw (less fileRecords n h, e, drop-drop (slotOf leaderForm n .places) place d)

@@ -1,24 +1,20 @@
 -- The theorems of the file in one, as the contract of `longest_file` cites them.
-use mathlib.Core.Path.{_≡_, refl}
-use mathlib.Core.List.{[]}
-use Rattle.rules.specs.District.{greatestOf, freshDistrict}
-use Rattle.rules.specs.File.{found, readNumbers, readRecord, readRecords, decode, numberBytes, recordsBytes, encode, longestFile}
-use Rattle.rules.specs.Format.{ranged, fieldAt}
+use Rattle.rules.specs.District.{freshDistrict}
+use Rattle.rules.specs.File.{longestFile}
+use Rattle.grammar.proofs.Fresh.{fresh-in-range}
 use Rattle.file.specs.Trips.{Trips}
-use Rattle.file.proofs.Back.{decode-encode}
-use Rattle.file.proofs.Forth.{encode-decode}
-use Rattle.file.proofs.Longest.{longest, full, full-in-range, full-long}
-
-pub fresh-loads : decode (encode freshDistrict) ≡ found freshDistrict []
-unfolding greatestOf freshDistrict ranged fieldAt readNumbers readRecord readRecords decode numberBytes recordsBytes encode
-fresh-loads = refl
+use Rattle.file.proofs.Back.{decode-encode-as, decode-encode}
+use Rattle.file.proofs.Forth.{encode-decode-as, encode-decode}
+use Rattle.file.proofs.Longest.{longest-as, full, full-in-range, full-long}
 
 pub trips : Trips longestFile
 trips =
     record {
+      back-as = decode-encode-as;
+      forth-as = encode-decode-as;
       back = decode-encode;
       forth = encode-decode;
-      fresh = fresh-loads;
-      longest = longest;
+      fresh = decode-encode freshDistrict fresh-in-range;
+      longest = longest-as;
       some = (full, full-in-range, full-long);
     }

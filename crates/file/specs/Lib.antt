@@ -1,2 +1,3 @@
 pub mod Readings
+pub mod Forms
 pub mod Trips

@@ -1,5 +1,6 @@
 // The district's file: loading, for any bytes, and export, into any buffer.
 pub mod bytes;
+mod forms;
 mod ranges;
 mod reading;
 mod writing;
@@ -9,6 +10,8 @@ ghost use mathlib.Core.Path.{_≡_};
 ghost use lib.ListN.{replicate};
 ghost use Rattle.rules.specs.Calls.{exported, exportRefusal};
 ghost use Rattle.rules.specs.File.{encode, longestFile, inRange};
+ghost use Rattle.grammar.specs.Places.{Form};
+ghost use Rattle.file.specs.Forms.{loadedAs, exportedAs};
 ghost use Rattle.file.specs.Readings.{loadedFrom};
 ghost use Rattle.file.specs.Trips.{Trips};
 ghost use Rattle.rules.specs.District.{districtPlaces};
@@ -35,16 +38,17 @@ fn refused(refusal: usize) -> Loaded
     }
 }
 
-pub fn load(file: &[u8]) -> Loaded
-    ensures same { λ r. ⌜ r ≡ loadedFrom (now (file .entry)) ⌝ }
-    ensures ranged { λ r. ⌜ (r .refusal ≡ 0 → inRange (r .district) ≡ true) ⌝ }
+// A file of the form given. One of the other form is refused at its first kind.
+pub fn load_as(form: usize, file: &[u8]) -> Loaded
+    requires { ⌜ Form form ⌝ }
+    ensures { λ r. ⌜ r ≡ loadedAs form (now (file .entry)) ⌝ }
 {
     let mut d = [0usize; DISTRICT_PLACES];
     let mut at: usize = 0;
     let mut place: usize = 0;
     let mut n: usize = 0;
     while n < RECORDS {
-        let slot = grammar::slot_at(n);
+        let slot = grammar::slot_at(form, n);
         let step = reading::read_record(&mut d, file, at, slot, place);
         match step {
             Reading::At(next) => {
@@ -66,16 +70,33 @@ pub fn load(file: &[u8]) -> Loaded
     }
 }
 
-// The file of the district to the front of the buffer, where the buffer has room for it.
-pub fn export(d: District, buffer: &mut [u8]) -> Answer
-    ensures { λ r. ⌜ record { answer = r; buffer = now (buffer .exit) } ≡ exported (exportRefusal d (now (buffer .entry))) (encode d) (now (buffer .entry)) ⌝ }
+// A file of either form.
+pub fn load(file: &[u8]) -> Loaded
+    ensures same { λ r. ⌜ r ≡ loadedFrom (now (file .entry)) ⌝ }
+    ensures ranged { λ r. ⌜ (r .refusal ≡ 0 → inRange (r .district) ≡ true) ⌝ }
 {
-    let length = writing::file_length(&d);
+    let form = forms::form_in(file);
+    load_as(form, file)
+}
+
+// The file of the district, in the form given, to the front of the buffer, where the buffer has room for it.
+pub fn export_as(form: usize, d: District, buffer: &mut [u8]) -> Answer
+    ensures { λ r. ⌜ record { answer = r; buffer = now (buffer .exit) } ≡ exportedAs form d (now (buffer .entry)) ⌝ }
+{
+    let length = writing::file_length(form, &d);
     if buffer.len() < length {
         return Answer::Refused(refusals::BUFFER_TOO_SHORT);
     }
-    writing::write_file(buffer, &d);
+    writing::write_file(buffer, form, &d);
     Answer::Accepted(length)
+}
+
+// With leaders only where one is set.
+pub fn export(d: District, buffer: &mut [u8]) -> Answer
+    ensures { λ r. ⌜ record { answer = r; buffer = now (buffer .exit) } ≡ exported (exportRefusal d (now (buffer .entry))) (encode d) (now (buffer .entry)) ⌝ }
+{
+    let form = forms::form_of(d);
+    export_as(form, d, buffer)
 }
 
 // Whether each number of the district is one that the file may hold.

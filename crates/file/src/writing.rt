@@ -3,7 +3,7 @@ ghost use mathlib.Core.List.{_++_};
 ghost use mathlib.Core.Path.{_≡_};
 ghost use Prim.Native.Nat.{_+_, _≤_};
 ghost use lib.ListN.{length, drop};
-ghost use Rattle.rules.specs.File.{headerBytes, numberBytes, recordBytes, encode};
+ghost use Rattle.rules.specs.File.{headerBytes, numberBytes, recordBytes, encodeAs};
 ghost use Rattle.rules.specs.District.{districtPlaces};
 ghost use Rattle.rules.specs.Format.{mostPlaces};
 use crate::bytes;
@@ -31,7 +31,7 @@ fn write_header(out: &mut [u8], d: &District, slot: Slot) -> usize
 
 // The numbers of the record, which stand in the district from `place` on.
 fn write_numbers(out: &mut [u8], d: &District, slot: Slot, place: usize) -> usize
-    requires { ⌜ (slot .places ≤ mostPlaces) × (place + slot .places ≤ districtPlaces) ⌝ }
+    requires { ⌜ place + slot .places ≤ districtPlaces ⌝ }
     requires { ⌜ length (numberBytes (slot .places) (now d) slot 0 place) ≤ length (now out) ⌝ }
     ensures { λ r. ⌜ r ≡ length (numberBytes (slot .places) (now (d .entry)) slot 0 place) ⌝ }
     ensures { λ r. ⌜ now (out .exit) ≡ numberBytes (slot .places) (now (d .entry)) slot 0 place ++ drop (length (numberBytes (slot .places) (now (d .entry)) slot 0 place)) (now (out .entry)) ⌝ }
@@ -71,14 +71,14 @@ fn record_length(d: &District, slot: Slot, place: usize) -> usize
     0
 }
 
-pub fn file_length(d: &District) -> usize
-    ensures { λ r. ⌜ r ≡ length (encode (now (d .entry))) ⌝ }
+pub fn file_length(form: usize, d: &District) -> usize
+    ensures { λ r. ⌜ r ≡ length (encodeAs form (now (d .entry))) ⌝ }
 {
     let mut sum: usize = 0;
     let mut place: usize = 0;
     let mut n: usize = 0;
     while n < RECORDS {
-        let slot = grammar::slot_at(n);
+        let slot = grammar::slot_at(form, n);
         sum += record_length(d, slot, place);
         place += slot.places;
         n += 1;
@@ -87,15 +87,15 @@ pub fn file_length(d: &District) -> usize
 }
 
 // Each record goes into what is left of the buffer.
-pub fn write_file(out: &mut [u8], d: &District)
-    requires { ⌜ length (encode (now d)) ≤ length (now out) ⌝ }
-    ensures { λ r. ⌜ now (out .exit) ≡ encode (now (d .entry)) ++ drop (length (encode (now (d .entry)))) (now (out .entry)) ⌝ }
+pub fn write_file(out: &mut [u8], form: usize, d: &District)
+    requires { ⌜ length (encodeAs form (now d)) ≤ length (now out) ⌝ }
+    ensures { λ r. ⌜ now (out .exit) ≡ encodeAs form (now (d .entry)) ++ drop (length (encodeAs form (now (d .entry)))) (now (out .entry)) ⌝ }
 {
     let mut at: usize = 0;
     let mut place: usize = 0;
     let mut n: usize = 0;
     while n < RECORDS {
-        let slot = grammar::slot_at(n);
+        let slot = grammar::slot_at(form, n);
         let length = write_record(&mut out[at..], d, slot, place);
         at += length;
         place += slot.places;

@@ -1,2 +1,3 @@
+pub mod Leaders
 pub mod Tables
 pub mod Shares

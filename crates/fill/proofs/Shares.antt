@@ -17,8 +17,9 @@ use Rattle.tables.proofs.Arrays.{usage-at, limit-at}
 use Rattle.grammar.specs.Ranges.{Ranges}
 use Rattle.rules.specs.District.{District, mostResources}
 use Rattle.fill.specs.Filled.{Filled}
+use Rattle.fill.proofs.Leaders.{leaders-are, leaders-held}
 use Rattle.fill.proofs.Tables.{table-is, tabled, fit-alone}
-use Rattle.fill.specs.Lists.{sizeOf, benefitList, usageList, limitList, shareEntry, shareList, downShareEntry, downShareList}
+use Rattle.fill.specs.Lists.{sizeOf, leaderList, benefitList, usageList, limitList, shareEntry, shareList, downShareEntry, downShareList}
 
 pub shares-length : (u l : List ℕ) → length (shareList u l) ≡ useEntries
 unfolding shareList
@@ -72,10 +73,12 @@ module _ (t : Table) (fit : FitAlone t) (i j r : ℕ) (li : 1 ≤ i) (hi : i ≤
 
 -- ---- all that filled arrays hold
 
-pub filled : (d : District) → Ranges d → Filled d (sizeOf d) (benefitList d) (usageList d) (limitList d) (shareList (usageList d) (limitList d)) (downShareList (usageList d) (limitList d))
+pub filled : (d : District) → Ranges d → Filled d (sizeOf d) (leaderList d) (benefitList d) (usageList d) (limitList d) (shareList (usageList d) (limitList d)) (downShareList (usageList d) (limitList d))
 filled d ok =
     let held = tabled d ok in
     record {
+      leader = leaders-are d ok;
+      leaders = leaders-held d ok;
       table = table-is d ok;
       tabled = held;
       fit = fit-alone d ok;
@@ -93,5 +96,5 @@ module _ (d : District) (ok : Ranges d) {u l : List ℕ} (hu : u ≡ usageList d
   pub bounded : ((k : ℕ) → getD u k 0 < 2 ^ 41) × ((k : ℕ) → getD l k 0 < 2 ^ 47)
   bounded = rw (hu, hl) (tabled d ok .uses .small, tabled d ok .limits .small)
 
-  pub filled-by : {b s e : List ℕ} → b ≡ benefitList d → s ≡ shareList u l → e ≡ downShareList u l → Filled d (sizeOf d) b u l s e
-  filled-by hb hs he = rw (hb, hs, he, hu, hl) (filled d ok)
+  pub filled-by : {ls b s e : List ℕ} → ls ≡ leaderList d → b ≡ benefitList d → s ≡ shareList u l → e ≡ downShareList u l → Filled d (sizeOf d) ls b u l s e
+  filled-by hd hb hs he = rw (hd, hb, hs, he, hu, hl) (filled d ok)

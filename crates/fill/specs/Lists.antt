@@ -1,16 +1,19 @@
--- A district's table as lists at the places that Arrays gives its entries; and the shares that uses are of limits, at the places of the
+-- A district's leaders, and its table as lists at the places that Arrays gives its entries; and the shares that uses are of limits, at the places of the
 -- uses.
 use Prim.Native.Nat.{ℕ, _+_, _*_, _/_, _%_}
 use mathlib.Core.List.{List}
 use lib.ListN.{getD}
 use Rattle.base.specs.Over.{listed, listedFrom, divideUp}
 use Rattle.tables.specs.Arrays.{columns, entries, useEntries}
-use Rattle.rules.specs.District.{District, segmentsOf, strategiesOf, resourcesOf, mostResources}
+use Rattle.rules.specs.District.{District, segmentsOf, strategiesOf, resourcesOf, leaderOf, mostSegments, mostResources}
 use Rattle.tables.specs.declared.Size.{Size}
 use Rattle.rules.specs.Table.{candidateBenefit, usageIn, limitIn}
 
 abbrev pub sizeOf : District → Size
 sizeOf d = record { segments = segmentsOf d; strategies = strategiesOf d; resources = resourcesOf d }
+
+unfoldable pub leaderList : District → List ℕ
+leaderList d = listed mostSegments (leaderOf d)
 
 unfoldable pub benefitEntry : District → ℕ → ℕ
 benefitEntry d n = candidateBenefit d (n / columns + 1) (n % columns)

@@ -9,14 +9,24 @@ ghost use Prim.Native.Nat.{ℕ, _+_, _-_, _*_, _/_, _^_, _<_};
 ghost use lib.ListN.{length, getD};
 ghost use Rattle.base.specs.Over.{listed, divideUp};
 ghost use Rattle.tables.specs.Arrays.{entries, useEntries};
-ghost use Rattle.rules.specs.District.{mostResources};
+ghost use Rattle.rules.specs.District.{mostSegments, mostResources};
 ghost use Rattle.grammar.specs.Ranges.{Ranges};
 ghost use Rattle.rules.specs.Table.{usageIn};
 ghost use Rattle.rating.specs.Numbers.{Segment};
 ghost use Rattle.fill.specs.Filled.{Filled};
-ghost use Rattle.fill.specs.Lists.{benefitList, usageList, limitList, shareList, downShareList};
+ghost use Rattle.fill.specs.Lists.{leaderList, benefitList, usageList, limitList, shareList, downShareList};
 use rules::District;
 use rules::places;
+
+// The leaders of all segments.
+fn fill_leaders(d: &District, leaders: &mut [usize])
+    requires { ⌜ length (now leaders) ≡ mostSegments ⌝ }
+    ensures { λ _. ⌜ now (leaders .exit) ≡ leaderList (now (d .entry)) ⌝ }
+{
+    for i in 0..places::MOST_SEGMENTS {
+        leaders[i] = d[places::SEGMENTS + places::PER_SEGMENT * i + places::LEADER];
+    }
+}
 
 // The benefits of all segments and strategies.
 fn fill_benefits(d: &District, table: &mut [u64])
@@ -110,15 +120,17 @@ fn fill_shares(uses: &[u64], limits: &[u64], shares: &mut [u64], downs: &mut [u6
 // All of them: what is proved of code over these arrays is what the rules say of the district.
 pub fn fill_all(
     d: &District,
+    leaders: &mut [usize],
     benefits: &mut [u64],
     uses: &mut [u64],
     limits: &mut [u64],
     shares: &mut [u64],
     downs: &mut [u64],
 ) -> Size
-    requires { ⌜ Ranges (now d) × (length (now benefits) ≡ entries) × (length (now uses) ≡ useEntries) × (length (now limits) ≡ mostResources) × (length (now shares) ≡ useEntries) × (length (now downs) ≡ useEntries) ⌝ }
-    ensures { λ z. ⌜ Filled (now (d .entry)) z (now (benefits .exit)) (now (uses .exit)) (now (limits .exit)) (now (shares .exit)) (now (downs .exit)) ⌝ }
+    requires { ⌜ Ranges (now d) × (length (now leaders) ≡ mostSegments) × (length (now benefits) ≡ entries) × (length (now uses) ≡ useEntries) × (length (now limits) ≡ mostResources) × (length (now shares) ≡ useEntries) × (length (now downs) ≡ useEntries) ⌝ }
+    ensures { λ z. ⌜ Filled (now (d .entry)) z (now (leaders .exit)) (now (benefits .exit)) (now (uses .exit)) (now (limits .exit)) (now (shares .exit)) (now (downs .exit)) ⌝ }
 {
+    fill_leaders(d, leaders);
     fill_benefits(d, benefits);
     fill_uses(d, uses);
     fill_limits(d, limits);

@@ -11,9 +11,10 @@ use Rattle.base.specs.Choice.{pick}
 use Rattle.base.specs.Over.{between}
 use Rattle.base.proofs.Choice.{pick-yes, pick-all, and-yes, and-both, or-either}
 use Rattle.base.specs.Bytes.{signed}
-use Rattle.rules.specs.District.{District, lengthAt, widthAt, barsAt, ratingsAt, distressesOf, greatestOf}
-use Rattle.rules.specs.Format.{number, absent, ranged, inside, segmentField}
+use Rattle.rules.specs.District.{District, mostDistresses, lengthAt, widthAt, barsAt, ratingsAt, leaderAt, distressesOf, greatestOf}
+use Rattle.rules.specs.Format.{number, absent, ranged, inside, ratingField, segmentField}
 use Rattle.rules.specs.declared.Field.{Field}
+use Rattle.rules.specs.declared.Slot.{Slot}
 
 -- a field whose range does not run past the largest number, and lies from a to b
 pub record Between (a b : ℕ) (f : Field) : Type 0 where
@@ -44,6 +45,10 @@ unfolding ranged
 inside-number w lo hi x a b =
     sym (pick-yes (leb lo hi) true (leb lo x && leb x hi) (leb x hi || between lo 255 x) (le-leb lo hi (omega arith)) (and-yes (leb lo x) (leb x hi) true (le-leb lo x a) (sym (le-leb x hi b))))
 
+-- a number that the district does not have
+pub absent-zero : (x : ℕ) → inside absent x ≡ true → x ≡ 0
+absent-zero x e = omega (arith, inside-between 0 0 absent x (between-number 0 0 0 0 0 refl (omega arith) (omega arith)) e .1)
+
 -- a number inside the range of a gain is a byte, and stands for at most 50
 pub gain-byte : (x : ℕ) → inside (number 1 206 50) x ≡ true → x < 256
 unfolding ranged
@@ -62,10 +67,16 @@ gain-most x e = go (or-either (leb x 50) (between 206 255 x) e) (ltb x 128) refl
         rw (q, lt-ltb x 256 (gain-byte x e)) (omega (arith, leb-true 206 x (and-both (leb 206 x) (leb x 255) l .0)))
     go (inl l) false q = absurd (let a = leb-true x 50 l in let b = ltb-false x 128 q in omega arith)
 
--- the range of a rating
-pub rating-field : (d : District) (k : ℕ) → 1 ≤ k → segmentField d (ratingsAt + (k - 1)) ≡ pick (ltb (k - 1) (distressesOf d)) (number 1 0 (greatestOf d k)) absent
-rating-field d k h =
+-- ---- ratings
+
+pub segment-rating : (d : District) (s : Slot) (k : ℕ) → 1 ≤ k → k ≤ mostDistresses → segmentField d s (ratingsAt + (k - 1)) ≡ ratingField d (k - 1)
+segment-rating d s k h l =
     let n = ratingsAt + (k - 1) in
     let counted : n - ratingsAt ≡ k - 1 = omega arith in
-    let numbered : n - (ratingsAt - 1) ≡ k = omega arith in
-    rw (ne-eqb n 0 (λ e. omega arith), le-ltb n lengthAt (omega arith), ne-eqb n lengthAt (λ e. omega arith), ne-eqb n widthAt (λ e. omega arith), ne-eqb n barsAt (λ e. omega arith), counted, numbered)
+    rw (ne-eqb n 0 (λ e. omega arith), le-ltb n lengthAt (omega arith), ne-eqb n lengthAt (λ e. omega arith), ne-eqb n widthAt (λ e. omega arith), ne-eqb n barsAt (λ e. omega arith), lt-ltb n leaderAt (omega arith), counted)
+
+pub rating-between : (d : District) (k : ℕ) → 1 ≤ k → Between 0 (greatestOf d k) (ratingField d (k - 1))
+rating-between d k h =
+    let g = greatestOf d k in
+    let e : k - 1 + 1 ≡ k = omega arith in
+    rw e (between-pick 0 g (ltb (k - 1) (distressesOf d)) (number 1 0 g) absent (between-number 0 g 1 0 g (le-leb 0 g (omega arith)) (omega arith) (omega arith)) (between-number 0 g 0 0 0 refl (omega arith) (omega arith)))

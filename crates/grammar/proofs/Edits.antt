@@ -2,6 +2,7 @@
 use Prim.Native.Nat.{ℕ, zero, suc, _+_, _-_, _*_, _/_, _^_, _≤_, _<_, min}
 use mathlib.Core.Path.{_≡_, refl, sym, ap, _∙_}
 use mathlib.Core.Bool.{Bool, true, false, _&&_}
+use mathlib.Core.Logic.{inr}
 use native.Mathlib.Nat.{pow-succ', zero-mul, add-mul, mod-lt, mul-le-mul-right, min-eq-left}
 use native.Mathlib.Omega.{arith}
 use lib.Dec.{ltb, eqb, leb}
@@ -11,22 +12,22 @@ use lib.Seq.{getD-set-same, getD-set-other}
 use borrow.Author.Tests.{ltb-true, ltb-false, eqb-true, eqb-false, leb-true, lt-ltb}
 use Rattle.base.proofs.Choice.{pick-all, and-both}
 use Rattle.base.specs.Bits.{bitAt, setBit, clearBit}
-use Rattle.rules.specs.Answers.{noSuchSegment, noSuchNumber, newOutOfRange, unless, oneTo}
-use Rattle.rules.specs.Calls.{barRefusal, limitRefusal, ratingRefusal, editRefusal, edited}
-use Rattle.rules.specs.District.{District, countPlaces, limitPlace, greatestAt, greatestPlace, strategiesAt, barsAt, ratingsAt, perSegment, valueAt, segmentPlace, barsPlace, ratingPlace, segmentsOf, strategiesOf, distressesOf, resourcesOf, barsOf, greatestOf, withLimit, withBar, withoutBar, withRating}
+use Rattle.rules.specs.Answers.{noSuchSegment, noSuchNumber, newOutOfRange, leaderNotBelow, unless, oneTo}
+use Rattle.rules.specs.Calls.{barRefusal, limitRefusal, ratingRefusal, leaderRefusal, editRefusal, edited}
+use Rattle.rules.specs.District.{District, countPlaces, limitPlace, greatestAt, greatestPlace, strategiesAt, barsAt, ratingsAt, leaderAt, perSegment, valueAt, segmentPlace, barsPlace, ratingPlace, leaderPlace, segmentsOf, strategiesOf, distressesOf, resourcesOf, barsOf, greatestOf, withLimit, withBar, withoutBar, withRating, withLeader}
 use Rattle.rules.specs.File.{inRange}
-use Rattle.rules.specs.Format.{inside, slotOf, firstSegmentRecord, fileRecords, limitField, segmentField, fieldAt}
+use Rattle.rules.specs.Format.{leaderForm, inside, slot, slotOf, firstSegmentRecord, fileRecords, limitField, ratingField, segmentField, fieldAt}
 use Rattle.rules.specs.declared.Edit.{Edit}
-use Rattle.rules.specs.declared.Edit.the-variants.{Bar, Unbar, SetLimit, SetRating}
+use Rattle.rules.specs.declared.Edit.the-variants.{Bar, Unbar, SetLimit, SetRating, SetLeader}
 use Rattle.rules.specs.declared.Slot.{Slot}
 use Rattle.grammar.specs.Places.{startOf, InRange}
-use Rattle.grammar.proofs.Bounds.{inside-number}
+use Rattle.grammar.proofs.Bounds.{inside-number, segment-rating}
 use Rattle.grammar.proofs.InRange.{in-range, range-in}
 use Rattle.grammar.proofs.InRanges.{segments, bars-most, strategies, distresses, resources}
-use Rattle.grammar.proofs.Slots.{start-le, field-same, segment-places, slot-segment, start-segment, ready}
+use Rattle.grammar.proofs.Slots.{start-le, field-same, slot-segment, start-segment, ready}
 
 -- a place is that of one number of one record
-place-once : (n m i k : ℕ) → i < slotOf n .places → k < slotOf m .places → startOf n + i ≡ startOf m + k → (n ≡ m) × (i ≡ k)
+place-once : (n m i k : ℕ) → i < slotOf leaderForm n .places → k < slotOf leaderForm m .places → startOf n + i ≡ startOf m + k → (n ≡ m) × (i ≡ k)
 place-once n m i k a b e = go (ltb n m) refl (ltb m n) refl
   where
     go : (s : Bool) → ltb n m ≡ s → (t : Bool) → ltb m n ≡ t → (n ≡ m) × (i ≡ k)
@@ -37,18 +38,18 @@ place-once n m i k a b e = go (ltb n m) refl (ltb m n) refl
         (z, omega (arith, ap startOf z))
 
 -- a number that its field may hold, at a place on which no field hangs
-module _ (d : District) (ok : InRange d) (n i x q : ℕ) (h : n < fileRecords) (l : i < slotOf n .places) (e : startOf n + i ≡ q) (late : countPlaces ≤ q) (clear : greatestAt ≤ q → strategiesAt ≤ q) (good : inside (fieldAt d (slotOf n) i) x ≡ true) where
-  same : (m k : ℕ) → k < slotOf m .places → fieldAt (set d q x) (slotOf m) k ≡ fieldAt d (slotOf m) k
+module _ (d : District) (ok : InRange leaderForm d) (n i x q : ℕ) (h : n < fileRecords) (l : i < slotOf leaderForm n .places) (e : startOf n + i ≡ q) (late : countPlaces ≤ q) (clear : greatestAt ≤ q → strategiesAt ≤ q) (good : inside (fieldAt d (slotOf leaderForm n) i) x ≡ true) where
+  same : (m k : ℕ) → k < slotOf leaderForm m .places → fieldAt (set d q x) (slotOf leaderForm m) k ≡ fieldAt d (slotOf leaderForm m) k
   unfolding greatestOf
   same m k b =
-      field-same d (set d q x) (λ c a. getD-set-other d q c x 0 (λ z. omega arith)) (slotOf m) k
-      (λ s. getD-set-other d q (greatestPlace (k - (ratingsAt - 1))) x 0 (λ z. let y = segment-places m s in let w = clear (omega arith) in omega arith))
+      field-same d (set d q x) (λ c a. getD-set-other d q c x 0 (λ z. omega arith)) (slotOf leaderForm m) k
+      (λ s l. getD-set-other d q (greatestPlace (k - ratingsAt + 1)) x 0 (λ z. let w = clear (omega arith) in omega arith))
 
-  set-in : (m k : ℕ) → m < fileRecords → k < slotOf m .places → (t : Bool) → eqb (startOf m + k) q ≡ t → inside (fieldAt (set d q x) (slotOf m) k) (valueAt (set d q x) (startOf m + k)) ≡ true
+  set-in : (m k : ℕ) → m < fileRecords → k < slotOf leaderForm m .places → (t : Bool) → eqb (startOf m + k) q ≡ t → inside (fieldAt (set d q x) (slotOf leaderForm m) k) (valueAt (set d q x) (startOf m + k)) ≡ true
   set-in m k a b true p =
       let z = eqb-true (startOf m + k) q p in
       let one = place-once m n k i b l (z ∙ sym e) in
-      rw (same m k b, z, getD-set-same d q x 0 (omega (arith, ready n h .room, ok .places)), one .0, one .1) good
+      rw (same m k b, z, getD-set-same d q x 0 (omega (arith, ready leaderForm (inr refl) n h .room, ok .places)), one .0, one .1) good
   set-in m k a b false p = rw (same m k b, getD-set-other d q (startOf m + k) x 0 (eqb-false (startOf m + k) q p)) (ok .values m k a b)
 
   kept : inRange (set d q x) ≡ true
@@ -85,22 +86,29 @@ limit-kept d r limit ok e =
 
 -- ---- segments
 
-segment-kept : (d : District) (i n x q : ℕ) → inRange d ≡ true → 1 ≤ i → i ≤ segmentsOf d → n < perSegment → segmentPlace i + n ≡ q → inside (segmentField d n) x ≡ true → inRange (set d q x) ≡ true
+segment-kept : (d : District) (i n x q : ℕ) → inRange d ≡ true → 1 ≤ i → i ≤ segmentsOf d → n < perSegment → segmentPlace i + n ≡ q → inside (segmentField d (slot leaderForm 6 perSegment (i - 1)) n) x ≡ true → inRange (set d q x) ≡ true
 unfolding fieldAt
 segment-kept d i n x q ok a b l e good =
     let N = segments d (in-range d ok) .1 in
-    let z = slot-segment (i - 1) (omega arith) in
+    let z = slot-segment leaderForm (i - 1) (omega arith) in
     let s = start-segment (i - 1) (omega arith) in
     kept d (in-range d ok) (firstSegmentRecord + (i - 1)) n x q (omega arith) (omega (arith, ap (λ (s : Slot). s .places) z)) (omega arith) (omega arith) (λ z. omega arith)
     (rw (z, lt-ltb (i - 1) (segmentsOf d) (omega arith)) good)
 
 rating-kept : (d : District) (i k rating : ℕ) → inRange d ≡ true → ratingRefusal d i k rating ≡ 0 → inRange (withRating d i k rating) ≡ true
 rating-kept d i k rating ok e =
-    let f = segmentField d (ratingsAt + (k - 1)) in
+    let f = ratingField d (k - 1) in
     let o = one-to i (segmentsOf d) noSuchSegment (oneTo k (distressesOf d) noSuchNumber (unless (inside f rating) newOutOfRange 0)) (omega arith) e in
     let p = one-to k (distressesOf d) noSuchNumber (unless (inside f rating) newOutOfRange 0) (omega arith) (o .2) in
     let u = unless-passes (inside f rating) newOutOfRange 0 (omega arith) (p .2) in
-    segment-kept d i (ratingsAt + (k - 1)) rating (ratingPlace i k) ok (o .0) (o .1) (omega (arith, p .1, distresses d (in-range d ok) .1)) (omega arith) (u .0)
+    let D = distresses d (in-range d ok) .1 in
+    segment-kept d i (ratingsAt + (k - 1)) rating (ratingPlace i k) ok (o .0) (o .1) (omega (arith, p .1)) (omega arith) (rw (segment-rating d (slot leaderForm 6 perSegment (i - 1)) k (p .0) (omega (arith, p .1))) (u .0))
+
+leader-kept : (d : District) (i leader : ℕ) → inRange d ≡ true → leaderRefusal d i leader ≡ 0 → inRange (withLeader d i leader) ≡ true
+leader-kept d i leader ok e =
+    let o = one-to i (segmentsOf d) noSuchSegment (unless (ltb leader i) leaderNotBelow 0) (omega arith) e in
+    let u = unless-passes (ltb leader i) leaderNotBelow 0 (omega arith) (o .2) in
+    segment-kept d i leaderAt leader (leaderPlace i) ok (o .0) (o .1) (omega arith) refl (inside-number 1 0 (i - 1) leader (omega arith) (omega (arith, ltb-true leader i (u .0))))
 
 -- a bit below s, set or cleared in a mask below 2 ^ s
 set-below : (mask s n : ℕ) → n < s → mask < 2 ^ s → setBit mask n < 2 ^ s
@@ -150,3 +158,4 @@ edit-kept d (Bar i j) ok none = bar-kept d ok i j none
 edit-kept d (Unbar i j) ok none = unbar-kept d ok i j none
 edit-kept d (SetLimit r limit) ok none = limit-kept d r limit ok none
 edit-kept d (SetRating i k rating) ok none = rating-kept d i k rating ok none
+edit-kept d (SetLeader i leader) ok none = leader-kept d i leader ok none

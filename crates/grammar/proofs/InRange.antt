@@ -11,7 +11,7 @@ use lib.Seq.{getD-drop, drop-drop}
 use borrow.Author.Tests.{eqb-true, eq-eqb}
 use Rattle.base.proofs.Choice.{and-both, and-yes}
 use Rattle.rules.specs.District.{District, valueAt, districtPlaces}
-use Rattle.rules.specs.Format.{slotOf, fileRecords, fieldAt, inside}
+use Rattle.rules.specs.Format.{leaderForm, slotOf, fileRecords, fieldAt, inside}
 use Rattle.rules.specs.File.{numbersInRange, recordsInRange, inRange}
 use Rattle.rules.specs.declared.Slot.{Slot}
 use Rattle.grammar.specs.Places.{startOf, InRange}
@@ -45,16 +45,16 @@ module _ (d : District) (s : Slot) where
 
 module _ (d : District) where
   abbrev RecordIn : ℕ → Type 0
-  RecordIn n = numbersInRange (slotOf n .places) d (slotOf n) 0 (drop (startOf n) d) ≡ true
+  RecordIn n = numbersInRange (slotOf leaderForm n .places) d (slotOf leaderForm n) 0 (drop (startOf n) d) ≡ true
 
-  next-start : (n : ℕ) → drop (slotOf n .places) (drop (startOf n) d) ≡ drop (startOf (n + 1)) d
-  next-start n = drop-drop (slotOf n .places) (startOf n) d ∙ ap (λ (p : ℕ). drop p d) (sym (start-next n))
+  next-start : (n : ℕ) → drop (slotOf leaderForm n .places) (drop (startOf n) d) ≡ drop (startOf (n + 1)) d
+  next-start n = drop-drop (slotOf leaderForm n .places) (startOf n) d ∙ ap (λ (p : ℕ). drop p d) (sym (start-next leaderForm n))
 
   records-in : (m n : ℕ) → recordsInRange m d n (drop (startOf n) d) ≡ true → (q : ℕ) → n ≤ q → q < n + m → RecordIn q
   unfolding recordsInRange
   records-in zero n e q a b = absurd (omega arith)
   records-in (suc m) n e q a b =
-      let both = and-both (numbersInRange (slotOf n .places) d (slotOf n) 0 (drop (startOf n) d)) (recordsInRange m d (n + 1) (drop (slotOf n .places) (drop (startOf n) d))) e in
+      let both = and-both (numbersInRange (slotOf leaderForm n .places) d (slotOf leaderForm n) 0 (drop (startOf n) d)) (recordsInRange m d (n + 1) (drop (slotOf leaderForm n .places) (drop (startOf n) d))) e in
       ⊎-elim (λ (z : n ≡ q). subst RecordIn z (both .0))
       (λ l. records-in m (n + 1) (rw (next-start n) at (both .1)) q (omega arith) (omega arith))
       (eq-or-lt-of-le a)
@@ -65,18 +65,18 @@ module _ (d : District) where
   in-records (suc m) n h =
       sym (and-yes _ _ true (h n (omega arith) (omega arith)) (sym (rw (next-start n) (in-records m (n + 1) (λ q a b. h q (omega arith) (omega arith))))))
 
-  pub in-range : inRange d ≡ true → InRange d
+  pub in-range : inRange d ≡ true → InRange leaderForm d
   unfolding inRange
   in-range e =
       let both = and-both _ _ e in
       record { places = eqb-true (length d) districtPlaces (both .0); values = λ n i h l. each (both .1) n i h l }
     where
-      each : recordsInRange fileRecords d 0 d ≡ true → (n i : ℕ) → n < fileRecords → i < slotOf n .places → inside (fieldAt d (slotOf n) i) (valueAt d (startOf n + i)) ≡ true
-      each a n i h l = rw (getD-drop (startOf n) d i 0, zero-add i) at (numbers-in d (slotOf n) (slotOf n .places) 0 (drop (startOf n) d) (records-in fileRecords 0 a n (omega arith) (omega arith)) i l)
+      each : recordsInRange fileRecords d 0 d ≡ true → (n i : ℕ) → n < fileRecords → i < slotOf leaderForm n .places → inside (fieldAt d (slotOf leaderForm n) i) (valueAt d (startOf n + i)) ≡ true
+      each a n i h l = rw (getD-drop (startOf n) d i 0, zero-add i) at (numbers-in d (slotOf leaderForm n) (slotOf leaderForm n .places) 0 (drop (startOf n) d) (records-in fileRecords 0 a n (omega arith) (omega arith)) i l)
 
-  pub range-in : InRange d → inRange d ≡ true
+  pub range-in : InRange leaderForm d → inRange d ≡ true
   unfolding inRange
   range-in ok = sym (and-yes _ _ true (eq-eqb (length d) districtPlaces (ok .places)) (sym (in-records fileRecords 0 (λ n a b. each n (omega arith)))))
     where
       each : (n : ℕ) → n < fileRecords → RecordIn n
-      each n h = in-numbers d (slotOf n) (slotOf n .places) 0 (drop (startOf n) d) (λ i l. rw (zero-add i, getD-drop (startOf n) d i 0) (ok .values n i h l))
+      each n h = in-numbers d (slotOf leaderForm n) (slotOf leaderForm n .places) 0 (drop (startOf n) d) (λ i l. rw (zero-add i, getD-drop (startOf n) d i 0) (ok .values n i h l))

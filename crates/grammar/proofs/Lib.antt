@@ -5,3 +5,4 @@ pub mod InRanges
 pub mod Edits
 pub mod Fresh
 pub mod Fits
+pub mod Forms

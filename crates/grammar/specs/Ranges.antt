@@ -4,7 +4,7 @@ use Prim.Native.Nat.{ℕ, _≤_, _<_, _^_}
 use mathlib.Core.Path.{_≡_}
 use lib.IntN.{natAbs}
 use lib.ListN.{length}
-use Rattle.rules.specs.District.{District, mostSegments, mostStrategies, mostYears, mostDistresses, mostPavements, mostResources, districtPlaces, segmentsOf, strategiesOf, yearsOf, distressesOf, pavementsOf, resourcesOf, limitOf, greatestOf, requirementOf, gainOf, percentOf, overallOf, minimumOf, pavementOf, trafficOf, environmentOf, lengthOf, widthOf, barsOf, ratingOf}
+use Rattle.rules.specs.District.{District, mostSegments, mostStrategies, mostYears, mostDistresses, mostPavements, mostResources, districtPlaces, segmentsOf, strategiesOf, yearsOf, distressesOf, pavementsOf, resourcesOf, limitOf, greatestOf, requirementOf, gainOf, percentOf, overallOf, minimumOf, pavementOf, trafficOf, environmentOf, lengthOf, widthOf, barsOf, ratingOf, leaderOf}
 
 pub record Ranges (d : District) : Type 0 where
   pub places : length d ≡ districtPlaces
@@ -34,3 +34,4 @@ pub record Ranges (d : District) : Type 0 where
   pub width : (i : ℕ) → 1 ≤ i → i ≤ mostSegments → widthOf d i ≤ 200
   pub bars : (i : ℕ) → 1 ≤ i → i ≤ mostSegments → barsOf d i < 2 ^ 16
   pub rating : (i k : ℕ) → 1 ≤ i → i ≤ mostSegments → 1 ≤ k → k ≤ mostDistresses → ratingOf d i k ≤ greatestOf d k
+  pub leader : (i : ℕ) → 1 ≤ i → i ≤ mostSegments → leaderOf d i < i

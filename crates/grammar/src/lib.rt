@@ -3,42 +3,53 @@
 ghost use mathlib.Core.Path.{_≡_};
 ghost use Prim.Native.Nat.{_<_, _-_, _^_, min};
 ghost use Rattle.base.specs.Choice.{pick};
-ghost use Rattle.rules.specs.Format.{number, absent, inside, slot, slotOf, mostPlaces, present, countField, limitField, greatestField, rowsField, strategyField, pavementField, segmentField, kindField, fieldAt};
+ghost use Rattle.rules.specs.Format.{number, absent, inside, slot, slotOf, present, countField, limitField, greatestField, rowsField, strategyField, pavementField, ratingField, leaderField, segmentField, kindField, fieldAt};
+ghost use Rattle.rules.specs.District.{mostDistresses};
 use rules::District;
 use rules::Field;
 use rules::Slot;
 use rules::places;
 use rules::records;
 
-fn slot_of(kind: usize, places: usize, nth: usize) -> Slot
-    ensures { λ r. ⌜ r ≡ slot kind places nth ⌝ }
+// The forms of a file, each named by the kind of its first record: without leaders, and with them.
+pub const PLAIN_FORM: usize = 1;
+
+pub const LEADER_FORM: usize = 8;
+
+fn slot_of(form: usize, kind: usize, places: usize, nth: usize) -> Slot
+    ensures { λ r. ⌜ r ≡ slot form kind places nth ⌝ }
 {
-    Slot { kind, places, nth }
+    Slot {
+        form,
+        kind,
+        places,
+        nth,
+    }
 }
 
-// The `n`-th record of the file, from 0.
-pub fn slot_at(n: usize) -> Slot
-    ensures { λ r. ⌜ r ≡ slotOf n ⌝ }
+// The `n`-th record of a file of the form, from 0.
+pub fn slot_at(form: usize, n: usize) -> Slot
+    ensures { λ r. ⌜ r ≡ slotOf form n ⌝ }
 {
     if n == 0 {
-        return slot_of(1, places::COUNT_PLACES, 0);
+        return slot_of(form, form, places::COUNT_PLACES, 0);
     }
     if n == 1 {
-        return slot_of(2, places::MOST_RESOURCES, 0);
+        return slot_of(form, 2, places::MOST_RESOURCES, 0);
     }
     if n == 2 {
-        return slot_of(3, places::MOST_DISTRESSES, 0);
+        return slot_of(form, 3, places::MOST_DISTRESSES, 0);
     }
     if n < records::FIRST_PAVEMENT {
-        return slot_of(4, places::PER_STRATEGY, n - records::FIRST_STRATEGY);
+        return slot_of(form, 4, places::PER_STRATEGY, n - records::FIRST_STRATEGY);
     }
     if n < records::FIRST_SEGMENT {
-        return slot_of(5, places::PER_PAVEMENT, n - records::FIRST_PAVEMENT);
+        return slot_of(form, 5, places::PER_PAVEMENT, n - records::FIRST_PAVEMENT);
     }
     if n < records::LAST {
-        return slot_of(6, places::PER_SEGMENT, n - records::FIRST_SEGMENT);
+        return slot_of(form, 6, places::PER_SEGMENT, n - records::FIRST_SEGMENT);
     }
-    slot_of(7, 0, 0)
+    slot_of(form, 7, 0, 0)
 }
 
 // Whether the district has the record.
@@ -148,9 +159,23 @@ fn largest_mask(bits: usize) -> usize
     }
 }
 
-fn segment_field(d: &District, n: usize) -> Field
-    requires { ⌜ n < mostPlaces ⌝ }
-    ensures { λ r. ⌜ r ≡ segmentField (now (d .entry)) n ⌝ }
+fn rating_field(d: &District, n: usize) -> Field
+    requires { ⌜ n < mostDistresses ⌝ }
+    ensures { λ r. ⌜ r ≡ ratingField (now (d .entry)) n ⌝ }
+{
+    number_if(n < d[places::DISTRESS_COUNT], 1, 0, d[places::GREATEST + n])
+}
+
+fn leader_field(s: Slot) -> Field
+    ensures { λ r. ⌜ r ≡ leaderField s ⌝ }
+{
+    let form = s.form;
+    let nth = s.nth;
+    number_if(form == LEADER_FORM, 1, 0, nth)
+}
+
+fn segment_field(d: &District, s: Slot, n: usize) -> Field
+    ensures { λ r. ⌜ r ≡ segmentField (now (d .entry)) s n ⌝ }
 {
     if n == 0 {
         return number_of(1, 1, d[places::PAVEMENT_COUNT]);
@@ -167,15 +192,18 @@ fn segment_field(d: &District, n: usize) -> Field
     if n == places::BARS {
         return number_of(2, 0, largest_mask(d[places::STRATEGY_COUNT]));
     }
-    let k = n - places::RATINGS;
-    number_if(k < d[places::DISTRESS_COUNT], 1, 0, d[places::GREATEST + k])
+    if n < places::LEADER {
+        return rating_field(d, n - places::RATINGS);
+    }
+    leader_field(s)
 }
 
-fn kind_field(d: &District, kind: usize, n: usize) -> Field
-    requires { ⌜ n < mostPlaces ⌝ }
-    ensures { λ r. ⌜ r ≡ kindField (now (d .entry)) kind n ⌝ }
+fn kind_field(d: &District, s: Slot, n: usize) -> Field
+    ensures { λ r. ⌜ r ≡ kindField (now (d .entry)) s n ⌝ }
 {
-    if kind == 1 {
+    let form = s.form;
+    let kind = s.kind;
+    if kind == form {
         return count_field(n);
     }
     if kind == 2 {
@@ -191,19 +219,17 @@ fn kind_field(d: &District, kind: usize, n: usize) -> Field
         return pavement_field(d, n);
     }
     if kind == 6 {
-        return segment_field(d, n);
+        return segment_field(d, s, n);
     }
     number_of(0, 0, 0)
 }
 
-// The `n`-th number of the record `s`, from 0; no record has more than a strategy.
+// The `n`-th number of the record `s`, from 0.
 pub fn field_at(d: &District, s: Slot, n: usize) -> Field
-    requires { ⌜ n < mostPlaces ⌝ }
     ensures { λ r. ⌜ r ≡ fieldAt (now (d .entry)) s n ⌝ }
 {
-    let kind = s.kind;
     if is_present(d, s) {
-        return kind_field(d, kind, n);
+        return kind_field(d, s, n);
     }
     number_of(0, 0, 0)
 }

@@ -1,6 +1,7 @@
 pub mod Survival
 pub mod Give
 pub mod Gives
+pub mod Leaders
 pub mod Steps
 pub mod Shares
 pub mod PickUps

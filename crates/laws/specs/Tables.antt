@@ -1,5 +1,5 @@
 -- What the laws of the phases assume of a table and of a programme. Quantifiers stay within what the table has.
-use Prim.Native.Nat.{ℕ, _≤_}
+use Prim.Native.Nat.{ℕ, _≤_, _<_}
 use mathlib.Core.Path.{_≡_}
 use mathlib.Core.Logic.{_⊎_}
 use mathlib.Core.List.{List}
@@ -16,6 +16,10 @@ pub record FitAlone (t : Table) : Type 0 where
   pub fits :
       (i j r : ℕ) → 1 ≤ i → i ≤ t .segments → 1 ≤ j → j ≤ t .strategies → 1 ≤ r → r ≤ t .resources
       → 1 ≤ t .benefit i j → t .usage i j r ≤ t .limit r
+
+-- each of n segments has no leader, or one of a lower number
+abbrev pub LowerLeaders : (ℕ → ℕ) → ℕ → Type 0
+LowerLeaders leader n = (i : ℕ) → 1 ≤ i → i ≤ n → leader i < i
 
 -- on segment i strategy j is nothing, or a candidate
 abbrev pub Allowed : Table → ℕ → ℕ → Type 0

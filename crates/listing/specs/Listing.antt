@@ -9,7 +9,7 @@ use Rattle.rules.specs.declared.Programme.{Programme}
 use Rattle.rules.specs.declared.Answer.{Answer}
 use Rattle.rules.specs.declared.Answer.the-variants.{Accepted, Refused}
 use Rattle.rules.specs.declared.Reason.{Reason}
-use Rattle.rules.specs.declared.Reason.the-variants.{InProgramme, Barred, MinimumMissed, OverallMissed, NoBenefit, OverAlone, OverBeside, NoGreaterTotal}
+use Rattle.rules.specs.declared.Reason.the-variants.{InProgramme, Barred, MinimumMissed, OverallMissed, NoBenefit, LeaderHasNothing, OverAlone, OverBeside, NoGreaterTotal}
 use Rattle.rules.specs.declared.Roughness as Roughness
 use Rattle.rules.specs.declared.Roughness.{Roughness}
 use Rattle.rules.specs.declared.Roughness.the-variants.{Points}
@@ -82,6 +82,7 @@ reasonLine Barred = text "barred\n"
 reasonLine (MinimumMissed k t) = pairLine (text "minimum rating missed: distress ") k (text ", year ") t
 reasonLine OverallMissed = text "overall requirement missed\n"
 reasonLine NoBenefit = text "benefit not above 0\n"
+reasonLine LeaderHasNothing = text "the leader has nothing\n"
 reasonLine (OverAlone r) = overLine r (text " alone\n")
 reasonLine (OverBeside r) = overLine r (text " beside the others\n")
 reasonLine NoGreaterTotal = text "fits, but the total would be no greater\n"

@@ -204,6 +204,7 @@ fn put_reason(out: &mut [u8], reason: Reason) -> usize
         ),
         Reason::OverallMissed => put(out, b"overall requirement missed\n"),
         Reason::NoBenefit => put(out, b"benefit not above 0\n"),
+        Reason::LeaderHasNothing => put(out, b"the leader has nothing\n"),
         Reason::OverAlone(resource) => put_over(out, resource, b" alone\n"),
         Reason::OverBeside(resource) => put_over(out, resource, b" beside the others\n"),
         Reason::NoGreaterTotal => put(out, b"fits, but the total would be no greater\n"),

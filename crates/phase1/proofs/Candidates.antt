@@ -1,4 +1,4 @@
--- The candidates of a segment in the order of the searches, and the start that takes the top ones.
+-- The candidates of a segment in the order of the searches, and the programme of the top ones.
 use Prim.Native.Nat.{ℕ, zero, suc, _+_, _-_, _≤_, _<_}
 use mathlib.Core.Path.{_≡_, refl, sym, _∙_}
 use mathlib.Core.Bool.{Bool, true, false, _&&_, true≢false}
@@ -13,8 +13,8 @@ use Rattle.base.proofs.Best.{best-le, Leads, leads-none, leads-taken, leads-kep
 use Rattle.base.proofs.Listed.{listed-length}
 use Rattle.rules.specs.District.{mostSegments}
 use Rattle.rules.specs.Table.{Table}
-use Rattle.rules.specs.Phases.{strategyAt, isCandidate, greater, comesAfter, topCandidate, nextCandidate, start}
-use Rattle.laws.proofs.Steps.{start-at}
+use Rattle.rules.specs.Phases.{strategyAt, isCandidate, greater, comesAfter, topCandidate, nextCandidate, bests}
+use Rattle.laws.proofs.Steps.{bests-at}
 use Rattle.tables.specs.declared.Size.{Size}
 use Rattle.tables.specs.Arrays.{benefitAt, tables, Chosen}
 use Rattle.tables.proofs.Arrays.{benefit-nothing}
@@ -67,19 +67,19 @@ module _ (z : Size) (b u l : List ℕ) (i : ℕ) where
   unfolding nextCandidate comesAfter isCandidate greater follows
   next-end a {n} {next} {most} leads e = leads-end (later b i a) (benefitAt b i) n next most leads e
 
--- ---- the start
+-- ---- the top candidates together
 
-pub start-is : (t : Table) (c : List ℕ) → length c ≡ mostSegments → ((k : ℕ) → 1 ≤ k → k ≤ mostSegments → strategyAt c k ≡ topCandidate t k) → c ≡ start t
-unfolding start
-start-is t c places tops =
-    ext-getD 0 c (start t) (places ∙ sym (listed-length (topCandidate t) mostSegments 1))
+pub bests-are : (t : Table) (c : List ℕ) → length c ≡ mostSegments → ((k : ℕ) → 1 ≤ k → k ≤ mostSegments → strategyAt c k ≡ topCandidate t k) → c ≡ bests t
+unfolding bests
+bests-are t c places tops =
+    ext-getD 0 c (bests t) (places ∙ sym (listed-length (topCandidate t) mostSegments 1))
     (λ k h.
     let e : k + 1 - 1 ≡ k = omega arith in
-    rw e at (tops (k + 1) (omega arith) (omega arith) ∙ sym (start-at t (k + 1) (omega arith) (omega arith))))
+    rw e at (tops (k + 1) (omega arith) (omega arith) ∙ sym (bests-at t (k + 1) (omega arith) (omega arith))))
 
-pub start-chosen : {z : Size} (b u l : List ℕ) {c : List ℕ} → c ≡ start (tables z b u l) → Chosen z c
-unfolding start topCandidate
-start-chosen {z} b u l is = rw is (record { places = listed-length (topCandidate t) mostSegments 1; numbers = λ i. known i (leb i mostSegments) refl })
+pub bests-chosen : {z : Size} (b u l : List ℕ) {c : List ℕ} → c ≡ bests (tables z b u l) → Chosen z c
+unfolding bests topCandidate
+bests-chosen {z} b u l is = rw is (record { places = listed-length (topCandidate t) mostSegments 1; numbers = λ i. known i (leb i mostSegments) refl })
   where
     t : Table
     t = tables z b u l
@@ -87,10 +87,10 @@ start-chosen {z} b u l is = rw is (record { places = listed-length (topCandidate
     small : (i : ℕ) → topCandidate t i ≤ z .strategies
     small i = best-le (z .strategies) (isCandidate t i) (greater t i)
 
-    known : (i : ℕ) (v : Bool) → leb i mostSegments ≡ v → strategyAt (start t) i ≤ z .strategies
-    known zero v e = rw (start-at t 1 (omega arith) (omega arith)) (small 1)
-    known (suc i) true e = rw (start-at t (suc i) (omega arith) (leb-true (suc i) mostSegments e)) (small (suc i))
-    known (suc i) false e = rw (List·getD-eq-default (start t) 0 {n = suc i - 1} (omega (arith, listed-length (topCandidate t) mostSegments 1, leb-false (suc i) mostSegments e))) (omega arith)
+    known : (i : ℕ) (v : Bool) → leb i mostSegments ≡ v → strategyAt (bests t) i ≤ z .strategies
+    known zero v e = rw (bests-at t 1 (omega arith) (omega arith)) (small 1)
+    known (suc i) true e = rw (bests-at t (suc i) (omega arith) (leb-true (suc i) mostSegments e)) (small (suc i))
+    known (suc i) false e = rw (List·getD-eq-default (bests t) 0 {n = suc i - 1} (omega (arith, listed-length (topCandidate t) mostSegments 1, leb-false (suc i) mostSegments e))) (omega arith)
 
 pub next-le : (z : Size) (b u l : List ℕ) (i a : ℕ) {j : ℕ} → j ≡ nextCandidate (tables z b u l) i a → j ≤ z .strategies
 unfolding nextCandidate

@@ -7,10 +7,10 @@ use lib.Dec.{eqb, ltb}
 use lib.ListN.{getD, length}
 use Rattle.base.specs.Over.{sum, betterOf}
 use Rattle.rules.specs.Table.{Table}
-use Rattle.rules.specs.Phases.{strategyAt, share, surplus, pulls, ratio, lesserRatio}
+use Rattle.rules.specs.Phases.{strategyAt, pruned, share, surplus, pulls, ratio, lesserRatio}
 use Rattle.laws.specs.Tables.{FitAlone, OfCandidates}
 use Rattle.tables.specs.declared.Size.{Size}
-use Rattle.tables.specs.Arrays.{useEntry, tables, Benefits, Limits, Bounded, Chosen, Running, useEntries}
+use Rattle.tables.specs.Arrays.{useEntry, tables, leaderIn, Benefits, Limits, Bounded, Chosen, Running, useEntries}
 use Rattle.phase1.specs.declared.Weak.{Weak}
 
 -- what an array at the places of uses holds for resource r of strategy j on segment i
@@ -50,6 +50,16 @@ pub record Held (z : Size) (b u l s c sums : List ℕ) : Type 0 where
   pub fit : FitAlone (tables z b u l)
   pub shares : Shares z b u l s
   pub candidates : OfCandidates (tables z b u l) c
+
+-- the same, whatever the limits are
+pub record Fitted (z : Size) (b u s c sums : List ℕ) : Type 0 where
+  pub limits : List ℕ
+  pub held : Held z b u limits s c sums
+
+-- of n segments the first m have all the leaders, so that pruning can stop there
+pub record LedWithin (ls : List ℕ) (n m : ℕ) : Type 0 where
+  pub few : m ≤ n
+  pub same : (c : List ℕ) → pruned (leaderIn ls) m c ≡ pruned (leaderIn ls) n c
 
 -- the shares of programme c in each resource, together
 pub record ShareSums (z : Size) (s c held : List ℕ) : Type 0 where

@@ -1,6 +1,9 @@
-// Phase 1: each segment takes its top candidate; while some limit does not hold, the weakest segment steps down.
+// Phase 1: each segment takes its top candidate; while some limit does not hold, the weakest segment steps down. A segment
+// whose leader has nothing has nothing.
 ghost use mathlib.Core.Path.{_≡_};
+ghost use mathlib.Core.Bool.{false};
 ghost use mathlib.Core.List.{List};
+ghost use mathlib.Core.Option.{some};
 ghost use Prim.Native.Nat.{ℕ, _+_, _-_, _*_, _/_, _^_, _<_, _≤_};
 ghost use lib.ListN.{getD, length};
 ghost use Rattle.base.specs.Over.{sum};
@@ -10,14 +13,18 @@ ghost use Rattle.rules.specs.Phases.{
   strategyAt,
   used,
   within,
+  heeds,
+  pruned,
   topCandidate,
+  bests,
   start,
   weakest,
   nextCandidate,
+  stepDown,
   phase1,
 };
-ghost use Rattle.tables.specs.Arrays.{usageAt, tables, Benefits, Uses, Limits, Bounded, Cell, Chosen, Running, useEntries};
-ghost use Rattle.phase1.specs.Reduce.{shareAt, ShareSums, ShareMove, heldShare, rowPull, heldPull, Shares, Measured, Held, Surplus, Surpluses, IsWeaker, follows};
+ghost use Rattle.tables.specs.Arrays.{usageAt, tables, leaderIn, Leaders, Benefits, Uses, Limits, Bounded, Cell, Chosen, Running, useEntries};
+ghost use Rattle.phase1.specs.Reduce.{shareAt, ShareSums, ShareMove, heldShare, rowPull, heldPull, Shares, Measured, Held, Fitted, LedWithin, Surplus, Surpluses, IsWeaker, follows};
 use rules::places::MOST_RESOURCES;
 use rules::places::MOST_SEGMENTS;
 use tables::COLUMNS;
@@ -281,54 +288,6 @@ fn limits_hold(z: Size, limits: &[u64], sums: &[u64]) -> bool
     true
 }
 
-// Phase 1, the steps: until every limit holds. Returns how many there were.
-pub fn reduce(
-    z: Size,
-    benefits: &[u64],
-    uses: &[u64],
-    limits: &[u64],
-    shares: &[u64],
-    choice: &mut [usize],
-    sums: &mut [u64],
-) -> u64
-    ghost { Table }
-    requires { λ t. ⌜ tables z (now benefits) (now uses) (now limits) ≡ t ⌝ }
-    requires { λ _. ⌜ Held z (now benefits) (now uses) (now limits) (now shares) (now choice) (now sums) ⌝ }
-    ensures { λ _ m. ⌜ Running z (now (uses .entry)) (now (choice .exit)) (now (sums .exit)) ⌝ }
-    ensures { λ t m. ⌜ now (choice .exit) ≡ phase1 t (now (choice .entry)) .last ⌝ }
-    ensures { λ t m. ⌜ m ≡ phase1 t (now (choice .entry)) .count ⌝ }
-{
-    let mut steps: u64 = 0;
-    let mut held = share_sums(z, shares, choice);
-    let bound = (z.segments * z.strategies) as u64;
-    while steps < bound {
-        if limits_hold(z, limits, sums) {
-            return steps;
-        }
-        let i = weakest_of(z, benefits, limits, shares, choice, sums, &held);
-        if i == 0 {
-            return steps;
-        }
-        let x = choice[i - 1];
-        let j = next_candidate(z, benefits, i, x);
-        tables::make_one(z, uses, choice, sums, i, j);
-        let moved = moved_shares(z.resources, shares, &held, i, x, j);
-        held = moved;
-        steps += 1;
-    }
-    steps
-}
-
-// Each segment takes its top candidate.
-fn choose_tops(z: Size, benefits: &[u64], choice: &mut [usize])
-    requires { ⌜ Benefits (now benefits) × (z .strategies ≤ mostStrategies) × (length (now choice) ≡ mostSegments) ⌝ }
-    ensures { λ _. ⌜ ((u l : List ℕ) → now (choice .exit) ≡ start (tables z (now (benefits .entry)) u l)) ⌝ }
-{
-    for i in 0..MOST_SEGMENTS {
-        choice[i] = top_candidate(z, benefits, i + 1);
-    }
-}
-
 // What segment i's strategy uses of resource r.
 fn chosen_usage(uses: &[u64], choice: &[usize], i: usize, r: usize) -> u64
     requires { ⌜ Uses (now uses) × (length (now choice) ≡ mostSegments) ⌝ }
@@ -352,16 +311,166 @@ fn used_of(z: Size, uses: &[u64], choice: &[usize], r: usize) -> u64
     so_far
 }
 
-// Phase 1, the start: each segment takes its top candidate, and the sums are made.
-pub fn start(z: Size, benefits: &[u64], uses: &[u64], choice: &mut [usize], sums: &mut [u64])
-    requires { ⌜ Bounded z × Benefits (now benefits) × Uses (now uses) ⌝ }
-    requires { ⌜ (length (now choice) ≡ mostSegments) × (length (now sums) ≡ mostResources) ⌝ }
-    ensures { λ _. ⌜ Running z (now (uses .entry)) (now (choice .exit)) (now (sums .exit)) ⌝ }
-    ensures { λ _. ⌜ ((l : List ℕ) → now (choice .exit) ≡ start (tables z (now (benefits .entry)) (now (uses .entry)) l)) ⌝ }
+// What a programme uses of each resource.
+fn make_sums(z: Size, uses: &[u64], choice: &[usize], sums: &mut [u64])
+    requires { ⌜ Bounded z × Uses (now uses) × Chosen z (now choice) × (length (now sums) ≡ mostResources) ⌝ }
+    ensures { λ _. ⌜ Running z (now (uses .entry)) (now (choice .entry)) (now (sums .exit)) ⌝ }
 {
-    choose_tops(z, benefits, choice);
     let resources = z.resources;
     for r in 0..resources {
         sums[r] = used_of(z, uses, choice, r + 1);
     }
+}
+
+// Segment i has nothing, or may have something.
+fn heeds(leaders: &[usize], choice: &[usize], i: usize) -> bool
+    requires { ⌜ Leaders (now leaders) × (length (now choice) ≡ mostSegments) ⌝ }
+    requires { ⌜ (1 ≤ i) × (i ≤ mostSegments) ⌝ }
+    ensures { λ ok. ⌜ ok ≡ heeds (leaderIn (now (leaders .entry))) (strategyAt (now (choice .entry))) i ⌝ }
+{
+    if choice[i - 1] == 0 {
+        return true;
+    }
+    tables::is_led(leaders, choice, i)
+}
+
+// Of the first segments those get nothing whose leaders have nothing, by rising number. Returns whether one of them had
+// something.
+fn prune(segments: usize, leaders: &[usize], choice: &mut [usize]) -> bool
+    requires { ⌜ Leaders (now leaders) × (length (now choice) ≡ mostSegments) × (segments ≤ mostSegments) ⌝ }
+    ensures { λ _. ⌜ now (choice .exit) ≡ pruned (leaderIn (now (leaders .entry))) segments (now (choice .entry)) ⌝ }
+    ensures { λ lost. ⌜ (lost ≡ false → now (choice .exit) ≡ now (choice .entry)) ⌝ }
+{
+    let mut lost = false;
+    for i in 0..segments {
+        let k = i + 1;
+        if !heeds(leaders, choice, k) {
+            choice[k - 1] = 0;
+            lost = true;
+        }
+    }
+    lost
+}
+
+// The last of the segments that has a leader, or 0: a programme needs no pruning past it.
+fn last_led(segments: usize, leaders: &[usize]) -> usize
+    requires { ⌜ Leaders (now leaders) × (segments ≤ mostSegments) ⌝ }
+    ensures { λ n. ⌜ LedWithin (now (leaders .entry)) segments n ⌝ }
+{
+    let mut last: usize = 0;
+    for i in 0..segments {
+        if leaders[i] > 0 {
+            last = i + 1;
+        }
+    }
+    last
+}
+
+// Segment i takes its next candidate; where that leaves others without their leaders, they lose what they have in the same
+// step. The first `led` segments have all the leaders. Returns the sums of shares.
+fn step(
+    z: Size,
+    led: usize,
+    leaders: &[usize],
+    benefits: &[u64],
+    uses: &[u64],
+    shares: &[u64],
+    choice: &mut [usize],
+    sums: &mut [u64],
+    held: &[u64; MOST_RESOURCES],
+    i: usize,
+) -> [u64; MOST_RESOURCES]
+    requires { ⌜ Leaders (now leaders) × LedWithin (now leaders) (z .segments) led ⌝ }
+    requires { ⌜ Fitted z (now benefits) (now uses) (now shares) (now choice) (now sums) × ShareSums z (now shares) (now choice) (now held) ⌝ }
+    requires { ⌜ (1 ≤ i) × (i ≤ z .segments) ⌝ }
+    ensures { λ v. ⌜ Running z (now (uses .entry)) (now (choice .exit)) (now (sums .exit)) ⌝ }
+    ensures { λ v. ⌜ ((l : List ℕ) → stepDown (tables z (now (benefits .entry)) (now (uses .entry)) l) (leaderIn (now (leaders .entry))) (now (choice .entry)) i ≡ some (now (choice .exit))) ⌝ }
+    ensures { λ v. ⌜ ShareSums z (now (shares .entry)) (now (choice .exit)) v ⌝ }
+{
+    let x = choice[i - 1];
+    let j = next_candidate(z, benefits, i, x);
+    tables::make_one(z, uses, choice, sums, i, j);
+    if prune(led, leaders, choice) {
+        make_sums(z, uses, choice, sums);
+        return share_sums(z, shares, choice);
+    }
+    moved_shares(z.resources, shares, held, i, x, j)
+}
+
+// Phase 1, the steps: until every limit holds. Returns how many there were.
+pub fn reduce(
+    z: Size,
+    leaders: &[usize],
+    benefits: &[u64],
+    uses: &[u64],
+    limits: &[u64],
+    shares: &[u64],
+    choice: &mut [usize],
+    sums: &mut [u64],
+) -> u64
+    ghost { Table }
+    requires { λ t. ⌜ tables z (now benefits) (now uses) (now limits) ≡ t ⌝ }
+    requires { λ _. ⌜ Leaders (now leaders) ⌝ }
+    requires { λ _. ⌜ Held z (now benefits) (now uses) (now limits) (now shares) (now choice) (now sums) ⌝ }
+    ensures { λ _ m. ⌜ Running z (now (uses .entry)) (now (choice .exit)) (now (sums .exit)) ⌝ }
+    ensures { λ t m. ⌜ now (choice .exit) ≡ phase1 t (leaderIn (now (leaders .entry))) (now (choice .entry)) .last ⌝ }
+    ensures { λ t m. ⌜ m ≡ phase1 t (leaderIn (now (leaders .entry))) (now (choice .entry)) .count ⌝ }
+{
+    let mut steps: u64 = 0;
+    let led = last_led(z.segments, leaders);
+    let mut held = share_sums(z, shares, choice);
+    let bound = (z.segments * z.strategies) as u64;
+    while steps < bound {
+        if limits_hold(z, limits, sums) {
+            return steps;
+        }
+        let i = weakest_of(z, benefits, limits, shares, choice, sums, &held);
+        if i == 0 {
+            return steps;
+        }
+        let stepped = step(
+            z,
+            led,
+            leaders,
+            benefits,
+            uses,
+            shares,
+            choice,
+            sums,
+            &held,
+            i,
+        );
+        held = stepped;
+        steps += 1;
+    }
+    steps
+}
+
+// Each segment takes its top candidate.
+fn choose_tops(z: Size, benefits: &[u64], choice: &mut [usize])
+    requires { ⌜ Benefits (now benefits) × (z .strategies ≤ mostStrategies) × (length (now choice) ≡ mostSegments) ⌝ }
+    ensures { λ _. ⌜ ((u l : List ℕ) → now (choice .exit) ≡ bests (tables z (now (benefits .entry)) u l)) ⌝ }
+{
+    for i in 0..MOST_SEGMENTS {
+        choice[i] = top_candidate(z, benefits, i + 1);
+    }
+}
+
+// Phase 1, the start: each segment takes its top candidate unless its leader has nothing, and the sums are made.
+pub fn start(
+    z: Size,
+    leaders: &[usize],
+    benefits: &[u64],
+    uses: &[u64],
+    choice: &mut [usize],
+    sums: &mut [u64],
+)
+    requires { ⌜ Bounded z × Leaders (now leaders) × Benefits (now benefits) × Uses (now uses) ⌝ }
+    requires { ⌜ (length (now choice) ≡ mostSegments) × (length (now sums) ≡ mostResources) ⌝ }
+    ensures { λ _. ⌜ Running z (now (uses .entry)) (now (choice .exit)) (now (sums .exit)) ⌝ }
+    ensures { λ _. ⌜ ((l : List ℕ) → now (choice .exit) ≡ start (tables z (now (benefits .entry)) (now (uses .entry)) l) (leaderIn (now (leaders .entry)))) ⌝ }
+{
+    choose_tops(z, benefits, choice);
+    prune(z.segments, leaders, choice);
+    make_sums(z, uses, choice, sums);
 }

@@ -1,10 +1,14 @@
-// Phase 2: segments with nothing are picked up, the greatest benefit that fits first, until none fits.
+// Phase 2: segments with nothing are picked up, the greatest benefit that fits first, until none fits; none before its leader.
 use tables::Size;
 ghost use mathlib.Core.Path.{_≡_};
+ghost use mathlib.Core.Bool.{_&&_};
 ghost use Prim.Native.Nat.{_≤_};
+ghost use lib.Dec.{eqb};
+ghost use lib.ListN.{length};
+ghost use Rattle.rules.specs.District.{mostSegments};
 ghost use Rattle.rules.specs.Table.{Table};
-ghost use Rattle.rules.specs.Phases.{offer, bestOffer, phase2};
-ghost use Rattle.tables.specs.Arrays.{tables, Benefits, Limits, Running};
+ghost use Rattle.rules.specs.Phases.{strategyAt, led, offer, bestOffer, phase2};
+ghost use Rattle.tables.specs.Arrays.{tables, leaderIn, Leaders, Benefits, Limits, Running};
 
 // The best that segment i could take, or 0.
 fn offer_of(
@@ -38,9 +42,22 @@ fn offer_of(
     top
 }
 
+// Segment i has nothing, and may have something.
+fn is_free(leaders: &[usize], choice: &[usize], i: usize) -> bool
+    requires { ⌜ Leaders (now leaders) × (length (now choice) ≡ mostSegments) ⌝ }
+    requires { ⌜ (1 ≤ i) × (i ≤ mostSegments) ⌝ }
+    ensures { λ ok. ⌜ ok ≡ (eqb (strategyAt (now (choice .entry)) i) 0 && led (leaderIn (now (leaders .entry))) (strategyAt (now (choice .entry))) i) ⌝ }
+{
+    if choice[i - 1] == 0 {
+        return tables::is_led(leaders, choice, i);
+    }
+    false
+}
+
 // The segment to pick up, or 0.
 fn best_offer(
     z: Size,
+    leaders: &[usize],
     benefits: &[u64],
     uses: &[u64],
     limits: &[u64],
@@ -49,14 +66,14 @@ fn best_offer(
 ) -> usize
     ghost { Table }
     requires { λ t. ⌜ tables z (now benefits) (now uses) (now limits) ≡ t ⌝ }
-    requires { λ _. ⌜ Benefits (now benefits) × Limits (now limits) × Running z (now uses) (now choice) (now sums) ⌝ }
-    ensures { λ t i. ⌜ i ≡ bestOffer t (now (choice .entry)) ⌝ }
+    requires { λ _. ⌜ Benefits (now benefits) × Limits (now limits) × Running z (now uses) (now choice) (now sums) × Leaders (now leaders) ⌝ }
+    ensures { λ t i. ⌜ i ≡ bestOffer t (leaderIn (now (leaders .entry))) (now (choice .entry)) ⌝ }
 {
     let mut top: usize = 0;
     let mut most: u64 = 0;
     let mut i: usize = 0;
     while i < z.segments {
-        if choice[i] == 0 {
+        if is_free(leaders, choice, i + 1) {
             let j = offer_of(z, benefits, uses, limits, choice, sums, i + 1);
             let offered = tables::benefit(benefits, i + 1, j);
             if most < offered {
@@ -72,6 +89,7 @@ fn best_offer(
 // Phase 2. Returns how many segments were picked up.
 pub fn pick_up(
     z: Size,
+    leaders: &[usize],
     benefits: &[u64],
     uses: &[u64],
     limits: &[u64],
@@ -80,14 +98,14 @@ pub fn pick_up(
 ) -> u64
     ghost { Table }
     requires { λ t. ⌜ tables z (now benefits) (now uses) (now limits) ≡ t ⌝ }
-    requires { λ _. ⌜ Benefits (now benefits) × Limits (now limits) × Running z (now uses) (now choice) (now sums) ⌝ }
+    requires { λ _. ⌜ Benefits (now benefits) × Limits (now limits) × Running z (now uses) (now choice) (now sums) × Leaders (now leaders) ⌝ }
     ensures { λ _ m. ⌜ Running z (now (uses .entry)) (now (choice .exit)) (now (sums .exit)) ⌝ }
-    ensures { λ t m. ⌜ now (choice .exit) ≡ phase2 t (now (choice .entry)) .last ⌝ }
-    ensures { λ t m. ⌜ m ≡ phase2 t (now (choice .entry)) .count ⌝ }
+    ensures { λ t m. ⌜ now (choice .exit) ≡ phase2 t (leaderIn (now (leaders .entry))) (now (choice .entry)) .last ⌝ }
+    ensures { λ t m. ⌜ m ≡ phase2 t (leaderIn (now (leaders .entry))) (now (choice .entry)) .count ⌝ }
 {
     let mut picks: u64 = 0;
     loop {
-        let i = best_offer(z, benefits, uses, limits, choice, sums);
+        let i = best_offer(z, leaders, benefits, uses, limits, choice, sums);
         if i == 0 {
             return picks;
         }

@@ -1,5 +1,4 @@
--- Laws of what phase 3 remembers: a row that goes down still holds, what it refuses is refused of every tight programme, and a row put
--- into the memory leaves the others as they were.
+-- Laws of what phase 3 remembers: a row that goes down still holds, and what it refuses is refused of every tight programme.
 use Prim.Native.Nat.{ℕ, zero, suc, _+_, _-_, _*_, _^_, _≤_, _<_, min}
 use mathlib.Core.Path.{_≡_, refl, sym, ap, subst, _∙_}
 use mathlib.Core.Bool.{Bool, true, false, not, true≢false}
@@ -15,7 +14,7 @@ use Rattle.base.specs.Over.{all}
 use Rattle.base.proofs.All.{all-fails}
 use Rattle.rules.specs.District.{mostStrategies, mostResources}
 use Rattle.rules.specs.Table.{Table}
-use Rattle.rules.specs.Phases.{strategyAt, give, isCandidate, chosenUsage, used, holds, within, another, pair, pairsWith, pairsOf}
+use Rattle.rules.specs.Phases.{strategyAt, give, isCandidate, chosenUsage, used, holds, within, respects, another, pair, pairsWith, pairsOf}
 use Rattle.laws.proofs.Give.{kept, used-give}
 use Rattle.tables.specs.declared.Size.{Size}
 use Rattle.tables.specs.Arrays.{usageAt, limitAt, tables, Benefits, Limits, Running}
@@ -31,7 +30,7 @@ use Rattle.phase3.specs.Memory.{
   excessOf,
   Lower,
   Tight,
-  Passed,
+  Alike,
   PassedWith,
   PassedPair,
   Holds,
@@ -47,17 +46,27 @@ use Rattle.phase3.proofs.ChangeSearch.{withMayCount, high-two, not-seco
 -- ---- a row that goes down
 
 pub lower-same : (row : List ℕ) → Lower row row
-lower-same row = record { places = refl; mark-same = refl; down = λ r. omega arith }
+lower-same row = record { places = refl; marks = λ _. refl; down = λ r. omega arith }
+
+set-down : (row : List ℕ) (r v : ℕ) → v ≤ getD row r 0 → (q : ℕ) → getD (set row r v) q 0 ≤ getD row q 0
+set-down [] r v h q = omega arith
+set-down (x ∷ row) zero v h zero = h
+set-down (x ∷ row) zero v h (suc q) = omega arith
+set-down (x ∷ row) (suc r) v h zero = omega arith
+set-down (x ∷ row) (suc r) v h (suc q) = set-down row r v h q
 
 pub lower-set : (row : List ℕ) (r v : ℕ) → 1 ≤ r → v ≤ getD row r 0 → Lower row (set row r v)
-lower-set row r v low h = record { places = length-set row r v; mark-same = getD-set-other row r 0 v 0 (λ e. omega arith); down = down row r v h }
-  where
-    down : (row : List ℕ) (r v : ℕ) → v ≤ getD row r 0 → (q : ℕ) → getD (set row r v) q 0 ≤ getD row q 0
-    down [] r v h q = omega arith
-    down (x ∷ row) zero v h zero = h
-    down (x ∷ row) zero v h (suc q) = omega arith
-    down (x ∷ row) (suc r) v h zero = omega arith
-    down (x ∷ row) (suc r) v h (suc q) = down row r v h q
+lower-set row r v low h =
+    record { places = length-set row r v; marks = λ _. getD-set-other row r 0 v 0 (λ e. omega arith); down = set-down row r v h }
+
+-- the mark goes
+unmark : (row next : List ℕ) → getD (set next 0 0) 0 0 ≡ 0 → Lower row next → Lower row (set next 0 0)
+unmark row next gone lower =
+    record {
+      places = length-set next 0 0 ∙ lower .places;
+      marks = λ h. absurd (omega (arith, gone, h));
+      down = λ r. omega (arith, set-down next 0 0 (omega arith) r, lower .down r);
+    }
 
 -- ---- tight programmes
 
@@ -178,7 +187,7 @@ module _ {z : Size} {p u l c sums given : List ℕ} {i k : ℕ} (s : Setting z p
           lower = lower;
           tight = tight;
           other = λ q. absurd (true≢false (sym q));
-          passed = λ _ e q. no-with t e (q .places) i k (s .low) (s .above) (s .high) (benefit-nothing p) (usage-nothing u) a (h e q);
+          passed = λ _ leader e q. no-with t leader e (q .tight .places) i k (s .low) (s .above) (s .high) (benefit-nothing p) (usage-nothing u) a (h e (q .tight));
         }
 
     pub with-same : another t c i a ≡ false → WithTest t c i k a row row false
@@ -192,62 +201,93 @@ module _ {z : Size} {p u l c sums given : List ℕ} {i k : ℕ} (s : Setting z p
     with-test next false e r may q =
         rw q (record { lower = r .lower; tight = r .tight; other = λ _. e; passed = λ z. absurd (true≢false z) })
 
-  module _ (a b : ℕ) (row : List ℕ) where
+  module _ (leader : ℕ → ℕ) (a b : ℕ) (row : List ℕ) where
     pair-not : (next : List ℕ) → Lower row next → (Tight t i k x y (numbers row) c → Tight t i k x y (numbers next) c)
-        → PassedPair t i k x y (numbers next) a b → PairTest t c i k a b row next false
+        → ((d : List ℕ) → Tight t i k x y (numbers next) d → pair t leader d i k a b ≡ none) → PairTest t leader c i k a b row next false
     pair-not next lower tight h =
-        record { lower = lower; tight = tight; counted = λ q. absurd (true≢false (sym q)); passed = λ _. h }
+        record { lower = lower; tight = tight; counted = λ q. absurd (true≢false (sym q)); passed = λ _ d q. h d (q .tight) }
 
-    pub pair-low : t .benefit i a + t .benefit k b ≤ present t c i k → PairTest t c i k a b row row false
+    pub pair-low : t .benefit i a + t .benefit k b ≤ present t c i k → PairTest t leader c i k a b row row false
     pair-low h =
         pair-not row (lower-same row) (λ q. q)
-        (λ d q. low-pair t d (q .places) i k (s .low) (s .above) (s .high) a b (omega (arith, present-same d (q .first) (q .second))))
+        (λ d q. low-pair t leader d (q .places) i k (s .low) (s .above) (s .high) a b (omega (arith, present-same d (q .first) (q .second))))
 
-    pub pair-same : another t c k b ≡ false → PairTest t c i k a b row row false
+    pub pair-same : another t c k b ≡ false → PairTest t leader c i k a b row row false
     pair-same e =
         pair-not row (lower-same row) (λ q. q)
-        (λ d q. pair-none t d i k a b (not-second t d i k a b (another-same d k b (q .second) ∙ e)))
+        (λ d q. pair-none t leader d i k a b (not-second t leader d i k a b (another-same d k b (q .second) ∙ e)))
 
-    pub pair-test : (next : List ℕ) (refused : Bool) → present t c i k < t .benefit i a + t .benefit k b → another t c i a ≡ true → another t c k b ≡ true
-        → Refusal t c i k a b row next refused → (refused ≡ false → within t (give (give c i a) k b) ≡ true) → (ok : Bool) → ok ≡ not refused → PairTest t c i k a b row next ok
-    pair-test next true h ei ek r fit ok q = rw q (pair-not next (r .lower) (r .tight) (λ d g. pair-none t d i k a b (over-two t d i k a b (r .short refl d g))))
-    pair-test next false h ei ek r fit ok q =
-        rw q
-        (record {
-          lower = r .lower;
-          tight = r .tight;
-          counted = λ _. high-two t c i a (s .low) (omega (arith, s .above, s .high)) (places (s .running)) k b (s .above) (s .high) h ei ek ∙ fit refl;
-          passed = λ z. absurd (true≢false z);
-        })
+    pub pair-over : (next : List ℕ) (refused : Bool) → Refusal t c i k a b row next refused → refused ≡ true → PairTest t leader c i k a b row next false
+    pair-over next refused r e =
+        pair-not next (r .lower) (r .tight) (λ d q. pair-none t leader d i k a b (over-two t leader d i k a b (r .short e d q)))
+
+    -- leaders decide of a pair that fits, and of programme c alone: the row has lost its mark
+    pub pair-test : (next : List ℕ) (refused : Bool) → Refusal t c i k a b row next refused → length row ≡ rowPlaces → present t c i k < t .benefit i a + t .benefit k b → another t c i a ≡ true → another t c k b ≡ true
+        → within t (give (give c i a) k b) ≡ true → (ok : Bool) → ok ≡ respects leader (z .segments) (give (give c i a) k b) → PairTest t leader c i k a b row (set next 0 0) ok
+    pair-test next refused r wide h ei ek fit ok q =
+        let gone : getD (set next 0 0) 0 0 ≡ 0 = getD-set-same next 0 0 0 (omega (arith, r .lower .places, wide)) in
+        let known = high-two t leader c i a (s .low) (omega (arith, s .above, s .high)) (places (s .running)) k b (s .above) (s .high) h ei ek fit ∙ sym q in
+        record {
+          lower = unmark row next gone (r .lower);
+          tight = λ g. tight-under (numbers (set next 0 0)) (numbers next) (λ r low _. omega (arith, getD-set-other next 0 r 0 0 (λ e. omega arith))) (r .tight g);
+          counted = λ e. (known ∙ e, gone);
+          passed = λ e d g. rw (g .same gone) (pair-none t leader c i k a b (known ∙ e));
+        }
 
 -- ---- the search of two segments
 
-module _ (t : Table) (c : List ℕ) (i k : ℕ) where
-  pub searching-lower : {row next : List ℕ} {a : ℕ} → Lower row next
-      → (Tight t i k (strategyAt c i) (strategyAt c k) (numbers row) c → Tight t i k (strategyAt c i) (strategyAt c k) (numbers next) c)
-      → Searching t c i k row a → Searching t c i k next a
-  searching-lower {row} {next} lower tight g =
+module _ (t : Table) (leader : ℕ → ℕ) (c : List ℕ) (i k : ℕ) where
+  alike-lower : {row next d : List ℕ} → Lower row next → Alike t c i k next d → Alike t c i k row d
+  alike-lower {row} {next} lower g =
       record {
-        places = lower .places ∙ g .places;
-        unmarked = lower .mark-same ∙ g .unmarked;
-        tight = tight (g .tight);
-        before = λ v lv d q. g .before v lv d (tight-under (numbers row) (numbers next) (λ r _ _. lower .down r) q);
+        tight = tight-under (numbers row) (numbers next) (λ r _ _. lower .down r) (g .tight);
+        same = λ e. g .same (omega (arith, lower .down 0, e));
       }
 
-  pub passed-lower : {row next : List ℕ} (a b : ℕ) → Lower row next → PassedPair t i k (strategyAt c i) (strategyAt c k) (numbers row) a b → PassedPair t i k (strategyAt c i) (strategyAt c k) (numbers next) a b
-  passed-lower {row} {next} a b lower g d q = g d (tight-under (numbers row) (numbers next) (λ r _ _. lower .down r) q)
+  pub searching-lower : {row next : List ℕ} {a : ℕ} → Lower row next
+      → (Tight t i k (strategyAt c i) (strategyAt c k) (numbers row) c → Tight t i k (strategyAt c i) (strategyAt c k) (numbers next) c)
+      → Searching t leader c i k row a → Searching t leader c i k next a
+  searching-lower lower tight g =
+      record {
+        places = lower .places ∙ g .places;
+        marked = λ h. lower .marks h ∙ g .marked (omega (arith, lower .marks h));
+        tight = tight (g .tight);
+        before = λ v lv d q. g .before v lv d (alike-lower lower q);
+      }
+
+  pub passed-lower : {row next : List ℕ} (a b : ℕ) → Lower row next → PassedPair t leader c i k row a b → PassedPair t leader c i k next a b
+  passed-lower a b lower g d q = g d (alike-lower lower q)
 
   -- first strategy a is done with
-  pub searching-next : {row : List ℕ} {a : ℕ} → Searching t c i k row a → PassedWith t i k (strategyAt c i) (strategyAt c k) (numbers row) a → Searching t c i k row (a + 1)
+  pub searching-next : {row : List ℕ} {a : ℕ} → Searching t leader c i k row a → PassedWith t leader c i k row a → Searching t leader c i k row (a + 1)
   searching-next {row} {a} g h =
-      record { places = g .places; unmarked = g .unmarked; tight = g .tight; before = below-more _ _ (g .before) h }
+      record { places = g .places; marked = g .marked; tight = g .tight; before = below-more _ _ (g .before) h }
 
-  pub passed-with : (row : List ℕ) (a : ℕ) → ((b : ℕ) → b < t .strategies + 1 → PassedPair t i k (strategyAt c i) (strategyAt c k) (numbers row) a b) → PassedWith t i k (strategyAt c i) (strategyAt c k) (numbers row) a
-  passed-with row a h d q = with-none t d i k a (λ b lb. h b lb d q)
+  pub passed-with : (row : List ℕ) (a : ℕ) → ((b : ℕ) → b < t .strategies + 1 → PassedPair t leader c i k row a b) → PassedWith t leader c i k row a
+  passed-with row a h d q = with-none t leader d i k a (λ b lb. h b lb d q)
 
-  -- all of them are
-  pub searching-end : {row : List ℕ} {a : ℕ} → Searching t c i k row a → t .strategies + 1 ≤ a → Passed t i k (strategyAt c i) (strategyAt c k) (numbers row)
-  searching-end g h d q = of-none t d i k (λ v lv. g .before v (omega arith) d q)
+  module _ {row : List ℕ} {a : ℕ} (g : Searching t leader c i k row a) where
+    pub alike : Alike t c i k row c
+    alike = record { tight = g .tight; same = λ _. refl }
+
+    pub unmarked-holds : getD row 0 0 ≡ 0 → Holds t leader i k (numbers row)
+    unmarked-holds e x y few small m = absurd (omega (arith, e, m))
+
+    -- all of them are
+    module _ (h : t .strategies + 1 ≤ a) where
+      all-passed : (d : List ℕ) → Alike t c i k row d → pairsOf t leader d i k ≡ none
+      all-passed d q = of-none t leader d i k (λ v lv. g .before v (omega arith) d q)
+
+      pub searching-none : pairsOf t leader c i k ≡ none
+      searching-none = all-passed c alike
+
+      -- a row that still has its mark holds for the strategies of that
+      pub searching-holds : strategyAt c i ≤ mostStrategies → strategyAt c k ≤ mostStrategies → Holds t leader i k (numbers row)
+      searching-holds few small x y few₂ small₂ e =
+          let m = g .marked (omega (arith, e)) in
+          let ex : x ≡ strategyAt c i = omega (arith, m, e) in
+          let ey : y ≡ strategyAt c k = omega (arith, m, e) in
+          rw (ex, ey) (λ d q. all-passed d (record { tight = q; same = λ z. absurd (omega (arith, e, z)) }))
 
 pub setting-of : {z : Size} {p u l c sums given : List ℕ} {i k : ℕ} → Benefits p → Limits l → Running z u c sums
     → Budgets (z .resources) u l i (strategyAt c i) k (strategyAt c k) given → 1 ≤ i → i < k → k ≤ z .segments → Setting z p u l c sums given i k
@@ -255,12 +295,12 @@ setting-of b l r g low above high =
     record { benefits = b; limits = l; running = r; budgets = g; low = low; above = above; high = high }
 
 -- a row with unreached numbers
-pub searching-start : {z : Size} {p u l c sums given row : List ℕ} {i k : ℕ} → Setting z p u l c sums given i k → length row ≡ rowPlaces → getD row 0 0 ≡ 0
-    → ((r : ℕ) → 1 ≤ r → r ≤ z .resources → getD row r 0 ≡ unreached) → Searching (tables z p u l) c i k row 0
-searching-start {z} {p} {u} {l} s wide unmarked h =
+pub searching-start : {z : Size} {p u l c sums given row : List ℕ} {i k : ℕ} → Setting z p u l c sums given i k → length row ≡ rowPlaces → getD row 0 0 ≡ mark (strategyAt c i) (strategyAt c k)
+    → ((r : ℕ) → 1 ≤ r → r ≤ z .resources → getD row r 0 ≡ unreached) → (leader : ℕ → ℕ) → Searching (tables z p u l) leader c i k row 0
+searching-start {z} {p} {u} {l} s wide marked h leader =
     record {
       places = wide;
-      unmarked = unmarked;
+      marked = λ _. marked;
       tight =
           record {
             places = places (s .running);
@@ -270,21 +310,3 @@ searching-start {z} {p} {u} {l} s wide unmarked h =
           };
       before = λ v lv. absurd (omega arith);
     }
-
--- ---- the mark of a row
-
-module _ (t : Table) (i k x y : ℕ) (row : List ℕ) (few : x ≤ mostStrategies) (small : y ≤ mostStrategies) (inside : 0 < length row) where
-  abbrev marked : List ℕ
-  marked = set row 0 (mark x y)
-
-  -- what passed all pairs holds for the strategies of its mark
-  pub mark-holds : Passed t i k x y (numbers row) → Holds t i k (numbers marked)
-  mark-holds h x₂ y₂ few₂ small₂ e =
-      let m = getD-set-same row 0 (mark x y) 0 inside in
-      let ex : x₂ ≡ x = omega (arith, m, e) in
-      let ey : y₂ ≡ y = omega (arith, m, e) in
-      rw (ex, ey)
-      (λ d q. h d (tight-under (numbers row) (numbers marked) (λ r low _. let same = getD-set-other row 0 r (mark x y) 0 (λ z. omega arith) in omega (arith, same)) q))
-
-pub unmarked-holds : (t : Table) (i k : ℕ) (row : List ℕ) → getD row 0 0 ≡ 0 → Holds t i k (numbers row)
-unmarked-holds t i k row e x y few small m = absurd (omega arith)

@@ -56,12 +56,12 @@ module _ (xs ys : List ℕ) (at n : ℕ) (room : at ≤ length xs) where
 -- ---- rows
 
 -- a row with the same entries holds too
-holds-same : (t : Table) (i k : ℕ) (f g : ℕ → ℕ) → t .resources ≤ mostResources → ((r : ℕ) → r < rowPlaces → f r ≡ g r) → Holds t i k g → Holds t i k f
-holds-same t i k f g few same h x y lx ly e d q =
+holds-same : (t : Table) (leader : ℕ → ℕ) (i k : ℕ) (f g : ℕ → ℕ) → t .resources ≤ mostResources → ((r : ℕ) → r < rowPlaces → f r ≡ g r) → Holds t leader i k g → Holds t leader i k f
+holds-same t leader i k f g few same h x y lx ly e d q =
     h x y lx ly (sym (same 0 (omega arith)) ∙ e) d (tight-under g f (λ r low high. omega (arith, same r (omega arith))) q)
 
-pub memory-start : (t : Table) (n : ℕ) → n ≡ memoryPlaces → Memory t (replicate n 0)
-memory-start t n e =
+pub memory-start : (t : Table) (leader : ℕ → ℕ) (n : ℕ) → n ≡ memoryPlaces → Memory t leader (replicate n 0)
+memory-start t leader n e =
     record {
       places = length-replicate n 0 ∙ e;
       rows = λ i k low above high x y lx ly m. absurd (let z = zeros (rowAt i k + 0) in omega arith);
@@ -70,10 +70,10 @@ memory-start t n e =
     zeros : (m : ℕ) → _≡_ {A = ℕ} (getD (replicate n 0) m 0) 0
     zeros = each-replicate (λ (v : ℕ). _≡_ {A = ℕ} v 0) 0 n 0 refl refl
 
-module _ {t : Table} {memory : List ℕ} (holds : Memory t memory) (many : t .segments ≤ mostSegments) (few : t .resources ≤ mostResources) where
+module _ {t : Table} {leader : ℕ → ℕ} {memory : List ℕ} (holds : Memory t leader memory) (many : t .segments ≤ mostSegments) (few : t .resources ≤ mostResources) where
   -- the row of segments i and k is back with other entries, and holds
-  pub memory-put : (i k : ℕ) → 1 ≤ i → i < k → k ≤ t .segments → (n : ℕ) → n ≡ rowPlaces → (ys : List ℕ) → length ys ≡ rowPlaces → Holds t i k (numbers ys)
-      → Memory t (putMid (rowAt i k) n memory ys)
+  pub memory-put : (i k : ℕ) → 1 ≤ i → i < k → k ≤ t .segments → (n : ℕ) → n ≡ rowPlaces → (ys : List ℕ) → length ys ≡ rowPlaces → Holds t leader i k (numbers ys)
+      → Memory t leader (putMid (rowAt i k) n memory ys)
   memory-put i k low above high n en ys ey row =
       record {
         places = long;
@@ -94,15 +94,15 @@ module _ {t : Table} {memory : List ℕ} (holds : Memory t memory) (many : t .se
       go : (i₂ k₂ : ℕ) → 1 ≤ i₂ → i₂ < k₂ → k₂ ≤ t .segments
           → (b : Bool) → ltb (mostSegments * (i₂ - 1) + (k₂ - 1)) (mostSegments * (i - 1) + (k - 1)) ≡ b
           → (d : Bool) → ltb (mostSegments * (i - 1) + (k - 1)) (mostSegments * (i₂ - 1) + (k₂ - 1)) ≡ d
-          → Holds t i₂ k₂ (numbersAt (putMid (rowAt i k) n memory ys) (rowAt i₂ k₂))
+          → Holds t leader i₂ k₂ (numbersAt (putMid (rowAt i k) n memory ys) (rowAt i₂ k₂))
       go i₂ k₂ low₂ above₂ high₂ true eb d ed =
           let h = ltb-true (mostSegments * (i₂ - 1) + (k₂ - 1)) (mostSegments * (i - 1) + (k - 1)) eb in
-          holds-same t i₂ k₂ (numbersAt (putMid (rowAt i k) n memory ys) (rowAt i₂ k₂)) (numbersAt memory (rowAt i₂ k₂)) few
+          holds-same t leader i₂ k₂ (numbersAt (putMid (rowAt i k) n memory ys) (rowAt i₂ k₂)) (numbersAt memory (rowAt i₂ k₂)) few
           (λ r hr. put-before memory ys (rowAt i k) n begin (rowAt i₂ k₂ + r) (omega (arith, h)))
           (holds .rows i₂ k₂ low₂ above₂ high₂)
       go i₂ k₂ low₂ above₂ high₂ false eb true ed =
           let h = ltb-true (mostSegments * (i - 1) + (k - 1)) (mostSegments * (i₂ - 1) + (k₂ - 1)) ed in
-          holds-same t i₂ k₂ (numbersAt (putMid (rowAt i k) n memory ys) (rowAt i₂ k₂)) (numbersAt memory (rowAt i₂ k₂)) few
+          holds-same t leader i₂ k₂ (numbersAt (putMid (rowAt i k) n memory ys) (rowAt i₂ k₂)) (numbersAt memory (rowAt i₂ k₂)) few
           (λ r hr. put-after memory ys (rowAt i k) n begin (ey ∙ sym en) (rowAt i₂ k₂ + r) (omega (arith, h, en)))
           (holds .rows i₂ k₂ low₂ above₂ high₂)
       go i₂ k₂ low₂ above₂ high₂ false eb false ed =
@@ -111,7 +111,7 @@ module _ {t : Table} {memory : List ℕ} (holds : Memory t memory) (many : t .se
           let ei : i₂ ≡ i = omega (arith, h, g, many) in
           let ek : k₂ ≡ k = omega (arith, h, g, many) in
           rw (ei, ek)
-          (holds-same t i k (numbersAt (putMid (rowAt i k) n memory ys) (rowAt i k)) (numbers ys) few
+          (holds-same t leader i k (numbersAt (putMid (rowAt i k) n memory ys) (rowAt i k)) (numbers ys) few
           (λ r hr. put-there memory ys (rowAt i k) n begin r (omega (arith, ey)))
           row)
 
@@ -120,10 +120,10 @@ unfolding below
 under slacks row r q = ltb-true (getD slacks (r - 1) 0) (getD row r 0) q
 
 -- a row whose mark names what segments i and k have, with every slack below its number, passes them over
-pub still-none : {z : Size} (p : List ℕ) {u l c sums slacks memory : List ℕ} → Memory (tables z p u l) memory → Running z u c sums → Slacks (z .resources) l sums slacks
+pub still-none : {z : Size} {leader : ℕ → ℕ} (p : List ℕ) {u l c sums slacks memory : List ℕ} → Memory (tables z p u l) leader memory → Running z u c sums → Slacks (z .resources) l sums slacks
     → (i k : ℕ) → 1 ≤ i → i < k → k ≤ z .segments → (n : ℕ) → n ≡ rowPlaces
-    → (m : ℕ) → m ≡ mark (strategyAt c i) (strategyAt c k) → holdsStill (z .resources) slacks (midOf (rowAt i k) n memory) m ≡ true → pairsOf (tables z p u l) c i k ≡ none
-still-none {z} p {u} {l} {c} {sums} {slacks} {memory} holds running are i k low above high n en m em e =
+    → (m : ℕ) → m ≡ mark (strategyAt c i) (strategyAt c k) → holdsStill (z .resources) slacks (midOf (rowAt i k) n memory) m ≡ true → pairsOf (tables z p u l) leader c i k ≡ none
+still-none {z} {leader} p {u} {l} {c} {sums} {slacks} {memory} holds running are i k low above high n en m em e =
     holds .rows i k low above high (strategyAt c i) (strategyAt c k)
     (omega (arith, running .chosen .numbers i, running .bounded .strategies))
     (omega (arith, running .chosen .numbers k, running .bounded .strategies))

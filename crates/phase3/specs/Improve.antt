@@ -44,11 +44,11 @@ pub record Found (z : Size) (c : List ℕ) (x : Change) (search : Option (List �
   pub inside : Inside z x
 
 -- a single change, and a pair, that the search takes
-abbrev pub countsOne : Table → List ℕ → ℕ → ℕ → Bool
-countsOne t c i a = another t c i a && counts t c (give c i a)
+abbrev pub countsOne : Table → (ℕ → ℕ) → List ℕ → ℕ → ℕ → Bool
+countsOne t leader c i a = another t c i a && counts t leader c (give c i a)
 
-abbrev pub countsTwo : Table → List ℕ → ℕ → ℕ → ℕ → ℕ → Bool
-countsTwo t c i k a b = another t c i a && (another t c k b && counts t c (give (give c i a) k b))
+abbrev pub countsTwo : Table → (ℕ → ℕ) → List ℕ → ℕ → ℕ → ℕ → ℕ → Bool
+countsTwo t leader c i k a b = another t c i a && (another t c k b && counts t leader c (give (give c i a) k b))
 
 -- the greatest of segment i's benefits
 abbrev pub top : Table → ℕ → ℕ

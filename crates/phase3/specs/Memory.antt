@@ -1,5 +1,6 @@
--- What phase 3 remembers of two segments of which no pair of strategies counts: the strategies that they have, and for each resource a
--- number. While they have these strategies, and every resource's slack, its limit less its sum, is below its number, still none counts.
+-- What phase 3 remembers of two segments of which every pair of strategies that raises the total goes beyond a limit: the strategies that
+-- they have, and for each resource a number. While they have these strategies, and every resource's slack, its limit less its sum, is below
+-- its number, still no pair counts. A pair that leaders alone refuse is not remembered: it counts as soon as a third segment lets it.
 use Prim.Native.Nat.{ℕ, _+_, _-_, _*_, _^_, _≤_, _<_}
 use mathlib.Core.Path.{_≡_}
 use mathlib.Core.Bool.{Bool, true, false, _&&_}
@@ -48,10 +49,10 @@ pub record IsShort (resources : ℕ) (room : ℕ → Bool) (r : ℕ) : Type 0 wh
   pub none-short : r ≡ 0 → all resources room ≡ true
   pub no-room : 1 ≤ r → room r ≡ false
 
--- the numbers of a row went down or stayed, and its mark stayed
+-- the numbers of a row went down or stayed, and its mark stayed or went
 pub record Lower (row next : List ℕ) : Type 0 where
   pub places : length next ≡ length row
-  pub mark-same : getD next 0 0 ≡ getD row 0 0
+  pub marks : 1 ≤ getD next 0 0 → getD next 0 0 ≡ getD row 0 0
   pub down : (r : ℕ) → getD next r 0 ≤ getD row r 0
 
 -- slacks, one for each resource, with the offset
@@ -66,18 +67,6 @@ pub record Tight (t : Table) (i k x y : ℕ) (row : ℕ → ℕ) (c : List ℕ) 
   pub second : strategyAt c k ≡ y
   pub short : (r : ℕ) → 1 ≤ r → r ≤ t .resources → t .limit r + offset < row r + used t c r
 
--- of such programmes none has a pair that counts
-abbrev pub Passed : Table → ℕ → ℕ → ℕ → ℕ → (ℕ → ℕ) → Type 0
-Passed t i k x y row = (c : List ℕ) → Tight t i k x y row c → pairsOf t c i k ≡ none
-
--- none that gives segment i strategy a
-abbrev pub PassedWith : Table → ℕ → ℕ → ℕ → ℕ → (ℕ → ℕ) → ℕ → Type 0
-PassedWith t i k x y row a = (c : List ℕ) → Tight t i k x y row c → pairsWith t c i k a ≡ none
-
--- and none that gives them strategies a and b
-abbrev pub PassedPair : Table → ℕ → ℕ → ℕ → ℕ → (ℕ → ℕ) → ℕ → ℕ → Type 0
-PassedPair t i k x y row a b = (c : List ℕ) → Tight t i k x y row c → pair t c i k a b ≡ none
-
 -- the numbers of a row, and of the row that begins at a place of the memory
 abbrev pub numbers : List ℕ → ℕ → ℕ
 numbers row r = getD row r 0
@@ -85,14 +74,15 @@ numbers row r = getD row r 0
 abbrev pub numbersAt : List ℕ → ℕ → ℕ → ℕ
 numbersAt memory at r = getD memory (at + r) 0
 
--- a row holds for the strategies that its mark names
-abbrev pub Holds : Table → ℕ → ℕ → (ℕ → ℕ) → Type 0
-Holds t i k row = (x y : ℕ) → x ≤ mostStrategies → y ≤ mostStrategies → row 0 ≡ mark x y → Passed t i k x y row
+-- a row holds for the strategies that its mark names: of the programmes that are tight with them none has a pair that counts
+abbrev pub Holds : Table → (ℕ → ℕ) → ℕ → ℕ → (ℕ → ℕ) → Type 0
+Holds t leader i k row =
+    (x y : ℕ) → x ≤ mostStrategies → y ≤ mostStrategies → row 0 ≡ mark x y → (c : List ℕ) → Tight t i k x y row c → pairsOf t leader c i k ≡ none
 
 -- and so does every row of the memory
-pub record Memory (t : Table) (memory : List ℕ) : Type 0 where
+pub record Memory (t : Table) (leader : ℕ → ℕ) (memory : List ℕ) : Type 0 where
   pub places : length memory ≡ memoryPlaces
-  pub rows : (i k : ℕ) → 1 ≤ i → i < k → k ≤ t .segments → Holds t i k (numbersAt memory (rowAt i k))
+  pub rows : (i k : ℕ) → 1 ≤ i → i < k → k ≤ t .segments → Holds t leader i k (numbersAt memory (rowAt i k))
 
 -- what a search of segments i and k reads, with the budgets where both give up what they have
 pub record Setting (z : Size) (b u l c sums given : List ℕ) (i k : ℕ) : Type 0 where
@@ -104,12 +94,25 @@ pub record Setting (z : Size) (b u l c sums given : List ℕ) (i k : ℕ) : Type
   pub above : i < k
   pub high : k ≤ z .segments
 
--- where the search stands: the row does not hold yet, programme c is tight, and no first strategy below a counts
-pub record Searching (t : Table) (c : List ℕ) (i k : ℕ) (row : List ℕ) (a : ℕ) : Type 0 where
+-- what a search of segments i and k in programme c finds out is true of c, and as long as the row has its mark of every tight programme
+pub record Alike (t : Table) (c : List ℕ) (i k : ℕ) (row d : List ℕ) : Type 0 where
+  pub tight : Tight t i k (strategyAt c i) (strategyAt c k) (numbers row) d
+  pub same : getD row 0 0 ≡ 0 → d ≡ c
+
+-- in such programmes no pair counts that gives segment i strategy a
+abbrev pub PassedWith : Table → (ℕ → ℕ) → List ℕ → ℕ → ℕ → List ℕ → ℕ → Type 0
+PassedWith t leader c i k row a = (d : List ℕ) → Alike t c i k row d → pairsWith t leader d i k a ≡ none
+
+-- and none that gives them strategies a and b
+abbrev pub PassedPair : Table → (ℕ → ℕ) → List ℕ → ℕ → ℕ → List ℕ → ℕ → ℕ → Type 0
+PassedPair t leader c i k row a b = (d : List ℕ) → Alike t c i k row d → pair t leader d i k a b ≡ none
+
+-- where the search stands: the row has its mark or none, programme c is tight, and no first strategy below a counts
+pub record Searching (t : Table) (leader : ℕ → ℕ) (c : List ℕ) (i k : ℕ) (row : List ℕ) (a : ℕ) : Type 0 where
   pub places : length row ≡ rowPlaces
-  pub unmarked : getD row 0 0 ≡ 0
+  pub marked : 1 ≤ getD row 0 0 → getD row 0 0 ≡ mark (strategyAt c i) (strategyAt c k)
   pub tight : Tight t i k (strategyAt c i) (strategyAt c k) (numbers row) c
-  pub before : (v : ℕ) → v < a → PassedWith t i k (strategyAt c i) (strategyAt c k) (numbers row) v
+  pub before : (v : ℕ) → v < a → PassedWith t leader c i k row v
 
 -- a test of the limits, with what the row then remembers where strategies a and b are refused
 pub record Refusal (t : Table) (c : List ℕ) (i k a b : ℕ) (row next : List ℕ) (refused : Bool) : Type 0 where
@@ -117,19 +120,19 @@ pub record Refusal (t : Table) (c : List ℕ) (i k a b : ℕ) (row next : List �
   pub tight : Tight t i k (strategyAt c i) (strategyAt c k) (numbers row) c → Tight t i k (strategyAt c i) (strategyAt c k) (numbers next) c
   pub short : refused ≡ true → (e : List ℕ) → Tight t i k (strategyAt c i) (strategyAt c k) (numbers next) e → within t (give (give e i a) k b) ≡ false
 
--- a test of a first strategy: none of its pairs counts, or it is another one
+-- a test of a first strategy: none of its pairs counts, whatever the leaders, or it is another one
 pub record WithTest (t : Table) (c : List ℕ) (i k a : ℕ) (row next : List ℕ) (may : Bool) : Type 0 where
   pub lower : Lower row next
   pub tight : Tight t i k (strategyAt c i) (strategyAt c k) (numbers row) c → Tight t i k (strategyAt c i) (strategyAt c k) (numbers next) c
   pub other : may ≡ true → another t c i a ≡ true
-  pub passed : may ≡ false → PassedWith t i k (strategyAt c i) (strategyAt c k) (numbers next) a
+  pub passed : may ≡ false → (leader : ℕ → ℕ) → PassedWith t leader c i k next a
 
--- a test of a pair
-pub record PairTest (t : Table) (c : List ℕ) (i k a b : ℕ) (row next : List ℕ) (ok : Bool) : Type 0 where
+-- a test of a pair: one that counts takes the row's mark
+pub record PairTest (t : Table) (leader : ℕ → ℕ) (c : List ℕ) (i k a b : ℕ) (row next : List ℕ) (ok : Bool) : Type 0 where
   pub lower : Lower row next
   pub tight : Tight t i k (strategyAt c i) (strategyAt c k) (numbers row) c → Tight t i k (strategyAt c i) (strategyAt c k) (numbers next) c
-  pub counted : ok ≡ true → countsTwo t c i k a b ≡ true
-  pub passed : ok ≡ false → PassedPair t i k (strategyAt c i) (strategyAt c k) (numbers next) a b
+  pub counted : ok ≡ true → (countsTwo t leader c i k a b ≡ true) × (getD next 0 0 ≡ 0)
+  pub passed : ok ≡ false → PassedPair t leader c i k next a b
 
 -- the row's mark is m, and every slack is below its number
 unfoldable pub below : List ℕ → List ℕ → ℕ → Bool

@@ -1,4 +1,4 @@
-// Phase 3: changes of one segment or two that raise the total and keep the limits, until none is left.
+// Phase 3: changes of one segment or two that raise the total, keep the limits and respect leaders, until none is left.
 ghost use mathlib.Core.Path.{_≡_};
 ghost use Prim.Native.Nat.{ℕ, _+_, _-_, _^_, _<_, _≤_, min};
 ghost use mathlib.Core.Bool.{true, false};
@@ -7,16 +7,16 @@ ghost use lib.ListN.{getD, set, length};
 ghost use Rattle.base.specs.Over.{most};
 ghost use Rattle.rules.specs.District.{mostSegments, mostStrategies, mostResources};
 ghost use Rattle.rules.specs.Table.{Table};
-ghost use Rattle.rules.specs.Phases.{strategyAt, give, within, another, firstSingle, pairsOf, firstPair, change, phase3};
+ghost use Rattle.rules.specs.Phases.{strategyAt, give, within, heeds, respects, another, firstSingle, pairsOf, firstPair, change, phase3};
 use rules::places::MOST_RESOURCES;
 use rules::places::MOST_SEGMENTS;
 use tables::COLUMNS;
 use tables::Size;
 ghost use Rattle.tables.specs.declared.Size.{Size};
-ghost use Rattle.tables.specs.Arrays.{benefitAt, tables, Benefits, Uses, Limits, Cell, Running};
+ghost use Rattle.tables.specs.Arrays.{benefitAt, tables, leaderIn, Leaders, Benefits, Uses, Limits, Cell, Running};
 ghost use Rattle.tables.specs.Moves.{Budgets, Testable, roomFor};
 ghost use Rattle.phase3.specs.Improve.{after, isNothing, Inside, Found, countsOne, countsTwo, Tops, Compared, present, pairMayRise};
-ghost use Rattle.phase3.specs.Memory.{offset, unreached, rowPlaces, mark, excessOf, IsShort, Slacks, Passed, numbers, Holds, Memory, Setting, Searching, Refusal, WithTest, PairTest, holdsStill};
+ghost use Rattle.phase3.specs.Memory.{offset, unreached, rowPlaces, mark, excessOf, IsShort, Slacks, numbers, Holds, Memory, Setting, Searching, Refusal, WithTest, PairTest, holdsStill};
 
 // A row of the memory: its mark, and a number for each resource.
 const ROW: usize = MOST_RESOURCES + 1;
@@ -264,9 +264,71 @@ fn with_may_count(
     !refused_by_last(z, uses, limits, sums, given, i, a, k, 0, row, asked)
 }
 
+// The strategy of segment m where segment i gets strategy a, and then segment k strategy b.
+fn strategy_after(choice: &[usize], i: usize, a: usize, k: usize, b: usize, m: usize) -> usize
+    requires { ⌜ (length (now choice) ≡ mostSegments) × (1 ≤ m) × (m ≤ mostSegments) ⌝ }
+    requires { ⌜ (1 ≤ i) × (i ≤ mostSegments) × (1 ≤ k) × (k ≤ mostSegments) ⌝ }
+    ensures { λ v. ⌜ v ≡ strategyAt (give (give (now (choice .entry)) i a) k b) m ⌝ }
+{
+    if m == k {
+        return b;
+    }
+    if m == i {
+        return a;
+    }
+    choice[m - 1]
+}
+
+// Whether segment m then has nothing, or no leader, or one that has something.
+fn heeds_leader(
+    leaders: &[usize],
+    choice: &[usize],
+    i: usize,
+    a: usize,
+    k: usize,
+    b: usize,
+    m: usize,
+) -> bool
+    requires { ⌜ Leaders (now leaders) × (length (now choice) ≡ mostSegments) × (1 ≤ m) × (m ≤ mostSegments) ⌝ }
+    requires { ⌜ (1 ≤ i) × (i ≤ mostSegments) × (1 ≤ k) × (k ≤ mostSegments) ⌝ }
+    ensures { λ ok. ⌜ ok ≡ heeds (leaderIn (now (leaders .entry))) (strategyAt (give (give (now (choice .entry)) i a) k b)) m ⌝ }
+{
+    let leader = leaders[m - 1];
+    if leader == 0 {
+        return true;
+    }
+    if strategy_after(choice, i, a, k, b, m) == 0 {
+        return true;
+    }
+    0 < strategy_after(choice, i, a, k, b, leader)
+}
+
+// Whether every segment then does. One segment alone changes where i is k, and a is b.
+fn leaders_respected(
+    segments: usize,
+    leaders: &[usize],
+    choice: &[usize],
+    i: usize,
+    a: usize,
+    k: usize,
+    b: usize,
+) -> bool
+    requires { ⌜ Leaders (now leaders) × (length (now choice) ≡ mostSegments) × (segments ≤ mostSegments) ⌝ }
+    requires { ⌜ (1 ≤ i) × (i ≤ mostSegments) × (1 ≤ k) × (k ≤ mostSegments) ⌝ }
+    ensures { λ ok. ⌜ ok ≡ respects (leaderIn (now (leaders .entry))) segments (give (give (now (choice .entry)) i a) k b) ⌝ }
+{
+    for m in 0..segments {
+        if !heeds_leader(leaders, choice, i, a, k, b, m + 1) {
+            return false;
+        }
+    }
+    true
+}
+
 // Giving segment i strategy a counts. A strategy of greater benefit is another one, and a candidate.
 fn counts_one(
     z: Size,
+    leaders: &[usize],
     benefits: &[u64],
     uses: &[u64],
     limits: &[u64],
@@ -277,19 +339,25 @@ fn counts_one(
 ) -> bool
     ghost { Table }
     requires { λ t. ⌜ tables z (now benefits) (now uses) (now limits) ≡ t ⌝ }
-    requires { λ _. ⌜ Benefits (now benefits) × Limits (now limits) × Running z (now uses) (now choice) (now sums) ⌝ }
+    requires { λ _. ⌜ Benefits (now benefits) × Limits (now limits) × Running z (now uses) (now choice) (now sums) × Leaders (now leaders) ⌝ }
     requires { λ _. ⌜ (1 ≤ i) × (i ≤ z .segments) × (a ≤ z .strategies) ⌝ }
-    ensures { λ t ok. ⌜ ok ≡ countsOne t (now (choice .entry)) i a ⌝ }
+    ensures { λ t ok. ⌜ ok ≡ countsOne t (leaderIn (now (leaders .entry))) (now (choice .entry)) i a ⌝ }
 {
     if tables::benefit(benefits, i, a) <= tables::chosen_benefit(benefits, choice, i) {
         return false;
     }
-    tables::fits_one(z, uses, limits, choice, sums, i, a)
+    if !tables::fits_one(z, uses, limits, choice, sums, i, a) {
+        return false;
+    }
+    leaders_respected(z.segments, leaders, choice, i, a, i, a)
 }
 
-// Giving segments i and k strategies a, another one, and b counts: the rise is tested first, and the limits last.
+// Giving segments i and k strategies a, another one, and b counts: the rise is tested first, then the limits, and leaders
+// last. The row loses its mark where the limits hold: that leaders refuse the pair is not remembered, since a third segment
+// may change that.
 fn counts_two(
     z: Size,
+    leaders: &[usize],
     benefits: &[u64],
     uses: &[u64],
     limits: &[u64],
@@ -305,9 +373,9 @@ fn counts_two(
 ) -> bool
     ghost { Table }
     requires { λ t. ⌜ tables z (now benefits) (now uses) (now limits) ≡ t ⌝ }
-    requires { λ t. ⌜ Setting z (now benefits) (now uses) (now limits) (now choice) (now sums) (now given) i k × (length (now row) ≡ rowPlaces) × (another t (now choice) i a ≡ true) ⌝ }
+    requires { λ t. ⌜ Setting z (now benefits) (now uses) (now limits) (now choice) (now sums) (now given) i k × (length (now row) ≡ rowPlaces) × (another t (now choice) i a ≡ true) × Leaders (now leaders) ⌝ }
     requires { λ _. ⌜ (a ≤ z .strategies) × (b ≤ z .strategies) ⌝ }
-    ensures { λ t ok. ⌜ PairTest t (now (choice .entry)) i k a b (now (row .entry)) (now (row .exit)) ok ⌝ }
+    ensures { λ t ok. ⌜ PairTest t (leaderIn (now (leaders .entry))) (now (choice .entry)) i k a b (now (row .entry)) (now (row .exit)) ok ⌝ }
 {
     let new = tables::benefit(benefits, i, a) + tables::benefit(benefits, k, b);
     if new <= present_benefit(benefits, choice, i, k) {
@@ -316,12 +384,17 @@ fn counts_two(
     if !is_another(benefits, choice, k, b) {
         return false;
     }
-    !refused(z, uses, limits, sums, given, i, a, k, b, row, asked)
+    if refused(z, uses, limits, sums, given, i, a, k, b, row, asked) {
+        return false;
+    }
+    row[0] = 0;
+    leaders_respected(z.segments, leaders, choice, i, a, k, b)
 }
 
 // The first single change that counts, segment by segment: nothing before strategy 1, and so on up.
 fn first_one(
     z: Size,
+    leaders: &[usize],
     benefits: &[u64],
     uses: &[u64],
     limits: &[u64],
@@ -330,15 +403,15 @@ fn first_one(
 ) -> Change
     ghost { Table }
     requires { λ t. ⌜ tables z (now benefits) (now uses) (now limits) ≡ t ⌝ }
-    requires { λ _. ⌜ Benefits (now benefits) × Limits (now limits) × Running z (now uses) (now choice) (now sums) ⌝ }
-    ensures { λ t x. ⌜ Found z (now (choice .entry)) x (firstSingle t (now (choice .entry))) ⌝ }
+    requires { λ _. ⌜ Benefits (now benefits) × Limits (now limits) × Running z (now uses) (now choice) (now sums) × Leaders (now leaders) ⌝ }
+    ensures { λ t x. ⌜ Found z (now (choice .entry)) x (firstSingle t (leaderIn (now (leaders .entry))) (now (choice .entry))) ⌝ }
 {
     let mut found = Change::Nothing;
     let segments_end = z.segments + 1;
     let strategies_end = z.strategies + 1;
     'search: for i in 1..segments_end {
         for a in 0..strategies_end {
-            if counts_one(z, benefits, uses, limits, choice, sums, i, a) {
+            if counts_one(z, leaders, benefits, uses, limits, choice, sums, i, a) {
                 found = Change::One(i, a);
                 break 'search;
             }
@@ -358,9 +431,10 @@ fn is_nothing(x: Change) -> bool
     }
 }
 
-// The first pair of segments i and k that counts, by the strategy of each. The row remembers what refused the others.
+// The first pair of segments i and k that counts, by the strategy of each. The row remembers which limits refused the others.
 fn search_pair(
     z: Size,
+    leaders: &[usize],
     benefits: &[u64],
     uses: &[u64],
     limits: &[u64],
@@ -375,10 +449,10 @@ fn search_pair(
 ) -> Change
     ghost { Table }
     requires { λ t. ⌜ tables z (now benefits) (now uses) (now limits) ≡ t ⌝ }
-    requires { λ t. ⌜ Setting z (now benefits) (now uses) (now limits) (now choice) (now sums) (now given) i k × Tops z (now benefits) (now tops) × Searching t (now choice) i k (now row) 0 ⌝ }
-    ensures { λ t x. ⌜ Found z (now (choice .entry)) x (pairsOf t (now (choice .entry)) i k) ⌝ }
-    ensures { λ t x. ⌜ (length (now (row .exit)) ≡ rowPlaces) × (getD (now (row .exit)) 0 0 ≡ 0) ⌝ }
-    ensures { λ t x. ⌜ (isNothing x ≡ true → Passed t i k (strategyAt (now (choice .entry)) i) (strategyAt (now (choice .entry)) k) (numbers (now (row .exit)))) ⌝ }
+    requires { λ t. ⌜ Setting z (now benefits) (now uses) (now limits) (now choice) (now sums) (now given) i k × Tops z (now benefits) (now tops) × Searching t (leaderIn (now leaders)) (now choice) i k (now row) 0 × Leaders (now leaders) ⌝ }
+    ensures { λ t x. ⌜ Found z (now (choice .entry)) x (pairsOf t (leaderIn (now (leaders .entry))) (now (choice .entry)) i k) ⌝ }
+    ensures { λ t x. ⌜ length (now (row .exit)) ≡ rowPlaces ⌝ }
+    ensures { λ t x. ⌜ Holds t (leaderIn (now (leaders .entry))) i k (numbers (now (row .exit))) ⌝ }
 {
     let mut found = Change::Nothing;
     let strategies_end = z.strategies + 1;
@@ -401,6 +475,7 @@ fn search_pair(
             for b in 0..strategies_end {
                 if counts_two(
                     z,
+                    leaders,
                     benefits,
                     uses,
                     limits,
@@ -423,12 +498,12 @@ fn search_pair(
     found
 }
 
-// A row that remembers nothing yet.
-fn clear(resources: usize, row: &mut [u64])
+// A row with this mark, which remembers no refusal yet.
+fn clear(resources: usize, marked: u64, row: &mut [u64])
     requires { ⌜ (resources ≤ mostResources) × (length (now row) ≡ rowPlaces) ⌝ }
-    ensures { λ _. ⌜ (length (now (row .exit)) ≡ rowPlaces) × (getD (now (row .exit)) 0 0 ≡ 0) × ((r : ℕ) → 1 ≤ r → r ≤ resources → getD (now (row .exit)) r 0 ≡ unreached) ⌝ }
+    ensures { λ _. ⌜ (length (now (row .exit)) ≡ rowPlaces) × (getD (now (row .exit)) 0 0 ≡ marked) × ((r : ℕ) → 1 ≤ r → r ≤ resources → getD (now (row .exit)) r 0 ≡ unreached) ⌝ }
 {
-    row[0] = 0;
+    row[0] = marked;
     for r in 0..resources {
         row[r + 1] = UNREACHED;
     }
@@ -442,10 +517,10 @@ fn mark_of(choice: &[usize], i: usize, k: usize) -> u64
     (COLUMNS * choice[i - 1] + choice[k - 1] + 1) as u64
 }
 
-// A look at segments i and k: the first pair of theirs that counts, and their row made anew. Only where none counts the
-// row gets its mark.
+// A look at segments i and k: the first pair of theirs that counts, and their row made anew.
 fn look(
     z: Size,
+    leaders: &[usize],
     benefits: &[u64],
     uses: &[u64],
     limits: &[u64],
@@ -459,16 +534,17 @@ fn look(
 ) -> Change
     ghost { Table }
     requires { λ t. ⌜ tables z (now benefits) (now uses) (now limits) ≡ t ⌝ }
-    requires { λ t. ⌜ Benefits (now benefits) × Limits (now limits) × Running z (now uses) (now choice) (now sums) × Tops z (now benefits) (now tops) × (length (now row) ≡ rowPlaces) ⌝ }
+    requires { λ t. ⌜ Benefits (now benefits) × Limits (now limits) × Running z (now uses) (now choice) (now sums) × Tops z (now benefits) (now tops) × (length (now row) ≡ rowPlaces) × Leaders (now leaders) ⌝ }
     requires { λ _. ⌜ (1 ≤ i) × (i < k) × (k ≤ z .segments) ⌝ }
-    ensures { λ t x. ⌜ Found z (now (choice .entry)) x (pairsOf t (now (choice .entry)) i k) ⌝ }
+    ensures { λ t x. ⌜ Found z (now (choice .entry)) x (pairsOf t (leaderIn (now (leaders .entry))) (now (choice .entry)) i k) ⌝ }
     ensures { λ t x. ⌜ length (now (row .exit)) ≡ rowPlaces ⌝ }
-    ensures { λ t x. ⌜ Holds t i k (numbers (now (row .exit))) ⌝ }
+    ensures { λ t x. ⌜ Holds t (leaderIn (now (leaders .entry))) i k (numbers (now (row .exit))) ⌝ }
 {
     let given = both_give_up(z, uses, limits, choice, i, k);
-    clear(z.resources, row);
-    let found = search_pair(
+    clear(z.resources, mark_of(choice, i, k), row);
+    search_pair(
         z,
+        leaders,
         benefits,
         uses,
         limits,
@@ -480,11 +556,7 @@ fn look(
         k,
         row,
         asked,
-    );
-    if is_nothing(found) {
-        row[0] = mark_of(choice, i, k);
-    }
-    found
+    )
 }
 
 // Each resource's slack.
@@ -519,6 +591,7 @@ fn holds_still(resources: usize, slacks: &[u64], row: &[u64], marked: u64) -> bo
 // The first pair of segments i and k that counts, without a look where none can rise, or where the memory still holds.
 fn first_of_pair(
     z: Size,
+    leaders: &[usize],
     benefits: &[u64],
     uses: &[u64],
     limits: &[u64],
@@ -533,10 +606,10 @@ fn first_of_pair(
 ) -> Change
     ghost { Table }
     requires { λ t. ⌜ tables z (now benefits) (now uses) (now limits) ≡ t ⌝ }
-    requires { λ t. ⌜ Benefits (now benefits) × Limits (now limits) × Running z (now uses) (now choice) (now sums) × Tops z (now benefits) (now tops) × Slacks (z .resources) (now limits) (now sums) (now slacks) × Memory t (now memory) ⌝ }
+    requires { λ t. ⌜ Benefits (now benefits) × Limits (now limits) × Running z (now uses) (now choice) (now sums) × Tops z (now benefits) (now tops) × Slacks (z .resources) (now limits) (now sums) (now slacks) × Memory t (leaderIn (now leaders)) (now memory) × Leaders (now leaders) ⌝ }
     requires { λ _. ⌜ (1 ≤ i) × (i < k) × (k ≤ z .segments) ⌝ }
-    ensures { λ t x. ⌜ Found z (now (choice .entry)) x (pairsOf t (now (choice .entry)) i k) ⌝ }
-    ensures { λ t x. ⌜ Memory t (now (memory .exit)) ⌝ }
+    ensures { λ t x. ⌜ Found z (now (choice .entry)) x (pairsOf t (leaderIn (now (leaders .entry))) (now (choice .entry)) i k) ⌝ }
+    ensures { λ t x. ⌜ Memory t (leaderIn (now (leaders .entry))) (now (memory .exit)) ⌝ }
 {
     if !pair_may_rise(benefits, choice, tops, i, k) {
         return Change::Nothing;
@@ -552,6 +625,7 @@ fn first_of_pair(
     }
     look(
         z,
+        leaders,
         benefits,
         uses,
         limits,
@@ -568,6 +642,7 @@ fn first_of_pair(
 // The first pair that counts, ordered by the lower segment, the higher one, and then the strategy of each.
 fn first_two(
     z: Size,
+    leaders: &[usize],
     benefits: &[u64],
     uses: &[u64],
     limits: &[u64],
@@ -578,10 +653,10 @@ fn first_two(
 ) -> Change
     ghost { Table }
     requires { λ t. ⌜ tables z (now benefits) (now uses) (now limits) ≡ t ⌝ }
-    requires { λ t. ⌜ Benefits (now benefits) × Limits (now limits) × Running z (now uses) (now choice) (now sums) ⌝ }
-    requires { λ t. ⌜ Tops z (now benefits) (now tops) × Memory t (now memory) ⌝ }
-    ensures { λ t x. ⌜ Found z (now (choice .entry)) x (firstPair t (now (choice .entry))) ⌝ }
-    ensures { λ t x. ⌜ Memory t (now (memory .exit)) ⌝ }
+    requires { λ t. ⌜ Benefits (now benefits) × Limits (now limits) × Running z (now uses) (now choice) (now sums) × Leaders (now leaders) ⌝ }
+    requires { λ t. ⌜ Tops z (now benefits) (now tops) × Memory t (leaderIn (now leaders)) (now memory) ⌝ }
+    ensures { λ t x. ⌜ Found z (now (choice .entry)) x (firstPair t (leaderIn (now (leaders .entry))) (now (choice .entry))) ⌝ }
+    ensures { λ t x. ⌜ Memory t (leaderIn (now (leaders .entry))) (now (memory .exit)) ⌝ }
 {
     let mut found = Change::Nothing;
     let mut asked: usize = 0;
@@ -591,6 +666,7 @@ fn first_two(
         for k in i + 1..segments_end {
             found = first_of_pair(
                 z,
+                leaders,
                 benefits,
                 uses,
                 limits,
@@ -614,6 +690,7 @@ fn first_two(
 // The first change that counts: single changes come before pairs.
 fn first_change(
     z: Size,
+    leaders: &[usize],
     benefits: &[u64],
     uses: &[u64],
     limits: &[u64],
@@ -624,14 +701,24 @@ fn first_change(
 ) -> Change
     ghost { Table }
     requires { λ t. ⌜ tables z (now benefits) (now uses) (now limits) ≡ t ⌝ }
-    requires { λ _. ⌜ Benefits (now benefits) × Limits (now limits) × Running z (now uses) (now choice) (now sums) ⌝ }
-    requires { λ t. ⌜ Tops z (now benefits) (now tops) × Memory t (now memory) ⌝ }
-    ensures { λ t x. ⌜ Found z (now (choice .entry)) x (change t (now (choice .entry))) ⌝ }
-    ensures { λ t x. ⌜ Memory t (now (memory .exit)) ⌝ }
+    requires { λ _. ⌜ Benefits (now benefits) × Limits (now limits) × Running z (now uses) (now choice) (now sums) × Leaders (now leaders) ⌝ }
+    requires { λ t. ⌜ Tops z (now benefits) (now tops) × Memory t (leaderIn (now leaders)) (now memory) ⌝ }
+    ensures { λ t x. ⌜ Found z (now (choice .entry)) x (change t (leaderIn (now (leaders .entry))) (now (choice .entry))) ⌝ }
+    ensures { λ t x. ⌜ Memory t (leaderIn (now (leaders .entry))) (now (memory .exit)) ⌝ }
 {
-    let one = first_one(z, benefits, uses, limits, choice, sums);
+    let one = first_one(z, leaders, benefits, uses, limits, choice, sums);
     if is_nothing(one) {
-        return first_two(z, benefits, uses, limits, choice, sums, tops, memory);
+        return first_two(
+            z,
+            leaders,
+            benefits,
+            uses,
+            limits,
+            choice,
+            sums,
+            tops,
+            memory,
+        );
     }
     one
 }
@@ -658,6 +745,7 @@ fn make_change(z: Size, uses: &[u64], choice: &mut [usize], sums: &mut [u64], x:
 // Makes the first change that counts, and starts anew, until no change counts. Returns how many were made.
 pub fn improve(
     z: Size,
+    leaders: &[usize],
     benefits: &[u64],
     uses: &[u64],
     limits: &[u64],
@@ -666,17 +754,27 @@ pub fn improve(
 ) -> u64
     ghost { Table }
     requires { λ t. ⌜ tables z (now benefits) (now uses) (now limits) ≡ t ⌝ }
-    requires { λ _. ⌜ Benefits (now benefits) × Limits (now limits) × Running z (now uses) (now choice) (now sums) ⌝ }
+    requires { λ _. ⌜ Benefits (now benefits) × Limits (now limits) × Running z (now uses) (now choice) (now sums) × Leaders (now leaders) ⌝ }
     ensures { λ _ _. ⌜ Running z (now (uses .entry)) (now (choice .exit)) (now (sums .exit)) ⌝ }
-    ensures { λ t _. ⌜ now (choice .exit) ≡ phase3 t (now (choice .entry)) .last ⌝ }
-    ensures { λ t n. ⌜ n ≡ phase3 t (now (choice .entry)) .count ⌝ }
+    ensures { λ t _. ⌜ now (choice .exit) ≡ phase3 t (leaderIn (now (leaders .entry))) (now (choice .entry)) .last ⌝ }
+    ensures { λ t n. ⌜ n ≡ phase3 t (leaderIn (now (leaders .entry))) (now (choice .entry)) .count ⌝ }
 {
     let mut tops: [u64; MOST_SEGMENTS] = [0; MOST_SEGMENTS];
     fill_tops(z, benefits, &mut tops);
     let mut memory = [0u64; MEMORY];
     let mut changes: u64 = 0;
     loop {
-        let x = first_change(z, benefits, uses, limits, choice, sums, &tops, &mut memory);
+        let x = first_change(
+            z,
+            leaders,
+            benefits,
+            uses,
+            limits,
+            choice,
+            sums,
+            &tops,
+            &mut memory,
+        );
         if is_nothing(x) {
             return changes;
         }

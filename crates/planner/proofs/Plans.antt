@@ -5,7 +5,7 @@ use mathlib.Core.Bool.{true, false}
 use mathlib.Core.List.{List}
 use native.Mathlib.Omega.{arith}
 use lib.ListN.{getD}
-use Rattle.rules.specs.District.{District, resourcesOf}
+use Rattle.rules.specs.District.{District, resourcesOf, leaderOf}
 use Rattle.rules.specs.Table.{Table, tableOf}
 use Rattle.rules.specs.Ceiling.{downShare, ceiling}
 use Rattle.rules.specs.Phases.{total, start, phase1, phase2, phase3}
@@ -25,7 +25,7 @@ use Rattle.fill.proofs.Shares.{down-share-le}
 use Rattle.ceiling.specs.Prices.{In, Priced, Sized}
 use Rattle.phase1.specs.Reduce.{Shares}
 
-module _ {d : District} (ranges : Ranges d) {z : Size} {b u l s e : List ℕ} (filled : Filled d z b u l s e) where
+module _ {d : District} (ranges : Ranges d) {z : Size} {ls b u l s e : List ℕ} (filled : Filled d z ls b u l s e) where
   pub shares-of : Shares z b u l s
   shares-of =
       record {
@@ -69,24 +69,24 @@ module _ {d : District} (ranges : Ranges d) {z : Size} {b u l s e : List ℕ} (f
 
 -- ---- the phases' results, put together
 
-pub together : (t : Table) (c₀ c₁ c₂ c₃ : List ℕ) (m₁ m₂ m₃ v₂ v₃ x : ℕ) → c₀ ≡ start t
-    → c₁ ≡ phase1 t c₀ .last → m₁ ≡ phase1 t c₀ .count
-    → c₂ ≡ phase2 t c₁ .last → m₂ ≡ phase2 t c₁ .count → v₂ ≡ total t c₂
-    → c₃ ≡ phase3 t c₂ .last → m₃ ≡ phase3 t c₂ .count → v₃ ≡ total t c₃ → x ≡ ceiling t
-    → record { strategies = c₃; total = v₃; «after_pickups» = v₂; ceiling = x; steps = m₁; pickups = m₂; changes = m₃ } ≡ programmeOf t
+pub together : (t : Table) (leader : ℕ → ℕ) (c₀ c₁ c₂ c₃ : List ℕ) (m₁ m₂ m₃ v₂ v₃ x : ℕ) → c₀ ≡ start t leader
+    → c₁ ≡ phase1 t leader c₀ .last → m₁ ≡ phase1 t leader c₀ .count
+    → c₂ ≡ phase2 t leader c₁ .last → m₂ ≡ phase2 t leader c₁ .count → v₂ ≡ total t c₂
+    → c₃ ≡ phase3 t leader c₂ .last → m₃ ≡ phase3 t leader c₂ .count → v₃ ≡ total t c₃ → x ≡ ceiling t
+    → record { strategies = c₃; total = v₃; «after_pickups» = v₂; ceiling = x; steps = m₁; pickups = m₂; changes = m₃ } ≡ programmeOf t leader
 unfolding programmeOf improved filled-by reduced
-together t c₀ c₁ c₂ c₃ m₁ m₂ m₃ v₂ v₃ x e₀ e₁ f₁ e₂ f₂ g₂ e₃ f₃ g₃ h = rw (h, g₃, e₃, f₃, g₂, e₂, f₂, e₁, f₁, e₀)
+together t leader c₀ c₁ c₂ c₃ m₁ m₂ m₃ v₂ v₃ x e₀ e₁ f₁ e₂ f₂ g₂ e₃ f₃ g₃ h = rw (h, g₃, e₃, f₃, g₂, e₂, f₂, e₁, f₁, e₀)
 
 -- the start is a programme of candidates
-pub start-held : (t : Table) → FitAlone t → {c : List ℕ} → c ≡ start t → OfCandidates t c
-start-held t fit e = rw e (start-allowed t (fit .segments))
+pub start-held : (t : Table) (leader : ℕ → ℕ) → FitAlone t → {c : List ℕ} → c ≡ start t leader → OfCandidates t c
+start-held t leader fit e = rw e (start-allowed t leader (fit .segments))
 
 -- ---- the plan of a district in range, and of any other value
 
 abbrev Planned : District → Programme → Type 0
 Planned d p = (p ≡ planOf d) × (p .steps ≤ 704)
 
-pub planned : (d : District) {p : Programme} → inRange d ≡ true → p ≡ programmeOf (tableOf d) → Planned d p
+pub planned : (d : District) {p : Programme} → inRange d ≡ true → p ≡ programmeOf (tableOf d) (leaderOf d) → Planned d p
 unfolding planOf
 planned d {p} q e =
     let ranges = in-ranges d q in

@@ -5,10 +5,11 @@ ghost use Prim.Native.Nat.{_≤_};
 ghost use Rattle.phase1.specs.Reduce.{Shares};
 ghost use Rattle.laws.specs.Tables.{FitAlone};
 ghost use Rattle.rules.specs.Ceiling.{ceiling};
+ghost use Rattle.rules.specs.District.{leaderOf};
 ghost use Rattle.rules.specs.File.{inRange};
 ghost use Rattle.rules.specs.Plan.{programmeOf, noProgramme, planOf};
 ghost use Rattle.rules.specs.Table.{Table, tableOf};
-ghost use Rattle.tables.specs.Arrays.{tables, Tabled};
+ghost use Rattle.tables.specs.Arrays.{tables, leaderIn, Leaders, Tabled};
 use rules::District;
 use rules::Programme;
 use rules::places::MOST_RESOURCES;
@@ -20,6 +21,7 @@ use tables::USE_ENTRIES;
 // The three phases over arrays that hold a table, with the table's ceiling beside them.
 fn phases(
     z: Size,
+    leaders: &[usize],
     benefits: &[u64],
     uses: &[u64],
     limits: &[u64],
@@ -28,17 +30,26 @@ fn phases(
 ) -> Programme
     ghost { Table }
     requires { λ t. ⌜ tables z (now benefits) (now uses) (now limits) ≡ t ⌝ }
-    requires { λ t. ⌜ Tabled z (now benefits) (now uses) (now limits) × FitAlone t × Shares z (now benefits) (now uses) (now limits) (now shares) ⌝ }
+    requires { λ t. ⌜ Tabled z (now benefits) (now uses) (now limits) × FitAlone t × Shares z (now benefits) (now uses) (now limits) (now shares) × Leaders (now leaders) ⌝ }
     requires { λ t. ⌜ bound ≡ ceiling t ⌝ }
-    ensures { λ t r. ⌜ r ≡ programmeOf t ⌝ }
+    ensures { λ t r. ⌜ r ≡ programmeOf t (leaderIn (now (leaders .entry))) ⌝ }
 {
     let mut choice = [0usize; MOST_SEGMENTS];
     let mut sums = [0u64; MOST_RESOURCES];
-    phase1::start(z, benefits, uses, &mut choice, &mut sums);
-    let steps = phase1::reduce(z, benefits, uses, limits, shares, &mut choice, &mut sums);
-    let pickups = phase2::pick_up(z, benefits, uses, limits, &mut choice, &mut sums);
+    phase1::start(z, leaders, benefits, uses, &mut choice, &mut sums);
+    let steps = phase1::reduce(
+        z,
+        leaders,
+        benefits,
+        uses,
+        limits,
+        shares,
+        &mut choice,
+        &mut sums,
+    );
+    let pickups = phase2::pick_up(z, leaders, benefits, uses, limits, &mut choice, &mut sums);
     let after_pickups = tables::total_of(z, benefits, &choice);
-    let changes = phase3::improve(z, benefits, uses, limits, &mut choice, &mut sums);
+    let changes = phase3::improve(z, leaders, benefits, uses, limits, &mut choice, &mut sums);
     let total = tables::total_of(z, benefits, &choice);
     Programme {
         strategies: choice,
@@ -54,8 +65,9 @@ fn phases(
 // The programme of a district in the file's ranges.
 fn programme_of(d: &District) -> Programme
     requires { ⌜ inRange (now d) ≡ true ⌝ }
-    ensures { λ r. ⌜ r ≡ programmeOf (tableOf (now (d .entry))) ⌝ }
+    ensures { λ r. ⌜ r ≡ programmeOf (tableOf (now (d .entry))) (leaderOf (now (d .entry))) ⌝ }
 {
+    let mut leaders = [0usize; MOST_SEGMENTS];
     let mut benefits = [0u64; ENTRIES];
     let mut uses = [0u64; USE_ENTRIES];
     let mut limits = [0u64; MOST_RESOURCES];
@@ -63,6 +75,7 @@ fn programme_of(d: &District) -> Programme
     let mut downs = [0u64; USE_ENTRIES];
     let z = fill::fill_all(
         d,
+        &mut leaders,
         &mut benefits,
         &mut uses,
         &mut limits,
@@ -70,7 +83,7 @@ fn programme_of(d: &District) -> Programme
         &mut downs,
     );
     let bound = ceiling::ceiling_of(z, &benefits, &downs);
-    phases(z, &benefits, &uses, &limits, &shares, bound)
+    phases(z, &leaders, &benefits, &uses, &limits, &shares, bound)
 }
 
 // No strategy for any segment.

@@ -8,11 +8,11 @@ ghost use Rattle.base.specs.Search.{orElse, first};
 ghost use Rattle.grammar.specs.Ranges.{Ranges};
 ghost use Rattle.rating.specs.Numbers.{SegmentOf, Strategy, Distress};
 ghost use Rattle.rules.specs.Calls.{barRefusal, explained};
-ghost use Rattle.rules.specs.District.{yearsOf, distressesOf, resourcesOf};
-ghost use Rattle.rules.specs.Phases.{give};
+ghost use Rattle.rules.specs.District.{yearsOf, distressesOf, resourcesOf, leaderOf};
+ghost use Rattle.rules.specs.Phases.{strategyAt, give, led};
 ghost use Rattle.rules.specs.Reasons.{orLast, given as Reasons·given, hindrance as Reasons·hindrance, reasonFor};
 ghost use Rattle.rules.specs.declared.Reason.the-variants.{MinimumMissed, OverAlone, OverBeside};
-ghost use Rattle.reasons.specs.Search.{optionOf};
+ghost use Rattle.reasons.specs.Search.{optionOf, lateHindrance};
 use rules::District;
 use rules::Edit;
 use rules::Reason;
@@ -139,17 +139,41 @@ fn over_beside(d: &District, c: [usize; MOST_SEGMENTS], i: usize, j: usize) -> F
     found
 }
 
+// ---- leaders
+
+// Whether segment i has no leader, or one that has something.
+fn is_led(d: &District, c: [usize; MOST_SEGMENTS], i: usize) -> bool
+    requires { ⌜ Ranges (now d) × SegmentOf (now d) i ⌝ }
+    ensures { λ b. ⌜ b ≡ led (leaderOf (now (d .entry))) (strategyAt c) i ⌝ }
+{
+    let leader = d[SEGMENTS + PER_SEGMENT * (i - 1) + LEADER];
+    if leader == 0 {
+        return true;
+    }
+    0 < c[leader - 1]
+}
+
 // ---- all of them, the first before the next
+
+// From the leader on: it has nothing, or a limit is passed.
+fn late_hindrance(d: &District, c: [usize; MOST_SEGMENTS], i: usize, j: usize) -> Found
+    requires { ⌜ Ranges (now d) × SegmentOf (now d) i × Strategy j ⌝ }
+    ensures { λ r. ⌜ optionOf r ≡ lateHindrance (now (d .entry)) c i j ⌝ }
+{
+    let beside = over_beside(d, c, i, j);
+    let alone = or_else(over_alone(d, i, j), beside);
+    let unled = !is_led(d, c, i);
+    or_else(given(unled, Reason::LeaderHasNothing), alone)
+}
 
 fn hindrance(d: &District, c: [usize; MOST_SEGMENTS], i: usize, j: usize) -> Found
     requires { ⌜ Ranges (now d) × SegmentOf (now d) i × Strategy j ⌝ }
     ensures { λ r. ⌜ optionOf r ≡ Reasons·hindrance (now (d .entry)) c i j ⌝ }
 {
     let held = c[i - 1] == j;
-    let beside = over_beside(d, c, i, j);
-    let alone = or_else(over_alone(d, i, j), beside);
+    let late = late_hindrance(d, c, i, j);
     let worthless = rating::benefit(d, i, j) <= 0;
-    let benefit = or_else(given(worthless, Reason::NoBenefit), alone);
+    let benefit = or_else(given(worthless, Reason::NoBenefit), late);
     let short = !rating::overall_reached(d, i, j);
     let overall = or_else(given(short, Reason::OverallMissed), benefit);
     let minimum = or_else(missed_minimum(d, i, j), overall);

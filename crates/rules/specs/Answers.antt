@@ -52,6 +52,10 @@ noReading = 12
 abbrev pub windowEmpty : ℕ
 windowEmpty = 13
 
+-- of request 8
+abbrev pub leaderNotBelow : ℕ
+leaderNotBelow = 14
+
 -- ---- how one comes about
 
 -- refusal n where the test fails, else what the later tests say

@@ -2,17 +2,17 @@
 -- buffer then hold.
 use Prim.Native.Nat.{ℕ, zero, suc, _+_, _-_}
 use mathlib.Core.List.{List, [], _++_}
-use lib.Dec.{leb}
+use lib.Dec.{leb, ltb}
 use lib.ListN.{length, drop}
-use Rattle.rules.specs.District.{District, segmentsOf, strategiesOf, distressesOf, resourcesOf, withLimit, withBar, withoutBar, withRating, freshDistrict}
+use Rattle.rules.specs.District.{District, segmentsOf, strategiesOf, distressesOf, resourcesOf, withLimit, withBar, withoutBar, withRating, withLeader, freshDistrict}
 use Rattle.rules.specs.Format.{inside, limitRange, ratingRange}
 use Rattle.rules.specs.File.{Read, refused, found, decode, encode}
 use Rattle.rules.specs.Plan.{planOf}
 use Rattle.rules.specs.Page.{page, pageLength}
 use Rattle.rules.specs.Reasons.{reasonFor}
-use Rattle.rules.specs.Answers.{noSuchSegment, noSuchNumber, newOutOfRange, bufferTooShort, noRoomForPage, unless, oneTo, answerOf, accepting}
+use Rattle.rules.specs.Answers.{noSuchSegment, noSuchNumber, newOutOfRange, bufferTooShort, noRoomForPage, leaderNotBelow, unless, oneTo, answerOf, accepting}
 use Rattle.rules.specs.declared.Edit.{Edit}
-use Rattle.rules.specs.declared.Edit.the-variants.{Bar, Unbar, SetLimit, SetRating}
+use Rattle.rules.specs.declared.Edit.the-variants.{Bar, Unbar, SetLimit, SetRating, SetLeader}
 use Rattle.rules.specs.declared.Programme.{Programme}
 use Rattle.rules.specs.declared.Unit.{Unit}
 use Rattle.rules.specs.declared.Reason.{Reason}
@@ -36,7 +36,7 @@ exportRefusal d buffer = unless (leb (length (encode d)) (length buffer)) buffer
 unfoldable pub pageRefusal : District → List ℕ → ℕ
 pageRefusal d buffer = unless (leb (pageLength d) (length buffer)) noRoomForPage 0
 
--- ---- edits: bar, unbar, set limit, set rating
+-- ---- edits: bar, unbar, set limit, set rating, set leader
 
 -- of bar and unbar
 abbrev pub barRefusal : District → ℕ → ℕ → ℕ
@@ -51,11 +51,16 @@ ratingRefusal d i k rating =
     oneTo i (segmentsOf d) noSuchSegment
     (oneTo k (distressesOf d) noSuchNumber (unless (inside (ratingRange d k) rating) newOutOfRange 0))
 
+-- a leader has a lower number than its segment, whatever the district has
+abbrev pub leaderRefusal : District → ℕ → ℕ → ℕ
+leaderRefusal d i leader = oneTo i (segmentsOf d) noSuchSegment (unless (ltb leader i) leaderNotBelow 0)
+
 abbrev pub editRefusal : District → Edit → ℕ
 editRefusal d (Bar i j) = barRefusal d i j
 editRefusal d (Unbar i j) = barRefusal d i j
 editRefusal d (SetLimit r limit) = limitRefusal d r limit
 editRefusal d (SetRating i k rating) = ratingRefusal d i k rating
+editRefusal d (SetLeader i leader) = leaderRefusal d i leader
 
 -- the district with the one value that the edit names altered
 abbrev pub edited : District → Edit → District
@@ -63,6 +68,7 @@ edited d (Bar i j) = withBar d i j
 edited d (Unbar i j) = withoutBar d i j
 edited d (SetLimit r limit) = withLimit d r limit
 edited d (SetRating i k rating) = withRating d i k rating
+edited d (SetLeader i leader) = withLeader d i leader
 
 -- ---- the calls that change the district
 

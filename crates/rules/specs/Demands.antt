@@ -1,25 +1,26 @@
 -- The three demands on the unit, as statements. Document 01 refers to them by number; docs/CLAIMS.md has their sentences.
 use Prim.Native.Nat.{ℕ, suc, _+_, _≤_, _<_}
 use mathlib.Core.Path.{_≡_}
-use mathlib.Core.Bool.{Bool, true, _&&_, _||_}
+use mathlib.Core.Bool.{Bool, true, false, _&&_, _||_}
 use mathlib.Core.List.{List, _++_}
 use mathlib.Core.Option.{none}
 use lib.Dec.{leb, eqb}
 use lib.IntN.{pos}
-use lib.Signed.{_≤ℤ_}
+use lib.Signed.{ltZ, _≤ℤ_}
 use lib.ListN.{length, drop}
 use Rattle.base.specs.Bytes.{Bytes}
 use Rattle.base.specs.Over.{all}
-use Rattle.rules.specs.District.{District, mostSegments, segmentsOf, strategiesOf}
-use Rattle.rules.specs.File.{encode}
-use Rattle.rules.specs.Rating.{permitted, withinLimits, totalOf}
+use Rattle.rules.specs.District.{District, mostSegments, segmentsOf, strategiesOf, leaderOf}
+use Rattle.rules.specs.Format.{plainForm, leaderForm}
+use Rattle.rules.specs.File.{formIn, leaderless, encodeAs, encode}
+use Rattle.rules.specs.Rating.{permitted, benefit, withinLimits, totalOf}
 use Rattle.rules.specs.Table.{Table, tableOf}
-use Rattle.rules.specs.Phases.{strategyAt, within, pickUp, change}
+use Rattle.rules.specs.Phases.{strategyAt, within, heeds, pickUp, change}
 use Rattle.rules.specs.Page.{pageLength}
 use Rattle.rules.specs.Plan.{reduced, filled, improved, programmeOf}
 use Rattle.rules.specs.Answers.{noSuchPoints, windowEmpty}
 use Rattle.rules.specs.Survey.{blockOf, pointsOf, surveyRefusal, surveyOf}
-use Rattle.rules.specs.Calls.{loadRefusal, loadOf, Export, exportOf, showOf}
+use Rattle.rules.specs.Calls.{loadRefusal, districtIn, loadOf, Export, exportOf, showOf}
 use Rattle.rules.specs.Lists.{Call, Load, Alter, ExportTo, PageTo, Show, AskWhy, refusalOf, altered, lentTo, outcomeOf, districtAfter, unitAfter}
 use Rattle.rules.specs.Meter.{Heard, heardWith, heardAfter, windowOf, maysPoints, roughnessRefusal, roughnessOf}
 use Rattle.rules.specs.Offices.{Held, OfficeCall, Plan, Send, AskRoughness, officeRefusal, lentBytes, officeOutcome, heldAfter, unitCalls, sentIn}
@@ -65,10 +66,10 @@ EveryPoints = (code degree extent seal : ℕ) → PointsSettled code degree exte
 -- ---- Demand 2, the rules exactly
 
 -- phase 1 ends when every limit holds, and phases 2 and 3 when there is nothing more to do: none because its bound is used up
-pub record Finished (t : Table) : Type 0 where
-  pub steps : within t (reduced t .last) ≡ true
-  pub pickups : pickUp t (filled t .last) ≡ none
-  pub changes : change t (improved t .last) ≡ none
+pub record Finished (t : Table) (leader : ℕ → ℕ) : Type 0 where
+  pub steps : within t (reduced t leader .last) ≡ true
+  pub pickups : pickUp t leader (filled t leader .last) ≡ none
+  pub changes : change t leader (improved t leader .last) ≡ none
 
 -- an accepted export of a file
 abbrev pub fileIn : List ℕ → List ℕ → Export
@@ -77,8 +78,8 @@ fileIn file buffer = record { answer = Accepted (length file); buffer = file ++ 
 -- of the unit after any list of calls
 pub record ByTheRules (cs : List Call) : Type 0 where
   pub district : unitAfter cs .district ≡ districtAfter cs
-  pub programme : showOf (unitAfter cs) ≡ programmeOf (tableOf (districtAfter cs))
-  pub finished : Finished (tableOf (districtAfter cs))
+  pub programme : showOf (unitAfter cs) ≡ programmeOf (tableOf (districtAfter cs)) (leaderOf (districtAfter cs))
+  pub finished : Finished (tableOf (districtAfter cs)) (leaderOf (districtAfter cs))
   -- its export, into any buffer with room, is the district's file,
   pub exported :
       (buffer : List ℕ) → length (encode (districtAfter cs)) ≤ length buffer
@@ -89,11 +90,21 @@ pub record ByTheRules (cs : List Call) : Type 0 where
 abbrev pub TheRules : Type 0
 TheRules = (cs : List Call) → ByTheRules cs
 
--- of every file that loads, into a unit in any state: the export that follows, into any buffer with room, is the file
+-- a file in the form with leaders that sets none (document 02, request 8)
+abbrev pub ledByNone : List ℕ → Bool
+ledByNone file = eqb (formIn file) leaderForm && leaderless (districtIn file)
+
+-- of every file that loads, into a unit in any state, and the export that follows, into any buffer with room:
 pub record ByteForByte (file : List ℕ) : Type 0 where
+  -- it is the file, byte for byte,
   pub same :
-      Bytes file → loadRefusal file ≡ 0 → (u : Unit) (buffer : List ℕ) → length file ≤ length buffer
+      Bytes file → loadRefusal file ≡ 0 → ledByNone file ≡ false → (u : Unit) (buffer : List ℕ) → length file ≤ length buffer
       → exportOf (loadOf u file .unit) buffer ≡ fileIn file buffer
+  -- or, where leaders could stand but none is set, the file without them of the same district
+  pub plain :
+      loadRefusal file ≡ 0 → ledByNone file ≡ true → (u : Unit) (buffer : List ℕ)
+      → length (encodeAs plainForm (districtIn file)) ≤ length buffer
+      → exportOf (loadOf u file .unit) buffer ≡ fileIn (encodeAs plainForm (districtIn file)) buffer
 
 abbrev pub EveryFile : Type 0
 EveryFile = (file : List ℕ) → ByteForByte file
@@ -112,6 +123,24 @@ pub record Feasible (d : District) (c : ℕ → ℕ) : Type 0 where
   pub permitted : allPermitted d c ≡ true
   pub within : withinLimits d c ≡ true
 
+-- document 02, request 8: no segment has a strategy whose leader has nothing
+unfoldable pub leadersRespected : District → (ℕ → ℕ) → Bool
+leadersRespected d c = all (segmentsOf d) (heeds (leaderOf d) c)
+
+-- segment i has no leader, or one that has nothing or a strategy of a benefit above 0
+unfoldable pub leaderWorth : District → (ℕ → ℕ) → ℕ → Bool
+leaderWorth d c i =
+    eqb (leaderOf d i) 0 || (eqb (c (leaderOf d i)) 0 || ltZ (pos 0) (benefit d (leaderOf d i) (c (leaderOf d i))))
+
+unfoldable pub leadersWorth : District → (ℕ → ℕ) → Bool
+leadersWorth d c = all (segmentsOf d) (leaderWorth d c)
+
+-- a rival of the programme: it respects leaders too, and no segment that another names as its leader has a strategy without benefit
+pub record Rival (d : District) (c : ℕ → ℕ) : Type 0 where
+  pub feasible : Feasible d c
+  pub leaders : leadersRespected d c ≡ true
+  pub worth : leadersWorth d c ≡ true
+
 -- two programmes that differ in no segments but i and k: one or two segments apart
 pub record Apart (d : District) (i k : ℕ) (c e : ℕ → ℕ) : Type 0 where
   pub elsewhere : (m : ℕ) → 1 ≤ m → m ≤ segmentsOf d → ¬ (m ≡ i) → ¬ (m ≡ k) → c m ≡ e m
@@ -121,11 +150,12 @@ strategyIn p i = strategyAt (p .strategies) i
 
 -- the claim, of a district and the programme shown for it
 pub record Sound (d : District) (p : Programme) : Type 0 where
-  -- the programme is permitted and within the limits;
+  -- the programme is permitted and within the limits, and respects leaders;
   pub feasible : Feasible d (strategyIn p)
-  -- of the programmes one or two segments away, over permitted strategies, none has a greater total;
+  pub leaders : leadersRespected d (strategyIn p) ≡ true
+  -- of the rivals one or two segments away, over permitted strategies, none has a greater total;
   pub neighbours :
-      (c : ℕ → ℕ) → Feasible d c → (i k : ℕ) → Apart d i k (strategyIn p) c → totalOf d c ≤ℤ totalOf d (strategyIn p)
+      (c : ℕ → ℕ) → Rival d c → (i k : ℕ) → Apart d i k (strategyIn p) c → totalOf d c ≤ℤ totalOf d (strategyIn p)
   -- of all programmes, none has a total above the ceiling
   pub ceiling : (c : ℕ → ℕ) → Feasible d c → totalOf d c ≤ℤ pos (p .ceiling)
 

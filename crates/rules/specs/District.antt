@@ -87,7 +87,7 @@ pavementsAt = strategiesAt + perStrategy * mostStrategies
 abbrev pub pavementPlace : ℕ → ℕ
 pavementPlace y = pavementsAt + perPavement * (y - 1)
 
--- a segment: pavement type, traffic index, environment index, length, width, bars, the ratings
+-- a segment: pavement type, traffic index, environment index, length, width, bars, the ratings, the leader
 abbrev pub trafficAt : ℕ
 trafficAt = 1
 
@@ -106,8 +106,11 @@ barsAt = 5
 abbrev pub ratingsAt : ℕ
 ratingsAt = 6
 
+abbrev pub leaderAt : ℕ
+leaderAt = ratingsAt + mostDistresses
+
 abbrev pub perSegment : ℕ
-perSegment = ratingsAt + mostDistresses
+perSegment = leaderAt + 1
 
 abbrev pub segmentsAt : ℕ
 segmentsAt = pavementsAt + perPavement * mostPavements
@@ -120,6 +123,9 @@ barsPlace i = segmentPlace i + barsAt
 
 abbrev pub ratingPlace : ℕ → ℕ → ℕ
 ratingPlace i k = segmentPlace i + ratingsAt + (k - 1)
+
+abbrev pub leaderPlace : ℕ → ℕ
+leaderPlace i = segmentPlace i + leaderAt
 
 abbrev pub districtPlaces : ℕ
 districtPlaces = segmentsAt + perSegment * mostSegments
@@ -201,6 +207,10 @@ barredIn d i j = isSet (barsOf d i) (j - 1)
 unfoldable pub ratingOf : District → ℕ → ℕ → ℕ
 ratingOf d i k = valueAt d (ratingPlace i k)
 
+-- the segment without which this one gets nothing; 0 for none (document 02, request 8)
+unfoldable pub leaderOf : District → ℕ → ℕ
+leaderOf d i = valueAt d (leaderPlace i)
+
 -- ---- the district with one value changed
 
 abbrev pub withLimit : District → ℕ → ℕ → District
@@ -214,6 +224,9 @@ withoutBar d i j = set d (barsPlace i) (clearBit (barsOf d i) (j - 1))
 
 abbrev pub withRating : District → ℕ → ℕ → ℕ → District
 withRating d i k rating = set d (ratingPlace i k) rating
+
+abbrev pub withLeader : District → ℕ → ℕ → District
+withLeader d i leader = set d (leaderPlace i) leader
 
 -- ---- what a fresh unit holds: no segment, one of everything else, greatest rating 1, and 0 in every other place
 unfoldable pub freshDistrict : District

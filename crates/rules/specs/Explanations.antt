@@ -1,5 +1,5 @@
 -- Reasons, computed from these rules: two districts whose answers take an order among the reasons and firsts among numbers, and the card's. What
--- each comes to is an independent program's (reference/); crates/worked has two in which each of the eight comes up. All indexes are 100, so that
+-- each comes to is an independent program's (reference/); crates/worked has two in which each but the sixth comes up. All indexes are 100, so that
 -- a percent is what survives; a segment has an area of 100, so that a requirement of 1,000 uses one unit.
 use mathlib.Core.Path.{refl}
 use mathlib.Core.List.{List, [], _∷_}
@@ -54,12 +54,12 @@ explanations =
     whys (Load (fileOf missing) ∷ []) ⇒ inRow ((3 ∷ 1 ∷ 2 ∷ []) ∷ (2 ∷ []) ∷ (1 ∷ []) ∷ (4 ∷ []) ∷ [])
     -- both segments have strategy 1
     ∷ whys (Load (fileOf passing) ∷ [])
-    ⇒ inRow ((1 ∷ []) ∷ (7 ∷ 1 ∷ []) ∷ (6 ∷ 2 ∷ []) ∷ (8 ∷ []) ∷ (1 ∷ []) ∷ (7 ∷ 1 ∷ []) ∷ (6 ∷ 2 ∷ []) ∷ (8 ∷ []) ∷ [])
+    ⇒ inRow ((1 ∷ []) ∷ (8 ∷ 1 ∷ []) ∷ (7 ∷ 2 ∷ []) ∷ (9 ∷ []) ∷ (1 ∷ []) ∷ (8 ∷ 1 ∷ []) ∷ (7 ∷ 2 ∷ []) ∷ (9 ∷ []) ∷ [])
     -- the card: segments of two sizes, and with limit 59 one that has nothing
-    ∷ whys (Load card ∷ []) ⇒ inRow ((8 ∷ []) ∷ (1 ∷ []) ∷ (1 ∷ []) ∷ (7 ∷ 1 ∷ []) ∷ [])
-    ∷ whys (Load card ∷ Alter (SetLimit 1 59) ∷ []) ⇒ inRow ((7 ∷ 1 ∷ []) ∷ (6 ∷ 1 ∷ []) ∷ (1 ∷ []) ∷ (6 ∷ 1 ∷ []) ∷ [])
+    ∷ whys (Load card ∷ []) ⇒ inRow ((9 ∷ []) ∷ (1 ∷ []) ∷ (1 ∷ []) ∷ (8 ∷ 1 ∷ []) ∷ [])
+    ∷ whys (Load card ∷ Alter (SetLimit 1 59) ∷ []) ⇒ inRow ((8 ∷ 1 ∷ []) ∷ (7 ∷ 1 ∷ []) ∷ (1 ∷ []) ∷ (7 ∷ 1 ∷ []) ∷ [])
     -- barred after the load
-    ∷ whys (Load card ∷ Alter (Bar 1 1) ∷ []) ⇒ inRow ((2 ∷ []) ∷ (1 ∷ []) ∷ (1 ∷ []) ∷ (7 ∷ 1 ∷ []) ∷ [])
+    ∷ whys (Load card ∷ Alter (Bar 1 1) ∷ []) ⇒ inRow ((2 ∷ []) ∷ (1 ∷ []) ∷ (1 ∷ []) ∷ (8 ∷ 1 ∷ []) ∷ [])
     ∷ []
 
 pub explained : Agree explanations

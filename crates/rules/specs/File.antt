@@ -1,4 +1,5 @@
--- Document 01, "The district and its file" and the upper half of "Where a call is refused": what any bytes load as, and a district's file.
+-- Document 01, "The district and its file" and the upper half of "Where a call is refused", with the form of document 02's request 8: what any
+-- bytes load as, and a district's file.
 -- While a file is read, d holds the values of the records before: all that the next record's kinds, widths and ranges depend on.
 use Prim.Native.Nat.{ℕ, zero, suc, _+_, _-_}
 use mathlib.Core.Bool.{Bool, true, _&&_}
@@ -7,8 +8,9 @@ use lib.Dec.{ltb, eqb}
 use lib.ListN.{length, getD, take, drop}
 use Rattle.base.specs.Choice.{pick}
 use Rattle.base.specs.Bytes.{bytesOf, numberOf}
-use Rattle.rules.specs.District.{District, districtPlaces}
-use Rattle.rules.specs.Format.{fieldAt, present, slotOf, fileRecords, inside}
+use Rattle.base.specs.Over.{all}
+use Rattle.rules.specs.District.{District, districtPlaces, segmentsOf, leaderOf}
+use Rattle.rules.specs.Format.{plainForm, leaderForm, fieldAt, present, slotOf, fileRecords, inside}
 use Rattle.rules.specs.Answers.{cutShort, otherKind, otherLength, outOfRange, bytesFollow}
 use Rattle.rules.specs.declared.Slot.{Slot}
 use Rattle.rules.specs.declared.Field.{Field}
@@ -39,12 +41,16 @@ readNumbers (suc m) d s n vs bs =
     let x = value f bs in
     pick (inside f x) (readNumbers m d s (n + 1) (vs ++ x ∷ []) (drop (f .width) bs)) (refused outOfRange)
 
+-- the kind of the record that stands first in the bytes
+abbrev pub kindIn : List ℕ → ℕ
+kindIn bs = numberOf (take 2 (drop 2 bs))
+
 -- the record s: its length and kind, 2 bytes each, and its payload; the refusals stand in their order
 unfoldable pub readRecord : District → Slot → List ℕ → Read
 readRecord d s bs =
     pick (present d s)
     (pick (ltb (length bs) 4) (refused cutShort)
-    (pick (eqb (numberOf (take 2 (drop 2 bs))) (s .kind))
+    (pick (eqb (kindIn bs) (s .kind))
     (pick (eqb (numberOf (take 2 bs)) (size d s))
     (pick (ltb (length bs - 4) (size d s)) (refused cutShort)
     (readNumbers (s .places) d s 0 [] (drop 4 bs)))
@@ -57,15 +63,23 @@ abbrev pub andThen : Read → (List ℕ → List ℕ → Read) → Read
 andThen (refused n) next = refused n
 andThen (found vs bs) next = next vs bs
 
--- m records, from the n-th of the file on, where d are the values before
-unfoldable pub readRecords : ℕ → ℕ → District → List ℕ → Read
-readRecords zero n d [] = found d []
-readRecords zero n d (b ∷ bs) = refused bytesFollow
-readRecords (suc m) n d bs = andThen (readRecord d (slotOf n) bs) (λ vs rest. readRecords m (n + 1) (d ++ vs) rest)
+-- m records of a form, from the n-th of the file on, where d are the values before
+unfoldable pub readRecords : ℕ → ℕ → ℕ → District → List ℕ → Read
+readRecords form zero n d [] = found d []
+readRecords form zero n d (b ∷ bs) = refused bytesFollow
+readRecords form (suc m) n d bs =
+    andThen (readRecord d (slotOf form n) bs) (λ vs rest. readRecords form m (n + 1) (d ++ vs) rest)
 
--- what the bytes of a file load as
+-- what the bytes of a file load as, in the form given
+unfoldable pub decodeAs : ℕ → List ℕ → Read
+decodeAs form bs = readRecords form fileRecords 0 [] bs
+
+-- the form that a file's first kind names; every other file is read as one without leaders
+abbrev pub formIn : List ℕ → ℕ
+formIn bs = pick (eqb (kindIn bs) leaderForm) leaderForm plainForm
+
 unfoldable pub decode : List ℕ → Read
-decode bs = readRecords fileRecords 0 [] bs
+decode bs = decodeAs (formIn bs) bs
 
 -- ---- the file of a district
 
@@ -80,16 +94,27 @@ headerBytes d s = pick (present d s) (bytesOf 2 (size d s) ++ bytesOf 2 (s .kind
 abbrev pub recordBytes : District → Slot → ℕ → List ℕ
 recordBytes d s place = headerBytes d s ++ numberBytes (s .places) d s 0 place
 
-unfoldable pub recordsBytes : ℕ → District → ℕ → ℕ → List ℕ
-recordsBytes zero d n place = []
-recordsBytes (suc m) d n place = recordBytes d (slotOf n) place ++ recordsBytes m d (n + 1) (place + slotOf n .places)
+unfoldable pub recordsBytes : ℕ → ℕ → District → ℕ → ℕ → List ℕ
+recordsBytes form zero d n place = []
+recordsBytes form (suc m) d n place =
+    recordBytes d (slotOf form n) place ++ recordsBytes form m d (n + 1) (place + slotOf form n .places)
+
+unfoldable pub encodeAs : ℕ → District → List ℕ
+encodeAs form d = recordsBytes form fileRecords d 0 0
+
+-- no segment has a leader
+unfoldable pub leaderless : District → Bool
+leaderless d = all (segmentsOf d) (λ i. eqb (leaderOf d i) 0)
+
+unfoldable pub formOf : District → ℕ
+formOf d = pick (leaderless d) plainForm leaderForm
 
 unfoldable pub encode : District → List ℕ
-encode d = recordsBytes fileRecords d 0 0
+encode d = encodeAs (formOf d) d
 
 -- of all districts (file/proofs/Longest.antt)
 abbrev pub longestFile : ℕ
-longestFile = 3_788
+longestFile = 3_852
 
 -- ---- a district in the file's ranges
 
@@ -102,8 +127,9 @@ numbersInRange (suc m) d s n vs = inside (fieldAt d s n) (getD vs 0 0) && number
 unfoldable pub recordsInRange : ℕ → District → ℕ → List ℕ → Bool
 recordsInRange zero d n vs = true
 recordsInRange (suc m) d n vs =
-    numbersInRange (slotOf n .places) d (slotOf n) 0 vs && recordsInRange m d (n + 1) (drop (slotOf n .places) vs)
+    let s = slotOf leaderForm n in
+    numbersInRange (s .places) d s 0 vs && recordsInRange m d (n + 1) (drop (s .places) vs)
 
--- every number of the district is one that the file may hold
+-- every number of the district is one that a file with leaders may hold
 unfoldable pub inRange : District → Bool
 inRange d = eqb (length d) districtPlaces && recordsInRange fileRecords d 0 d

@@ -1,6 +1,7 @@
 -- Document 01, "The district and its file": the records in order, and how many bytes and what range each of their numbers has.
 -- A number that the district does not have takes no byte of the file, and its place in the district holds 0.
--- A slot is a record of the file: its kind, how many numbers it may have, and which of its kind it is, from 0. A field is one of its numbers.
+-- A slot is a record of the file: the file's form, its kind, how many numbers it may have, and which of its kind it is, from 0. A field is one
+-- of its numbers.
 use Prim.Native.Nat.{ℕ, _+_, _-_, _/_, _%_, _^_, min}
 use mathlib.Core.Bool.{Bool, true, _||_}
 use mathlib.Core.List.{List, [], _∷_}
@@ -8,7 +9,7 @@ use lib.Dec.{leb, ltb, eqb}
 use lib.ListN.{getD}
 use Rattle.base.specs.Choice.{pick}
 use Rattle.base.specs.Over.{between}
-use Rattle.rules.specs.District.{District, mostSegments, mostStrategies, mostYears, mostDistresses, mostPavements, mostResources, countPlaces, gainsAt, percentsAt, perStrategy, minimaAt, perPavement, lengthAt, widthAt, barsAt, ratingsAt, perSegment, segmentsOf, strategiesOf, yearsOf, distressesOf, pavementsOf, resourcesOf, greatestOf}
+use Rattle.rules.specs.District.{District, mostSegments, mostStrategies, mostYears, mostDistresses, mostPavements, mostResources, countPlaces, gainsAt, percentsAt, perStrategy, minimaAt, perPavement, lengthAt, widthAt, barsAt, ratingsAt, leaderAt, perSegment, segmentsOf, strategiesOf, yearsOf, distressesOf, pavementsOf, resourcesOf, greatestOf}
 use Rattle.rules.specs.declared.Field.{Field}
 use Rattle.rules.specs.declared.Slot.{Slot}
 
@@ -27,12 +28,20 @@ ranged lo hi x = pick (leb lo hi) (between lo hi x) (leb x hi || between lo 255 
 abbrev pub inside : Field → ℕ → Bool
 inside f x = ranged (f .lo) (f .hi) x
 
+-- ---- the two forms of a file (document 02, request 8), each named by the kind of its first record: without leaders, and with them
+
+abbrev pub plainForm : ℕ
+plainForm = 1
+
+abbrev pub leaderForm : ℕ
+leaderForm = 8
+
 -- ---- the records in order
 
-abbrev pub slot : ℕ → ℕ → ℕ → Slot
-slot kind places nth = record { kind = kind; places = places; nth = nth }
+abbrev pub slot : ℕ → ℕ → ℕ → ℕ → Slot
+slot form kind places nth = record { form = form; kind = kind; places = places; nth = nth }
 
--- records are counted from 0: kinds 1, 2 and 3, then those of kind 4, of kind 5 and of kind 6, and kind 7
+-- records are counted from 0: the form's kind, kinds 2 and 3, then those of kind 4, of kind 5 and of kind 6, and kind 7
 abbrev pub firstStrategyRecord : ℕ
 firstStrategyRecord = 3
 
@@ -48,15 +57,15 @@ lastRecord = firstSegmentRecord + mostSegments
 abbrev pub fileRecords : ℕ
 fileRecords = lastRecord + 1
 
-abbrev pub slotOf : ℕ → Slot
-slotOf n =
-    pick (eqb n 0) (slot 1 countPlaces 0)
-    (pick (eqb n 1) (slot 2 mostResources 0)
-    (pick (eqb n 2) (slot 3 mostDistresses 0)
-    (pick (ltb n firstPavementRecord) (slot 4 perStrategy (n - firstStrategyRecord))
-    (pick (ltb n firstSegmentRecord) (slot 5 perPavement (n - firstPavementRecord))
-    (pick (ltb n lastRecord) (slot 6 perSegment (n - firstSegmentRecord))
-    (slot 7 0 0))))))
+abbrev pub slotOf : ℕ → ℕ → Slot
+slotOf form n =
+    pick (eqb n 0) (slot form form countPlaces 0)
+    (pick (eqb n 1) (slot form 2 mostResources 0)
+    (pick (eqb n 2) (slot form 3 mostDistresses 0)
+    (pick (ltb n firstPavementRecord) (slot form 4 perStrategy (n - firstStrategyRecord))
+    (pick (ltb n firstSegmentRecord) (slot form 5 perPavement (n - firstPavementRecord))
+    (pick (ltb n lastRecord) (slot form 6 perSegment (n - firstSegmentRecord))
+    (slot form 7 0 0))))))
 
 -- no record has more places than a strategy
 abbrev pub mostPlaces : ℕ
@@ -72,7 +81,7 @@ present d s =
 
 -- ---- the numbers of each kind; n counts a record's places from 0
 
--- kind 1: the six counts, N, S, T, D, Y and R
+-- the first record: the six counts, N, S, T, D, Y and R
 abbrev pub leastCounts : List ℕ
 leastCounts = 0 ∷ 1 ∷ 1 ∷ 1 ∷ 1 ∷ 1 ∷ []
 
@@ -105,33 +114,42 @@ strategyField d n =
 abbrev pub pavementField : District → ℕ → Field
 pavementField d n = pick (eqb n 0) (number 2 0 450) (rowsField d 50 (n - minimaAt))
 
--- kind 6: pavement type, the two indexes, length, width, a mask of bars with no bit past S of its 16, a rating for each distress type
-abbrev pub segmentField : District → ℕ → Field
-segmentField d n =
+-- a rating, for each distress type
+abbrev pub ratingField : District → ℕ → Field
+ratingField d n = pick (ltb n (distressesOf d)) (number 1 0 (greatestOf d (n + 1))) absent
+
+-- in the form with leaders, the number of a segment before this one, of which there are `nth`, or 0
+abbrev pub leaderField : Slot → Field
+leaderField s = pick (eqb (s .form) leaderForm) (number 1 0 (s .nth)) absent
+
+-- kind 6: pavement type, the two indexes, length, width, a mask of bars with no bit past S of its 16, ratings, the leader
+abbrev pub segmentField : District → Slot → ℕ → Field
+segmentField d s n =
     pick (eqb n 0) (number 1 1 (pavementsOf d))
     (pick (ltb n lengthAt) (number 2 100 1_000)
     (pick (eqb n lengthAt) (number 2 1 9_999)
     (pick (eqb n widthAt) (number 1 1 200)
     (pick (eqb n barsAt) (number 2 0 (2 ^ min (strategiesOf d) 16 - 1))
-    (pick (ltb (n - ratingsAt) (distressesOf d)) (number 1 0 (greatestOf d (n - (ratingsAt - 1)))) absent)))))
+    (pick (ltb n leaderAt) (ratingField d (n - ratingsAt))
+    (leaderField s))))))
 
 -- the range of a limit of resource r, and of a rating of distress k
 abbrev pub limitRange : District → ℕ → Field
 limitRange d r = limitField d (r - 1)
 
 abbrev pub ratingRange : District → ℕ → Field
-ratingRange d k = segmentField d (ratingsAt + (k - 1))
+ratingRange d k = ratingField d (k - 1)
 
-abbrev pub kindField : District → ℕ → ℕ → Field
-kindField d kind n =
-    pick (eqb kind 1) (countField n)
-    (pick (eqb kind 2) (limitField d n)
-    (pick (eqb kind 3) (greatestField d n)
-    (pick (eqb kind 4) (strategyField d n)
-    (pick (eqb kind 5) (pavementField d n)
-    (pick (eqb kind 6) (segmentField d n)
+abbrev pub kindField : District → Slot → ℕ → Field
+kindField d s n =
+    pick (eqb (s .kind) (s .form)) (countField n)
+    (pick (eqb (s .kind) 2) (limitField d n)
+    (pick (eqb (s .kind) 3) (greatestField d n)
+    (pick (eqb (s .kind) 4) (strategyField d n)
+    (pick (eqb (s .kind) 5) (pavementField d n)
+    (pick (eqb (s .kind) 6) (segmentField d s n)
     absent)))))
 
 -- the n-th number of a record; absent where the file does not have the record
 unfoldable pub fieldAt : District → Slot → ℕ → Field
-fieldAt d s n = pick (present d s) (kindField d (s .kind) n) absent
+fieldAt d s n = pick (present d s) (kindField d s n) absent

@@ -24,3 +24,4 @@ pub mod Pages
 pub mod Explanations
 pub mod Metered
 pub mod Feasibility
+pub mod Leaders

@@ -4,7 +4,7 @@ use lib.ListN.{replicate}
 use Prim.Native.Nat.{ℕ}
 use Rattle.base.specs.Choice.{pick}
 use Rattle.base.specs.Search.{Run}
-use Rattle.rules.specs.District.{District, mostSegments}
+use Rattle.rules.specs.District.{District, mostSegments, leaderOf}
 use Rattle.rules.specs.File.{inRange}
 use Rattle.rules.specs.Table.{Table, tableOf}
 use Rattle.rules.specs.Phases.{total, start, phase1, phase2, phase3}
@@ -12,26 +12,27 @@ use Rattle.rules.specs.Ceiling.{ceiling}
 use Rattle.rules.specs.declared.Programme.{Programme}
 
 -- each phase goes on from where the one before ended
-unfoldable pub reduced : Table → Run (List ℕ)
-reduced t = phase1 t (start t)
+module _ (t : Table) (leader : ℕ → ℕ) where
+  unfoldable pub reduced : Run (List ℕ)
+  reduced = phase1 t leader (start t leader)
 
-unfoldable pub filled : Table → Run (List ℕ)
-filled t = phase2 t (reduced t .last)
+  unfoldable pub filled : Run (List ℕ)
+  filled = phase2 t leader (reduced .last)
 
-unfoldable pub improved : Table → Run (List ℕ)
-improved t = phase3 t (filled t .last)
+  unfoldable pub improved : Run (List ℕ)
+  improved = phase3 t leader (filled .last)
 
-unfoldable pub programmeOf : Table → Programme
-programmeOf t =
-    record {
-      strategies = improved t .last;
-      total = total t (improved t .last);
-      «after_pickups» = total t (filled t .last);
-      ceiling = ceiling t;
-      steps = reduced t .count;
-      pickups = filled t .count;
-      changes = improved t .count;
-    }
+  unfoldable pub programmeOf : Programme
+  programmeOf =
+      record {
+        strategies = improved .last;
+        total = total t (improved .last);
+        «after_pickups» = total t (filled .last);
+        ceiling = ceiling t;
+        steps = reduced .count;
+        pickups = filled .count;
+        changes = improved .count;
+      }
 
 unfoldable pub noProgramme : Programme
 noProgramme =
@@ -48,4 +49,4 @@ noProgramme =
 -- What a unit works out. Every district that a list of calls leads to is in the file's ranges; a value of the type that is not has no
 -- programme, so that each call is settled without a check by its caller.
 unfoldable pub planOf : District → Programme
-planOf d = pick (inRange d) (programmeOf (tableOf d)) noProgramme
+planOf d = pick (inRange d) (programmeOf (tableOf d) (leaderOf d)) noProgramme

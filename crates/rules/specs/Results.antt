@@ -97,16 +97,17 @@ callsBefore (whys cs) = cs
 unfoldable pub resultOf : Case → List ℤ
 unfolding
     shownBy answeredIn whyIn whysIn resultIn callsBefore
-    Writer.fileOf
+    Writer.fileOf Writer.fileWithLeaders
     Bits.setBit Bits.clearBit
     Over.sum Over.sumZ Over.all Over.most Over.betterOf Over.best Over.minZ Over.maxZ Over.listedFrom
     Search.first Search.run
     Text.text Text.digitsOf Text.decimal
     District.limitOf District.greatestOf District.requirementOf District.gainOf District.percentOf District.overallOf District.minimumOf
     District.pavementOf District.trafficOf District.environmentOf District.lengthOf District.widthOf District.barsOf District.barredIn
-    District.ratingOf District.freshDistrict
+    District.ratingOf District.leaderOf District.freshDistrict
     Format.ranged Format.fieldAt
-    File.readNumbers File.readRecord File.readRecords File.decode File.numberBytes File.recordsBytes File.encode File.numbersInRange
+    File.readNumbers File.readRecord File.readRecords File.decodeAs File.decode File.numberBytes File.recordsBytes File.encodeAs File.leaderless
+    File.formOf File.encode File.numbersInRange
     File.recordsInRange File.inRange
     Rating.cappedGain Rating.gain Rating.survival Rating.improvement Rating.rating Rating.bothEnds Rating.credit Rating.credits
     Rating.effect Rating.area Rating.benefit Rating.usage Rating.scaledLimit Rating.reaches Rating.minimumReached Rating.yearsReached Rating.minimaReached Rating.firstRating
@@ -114,7 +115,8 @@ unfolding
     Rating.withinLimits Rating.benefitBy Rating.totalOf
     Table.candidateBenefit Table.usageIn Table.limitIn Table.tableOf
     Phases.isCandidate Phases.greater Phases.chosenBenefit Phases.total Phases.chosenUsage Phases.used Phases.holds Phases.within
-    Phases.topCandidate Phases.start Phases.share Phases.chosenShare Phases.surplus Phases.pullBy Phases.pull Phases.pulls Phases.ratio
+    Phases.led Phases.heeds Phases.respects Phases.pruned Phases.topCandidate Phases.bests Phases.start Phases.share Phases.chosenShare Phases.surplus Phases.pullBy
+    Phases.pull Phases.pulls Phases.ratio
     Phases.lesserRatio Phases.weakest Phases.comesAfter Phases.nextCandidate Phases.stepDown Phases.step Phases.phase1 Phases.fitting
     Phases.offer Phases.offerBenefit Phases.vacant Phases.greaterOffer Phases.bestOffer Phases.pickedUp Phases.pickUp Phases.phase2
     Phases.another Phases.counts Phases.single Phases.pair Phases.firstStrategy Phases.singlesOf Phases.firstSingle Phases.pairsWith

@@ -120,31 +120,43 @@ module _ (d : Roads) where
   abbrev pub pavementRecord : Pavement → List ℕ
   pavementRecord p = recordOf 5 (twoBytes (p .overall) ++ rows (p .minima))
 
-  abbrev pub segmentRecord : Segment → List ℕ
-  segmentRecord s =
-      recordOf 6
-      (s .pavement ∷ []
+  abbrev pub segmentBytes : Segment → List ℕ
+  segmentBytes s =
+      s .pavement ∷ []
       ++ twoBytes (s .traffic)
       ++ twoBytes (s .environment)
       ++ twoBytes (s .length)
       ++ s .width ∷ []
       ++ twoBytes (mask (s .barred))
-      ++ filledUp 0 (length (d .greatest)) (s .ratings))
+      ++ filledUp 0 (length (d .greatest)) (s .ratings)
 
-  -- the file
-  unfoldable pub fileOf : List ℕ
-  fileOf =
-      recordOf 1
-      (length (d .segments)
+  abbrev pub countBytes : List ℕ
+  countBytes =
+      length (d .segments)
       ∷ length (d .strategies)
       ∷ d .years
       ∷ length (d .greatest)
       ∷ length (d .pavements)
       ∷ length (d .limits)
-      ∷ [])
-      ++ recordOf 2 (each fourBytes (d .limits))
+      ∷ []
+
+  -- the records between the first and the segments
+  abbrev pub tableRecords : List ℕ
+  tableRecords =
+      recordOf 2 (each fourBytes (d .limits))
       ++ recordOf 3 (d .greatest)
       ++ each strategyRecord (d .strategies)
       ++ each pavementRecord (d .pavements)
-      ++ each segmentRecord (d .segments)
-      ++ recordOf 7 []
+
+  -- the file
+  unfoldable pub fileOf : List ℕ
+  fileOf = recordOf 1 countBytes ++ tableRecords ++ each (λ s. recordOf 6 (segmentBytes s)) (d .segments) ++ recordOf 7 []
+
+  -- document 02, request 8: each segment with its leader behind it, and kind 8 in front
+  abbrev pub ledRecords : List Segment → List ℕ → List ℕ
+  ledRecords [] leaders = []
+  ledRecords (s ∷ ss) [] = []
+  ledRecords (s ∷ ss) (l ∷ ls) = recordOf 6 (segmentBytes s ++ l ∷ []) ++ ledRecords ss ls
+
+  unfoldable pub fileWithLeaders : List ℕ → List ℕ
+  fileWithLeaders leaders = recordOf 8 countBytes ++ tableRecords ++ ledRecords (d .segments) leaders ++ recordOf 7 []

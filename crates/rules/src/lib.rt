@@ -15,8 +15,10 @@ pub struct Field {
     pub hi: usize,
 }
 
-// A record of the file: its kind, how many places its numbers have in a district, and which of its kind it is, from 0.
+// A record of the file: the file's form, the record's kind, how many places its numbers have in a district, and which
+// of its kind it is, from 0.
 pub struct Slot {
+    pub form: usize,
     pub kind: usize,
     pub places: usize,
     pub nth: usize,
@@ -41,12 +43,13 @@ pub struct Unit {
 }
 
 // What may be altered of the district held, with the numbers as they are handed in: segment and strategy; segment and
-// strategy; resource and limit; segment, distress and rating.
+// strategy; resource and limit; segment, distress and rating; segment and leader.
 pub enum Edit {
     Bar(usize, usize),
     Unbar(usize, usize),
     SetLimit(usize, usize),
     SetRating(usize, usize, usize),
+    SetLeader(usize, usize),
 }
 
 // Why a segment has, or has not, a strategy. A minimum missed names distress and year, a limit passed the resource:
@@ -57,6 +60,7 @@ pub enum Reason {
     MinimumMissed(usize, usize),
     OverallMissed,
     NoBenefit,
+    LeaderHasNothing,
     OverAlone(usize),
     OverBeside(usize),
     NoGreaterTotal,

@@ -55,7 +55,9 @@ pub const BARS: usize = 5;
 
 pub const RATINGS: usize = 6;
 
-pub const PER_SEGMENT: usize = RATINGS + MOST_DISTRESSES;
+pub const LEADER: usize = RATINGS + MOST_DISTRESSES;
+
+pub const PER_SEGMENT: usize = LEADER + 1;
 
 // After the counts, a run for each kind, which begins where the one before it ends.
 pub const LIMITS: usize = COUNT_PLACES;

@@ -15,4 +15,4 @@ pub const LAST: usize = FIRST_SEGMENT + MOST_SEGMENTS;
 pub const RECORDS: usize = LAST + 1;
 
 // How many bytes the longest file has.
-pub const LONGEST_FILE: usize = 3788;
+pub const LONGEST_FILE: usize = 3852;

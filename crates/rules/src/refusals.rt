@@ -28,3 +28,6 @@ pub const NO_ROOM_FOR_PAGE: usize = 11;
 pub const NO_READING: usize = 12;
 
 pub const WINDOW_EMPTY: usize = 13;
+
+// Of request 8.
+pub const LEADER_NOT_BELOW: usize = 14;

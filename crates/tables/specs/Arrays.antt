@@ -1,5 +1,5 @@
 -- A table that arrays hold: for each segment that there may be a benefit of nothing and of each strategy, a use of each resource for
--- each of those, and the limits.
+-- each of those, and the limits. Leaders stand in an array beside it.
 use Prim.Native.Nat.{ℕ, _+_, _-_, _*_, _^_, _≤_, _<_}
 use mathlib.Core.Path.{_≡_}
 use mathlib.Core.Bool.{_&&_}
@@ -49,6 +49,15 @@ tables z b u l =
       usage = usageAt u;
       limit = limitAt l;
     }
+
+-- the leader of segment i, where an array holds them
+abbrev pub leaderIn : List ℕ → ℕ → ℕ
+leaderIn ls i = getD ls (i - 1) 0
+
+-- each is a segment's number, or 0
+pub record Leaders (ls : List ℕ) : Type 0 where
+  pub places : length ls ≡ mostSegments
+  pub small : (k : ℕ) → getD ls k 0 ≤ mostSegments
 
 -- benefits, uses and limits: how many, bounds under which no sum wraps, and nothing's entries
 pub record Benefits (b : List ℕ) : Type 0 where

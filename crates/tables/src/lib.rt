@@ -5,8 +5,8 @@ ghost use mathlib.Core.List.{List};
 ghost use Rattle.base.specs.Over.{all};
 ghost use Rattle.rules.specs.District.{mostSegments, mostResources};
 ghost use lib.ListN.{length};
-ghost use Rattle.rules.specs.Phases.{strategyAt, give, total, within};
-ghost use Rattle.tables.specs.Arrays.{benefitAt, usageAt, tables, Benefits, Uses, Limits, Bounded, Cell, Chosen, Running};
+ghost use Rattle.rules.specs.Phases.{strategyAt, give, total, within, led};
+ghost use Rattle.tables.specs.Arrays.{benefitAt, usageAt, tables, leaderIn, Leaders, Benefits, Uses, Limits, Bounded, Cell, Chosen, Running};
 ghost use Rattle.tables.specs.Moves.{Budgets, Testable, roomFor, Movable, moved};
 use rules::places::MOST_RESOURCES;
 use rules::places::MOST_SEGMENTS;
@@ -50,6 +50,19 @@ pub fn chosen_benefit(benefits: &[u64], choice: &[usize], i: usize) -> u64
     ensures { λ v. ⌜ v ≡ benefitAt (now (benefits .entry)) i (strategyAt (now (choice .entry)) i) ⌝ }
 {
     benefit(benefits, i, choice[i - 1])
+}
+
+// Segment i may have something: it has no leader, or one that has something.
+pub fn is_led(leaders: &[usize], choice: &[usize], i: usize) -> bool
+    requires { ⌜ Leaders (now leaders) × (length (now choice) ≡ mostSegments) ⌝ }
+    requires { ⌜ (1 ≤ i) × (i ≤ mostSegments) ⌝ }
+    ensures { λ ok. ⌜ ok ≡ led (leaderIn (now (leaders .entry))) (strategyAt (now (choice .entry))) i ⌝ }
+{
+    let leader = leaders[i - 1];
+    if leader == 0 {
+        return true;
+    }
+    choice[leader - 1] > 0
 }
 
 // What strategy j on segment i uses of resource r; 0 for nothing.

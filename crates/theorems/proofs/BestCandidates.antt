@@ -22,7 +22,7 @@ module _ (d : District) (i : ℕ) (l : 1 ≤ i) (h : i ≤ segmentsOf d) where
       and-both (ltZ (pos 0) (benefit d i j)) (fitsAlone d i j)
       (and-both (permitted d i j) (ltZ (pos 0) (benefit d i j) && fitsAlone d i j) e .1) .0
 
-  worth : (j : ℕ) → 1 ≤ j → j ≤ strategiesOf d → candidate d i j ≡ true → 1 ≤ candidateBenefit d i j
+  pub worth : (j : ℕ) → 1 ≤ j → j ≤ strategiesOf d → candidate d i j ≡ true → 1 ≤ candidateBenefit d i j
   unfolding candidateBenefit
   worth j lj hj e = rw (has-both d i j l h lj hj, e) (above (benefit d i j) (positive j e))
     where

@@ -15,7 +15,7 @@ abbrev pub cleaned : Table → ℕ → ℕ → ℕ
 cleaned t i j = pick (ltb 0 (t .benefit i j)) j 0
 
 module _ (t : Table) (fit : FitAlone t) (i j : ℕ) (l : 1 ≤ i) (h : i ≤ t .segments) where
-  by-test : (P : ℕ → Type 0) → (1 ≤ t .benefit i j → P j) → (t .benefit i j ≡ 0 → P 0) → P (cleaned t i j)
+  pub by-test : (P : ℕ → Type 0) → (1 ≤ t .benefit i j → P j) → (t .benefit i j ≡ 0 → P 0) → P (cleaned t i j)
   by-test P taken left = go (ltb 0 (t .benefit i j)) refl
     where
       go : (x : Bool) → ltb 0 (t .benefit i j) ≡ x → P (pick x j 0)

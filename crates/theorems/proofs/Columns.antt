@@ -17,7 +17,7 @@ use Rattle.base.proofs.Choice.{and-both}
 use Rattle.base.proofs.Digits.{decimal-within, decimal-each}
 use Rattle.base.proofs.Each.{Each, each-none, each-cons, each-append, each-listed}
 use Rattle.base.proofs.Sums.{sum-bound, sum-part}
-use Rattle.rules.specs.District.{District, mostSegments, mostStrategies, segmentsOf, strategiesOf, resourcesOf, limitOf, lengthOf, widthOf}
+use Rattle.rules.specs.District.{District, mostSegments, mostStrategies, segmentsOf, strategiesOf, resourcesOf, limitOf, lengthOf, widthOf, leaderOf}
 use Rattle.rules.specs.Rating.{benefit, usage, scaledLimit, usageBy}
 use Rattle.rules.specs.Table.{candidateBenefit, tableOf}
 use Rattle.rules.specs.Phases.{strategyAt, chosenBenefit, total, chosenUsage, used, holds, within}
@@ -37,49 +37,49 @@ use Rattle.theorems.proofs.Programmes as programmes
 -- ---- figures
 
 module _ (d : District) (few : segmentsOf d ≤ mostSegments) where
-  candidates : OfCandidates (tableOf d) (improved (tableOf d) .last)
-  candidates = programmes.improved-candidates (tableOf d) (table-fit d few)
+  candidates : OfCandidates (tableOf d) (improved (tableOf d) (leaderOf d) .last)
+  candidates = programmes.improved-candidates (tableOf d) (leaderOf d) (table-fit d few)
 
-  strategies-are : Numbers d (strategyIn (programmeOf (tableOf d)))
+  strategies-are : Numbers d (strategyIn (programmeOf (tableOf d) (leaderOf d)))
   unfolding programmeOf tableOf
-  strategies-are = candidates-numbers (tableOf d) (improved (tableOf d) .last) candidates
+  strategies-are = candidates-numbers (tableOf d) (improved (tableOf d) (leaderOf d) .last) candidates
 
   benefits-are :
       (i : ℕ) → 1 ≤ i → i ≤ segmentsOf d
-      → pos (chosenBenefit (tableOf d) (programmeOf (tableOf d) .strategies) i) ≡ benefit d i (strategyIn (programmeOf (tableOf d)) i)
+      → pos (chosenBenefit (tableOf d) (programmeOf (tableOf d) (leaderOf d) .strategies) i) ≡ benefit d i (strategyIn (programmeOf (tableOf d) (leaderOf d)) i)
   unfolding programmeOf chosenBenefit tableOf
   benefits-are i l h =
-      let c = strategyAt (improved (tableOf d) .last) in
+      let c = strategyAt (improved (tableOf d) (leaderOf d) .last) in
       sym (benefit-is d c (candidates .each) i (c i) l h (candidates .each i l h))
 
   use-is :
       (i r : ℕ) → 1 ≤ i → i ≤ segmentsOf d → 1 ≤ r → r ≤ resourcesOf d
-      → chosenUsage (tableOf d) (programmeOf (tableOf d) .strategies) r i ≡ usage d i (strategyIn (programmeOf (tableOf d)) i) r
+      → chosenUsage (tableOf d) (programmeOf (tableOf d) (leaderOf d) .strategies) r i ≡ usage d i (strategyIn (programmeOf (tableOf d) (leaderOf d)) i) r
   unfolding chosenUsage
-  use-is i r l h lr hr = usage-is d i (strategyIn (programmeOf (tableOf d)) i) r l h (strategies-are i l h) lr hr
+  use-is i r l h lr hr = usage-is d i (strategyIn (programmeOf (tableOf d) (leaderOf d)) i) r l h (strategies-are i l h) lr hr
 
   sum-is :
       (r : ℕ) → 1 ≤ r → r ≤ resourcesOf d
-      → used (tableOf d) (programmeOf (tableOf d) .strategies) r ≡ sum (segmentsOf d) (usageBy d (strategyIn (programmeOf (tableOf d))) r)
+      → used (tableOf d) (programmeOf (tableOf d) (leaderOf d) .strategies) r ≡ sum (segmentsOf d) (usageBy d (strategyIn (programmeOf (tableOf d) (leaderOf d))) r)
   unfolding used chosenUsage tableOf
-  sum-is r lr hr = sym (uses-are d (strategyIn (programmeOf (tableOf d))) strategies-are r lr hr)
+  sum-is r lr hr = sym (uses-are d (strategyIn (programmeOf (tableOf d) (leaderOf d))) strategies-are r lr hr)
 
   -- a sum is within its limit, and so is each use of it
-  sum-within : (r : ℕ) → 1 ≤ r → r ≤ resourcesOf d → used (tableOf d) (programmeOf (tableOf d) .strategies) r ≤ scaledLimit d r
+  sum-within : (r : ℕ) → 1 ≤ r → r ≤ resourcesOf d → used (tableOf d) (programmeOf (tableOf d) (leaderOf d) .strategies) r ≤ scaledLimit d r
   unfolding programmeOf within holds tableOf
   sum-within r lr hr =
       let t = tableOf d in
-      let c = improved t .last in
-      rw (limit-is d r lr hr) at (leb-true (used t c r) (t .limit r) (all-at (resourcesOf d) (holds t c) (programmes.improved-within t (table-fit d few)) r lr hr))
+      let c = improved t (leaderOf d) .last in
+      rw (limit-is d r lr hr) at (leb-true (used t c r) (t .limit r) (all-at (resourcesOf d) (holds t c) (programmes.improved-within t (leaderOf d) (table-fit d few)) r lr hr))
 
   use-within :
       (i r : ℕ) → 1 ≤ i → i ≤ segmentsOf d → 1 ≤ r → r ≤ resourcesOf d
-      → chosenUsage (tableOf d) (programmeOf (tableOf d) .strategies) r i ≤ scaledLimit d r
+      → chosenUsage (tableOf d) (programmeOf (tableOf d) (leaderOf d) .strategies) r i ≤ scaledLimit d r
   unfolding used tableOf
   use-within i r l h lr hr =
-      omega (arith, sum-within r lr hr, sum-part (segmentsOf d) (chosenUsage (tableOf d) (programmeOf (tableOf d) .strategies) r) i l h)
+      omega (arith, sum-within r lr hr, sum-part (segmentsOf d) (chosenUsage (tableOf d) (programmeOf (tableOf d) (leaderOf d) .strategies) r) i l h)
 
-  figures : Figures d (programmeOf (tableOf d))
+  figures : Figures d (programmeOf (tableOf d) (leaderOf d))
   figures = record { benefits = benefits-are; uses = use-is; sums = sum-is }
 
 -- ---- a text that has room in w characters
@@ -194,7 +194,7 @@ pub record Narrow (d : District) : Type 0 where
 
 module _ (d : District) (ok : Narrow d) where
   abbrev programme : Programme
-  programme = programmeOf (tableOf d)
+  programme = programmeOf (tableOf d) (leaderOf d)
 
   -- a use within the limit, rounded up to whole units
   rounded-le : (x r : ℕ) → 1 ≤ r → r ≤ resourcesOf d → x ≤ scaledLimit d r → wholeUnits x ≤ 999_999_999
@@ -219,7 +219,7 @@ module _ (d : District) (ok : Narrow d) where
   unfolding programmeOf total chosenBenefit tableOf
   total-le =
       let n = ok .segments in
-      let c = improved (tableOf d) .last in
+      let c = improved (tableOf d) (leaderOf d) .last in
       omega (arith, sum-bound (segmentsOf d) 899_910_000_000 (chosenBenefit (tableOf d) c) (λ i l h. ok .benefits i (strategyAt c i)))
 
   total-fits : Fits widths (totalRow d programme)

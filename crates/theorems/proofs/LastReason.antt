@@ -1,42 +1,49 @@
--- Where none of the first seven reasons holds, the eighth does, under a programme that demand 3 speaks of: with strategy j on segment i it is a
--- programme of permitted strategies, within the limits and one segment away, and so has no greater total.
+-- Where none of the first eight reasons holds, the ninth does, under a programme that demand 3 speaks of: with strategy j on segment i it is a
+-- rival, of permitted strategies, within the limits, respecting leaders and one segment away, and so has no greater total.
 use Prim.Native.Nat.{ℕ, _≤_}
 use mathlib.Core.Path.{_≡_, refl, sym}
-use mathlib.Core.Bool.{Bool, true, false, not, _&&_}
+use mathlib.Core.Bool.{Bool, true, false, not, _&&_, true≢false}
 use mathlib.Core.List.{List}
 use mathlib.Core.Option.{none}
 use native.Mathlib.Omega.{arith}
-use borrow.Author.Tests.{le-leb, ltb-false, ne-eqb, eqb-true, eqb-false, not-false}
+use borrow.Author.Tests.{le-leb, leb-false, lt-ltb, ltb-false, ne-eqb, eqb-true, eqb-false, not-false}
 use lib.Dec.{T, eqb}
+use lib.IntN.{ℤ, pos, negsuc}
 use lib.ListN.{length}
-use lib.Signed.{leZ}
+use lib.Signed.{leZ, ltZ}
 use Rattle.base.proofs.Choice.{both, between-yes}
 use Rattle.base.proofs.All.{all-true, all-at}
-use Rattle.rules.specs.District.{District, segmentsOf, strategiesOf, yearsOf, distressesOf, resourcesOf, barredIn}
-use Rattle.rules.specs.Rating.{scaledLimit, minimumReached, yearsReached, minimaReached, overallReached, permitted, totalOf}
+use Rattle.rules.specs.District.{District, segmentsOf, strategiesOf, yearsOf, distressesOf, resourcesOf, barredIn, leaderOf}
+use Rattle.rules.specs.Rating.{benefit, scaledLimit, minimumReached, yearsReached, minimaReached, overallReached, permitted, totalOf}
 use Rattle.rules.specs.Table.{tableOf}
-use Rattle.rules.specs.Phases.{strategyAt, used, holds as limitHolds, within}
+use Rattle.rules.specs.Phases.{strategyAt, used, holds as limitHolds, within, led, respects}
 use Rattle.rules.specs.Reasons.{holds, asked, hindrance}
-use Rattle.rules.specs.Demands.{permittedAt, allPermitted, Feasible, Apart, Sound}
+use Rattle.rules.specs.Demands.{permittedAt, allPermitted, Feasible, leadersRespected, leaderWorth, leadersWorth, Rival, Apart, Sound}
 use Rattle.rules.specs.declared.Programme.{Programme}
 use Rattle.rules.specs.declared.Reason.{Reason}
-use Rattle.rules.specs.declared.Reason.the-variants.{Barred, MinimumMissed, OverallMissed, OverBeside, NoGreaterTotal}
+use Rattle.rules.specs.declared.Reason.the-variants.{Barred, MinimumMissed, OverallMissed, NoBenefit, LeaderHasNothing, OverBeside, NoGreaterTotal}
 use Rattle.laws.proofs.Give.{given, kept}
+use Rattle.laws.proofs.Leaders.{give-respects}
 use Rattle.theorems.specs.Reasons.{names, Explained}
 use Rattle.theorems.proofs.Entries.{limit-is}
 use Rattle.theorems.proofs.Totals.{within-is}
 use Rattle.theorems.proofs.Feasible.{numbers}
 use Rattle.theorems.proofs.Reasons.{number, none-holds, explained-last}
 
+above : (z : ℤ) → leZ z (pos 0) ≡ false → ltZ (pos 0) z ≡ true
+above (pos n) e = lt-ltb 0 n (leb-false n 0 e)
+above (negsuc n) e = absurd (true≢false e)
+
 T-true : (t : Bool) → T t → t ≡ true
 T-true true h = refl
 T-true false h = absurd h
 
 module _
-    (d : District) (p : Programme) (i j : ℕ) (sound : Sound d p) (room : segmentsOf d ≤ length (p .strategies))
+    (d : District) (p : Programme) (i j : ℕ) (sound : Sound d p) (worth : leadersWorth d (strategyAt (p .strategies)) ≡ true)
+    (room : segmentsOf d ≤ length (p .strategies))
     (l : 1 ≤ i) (h : i ≤ segmentsOf d) (lj : 1 ≤ j) (hj : j ≤ strategiesOf d)
     (none-found : hindrance d (p .strategies) i j ≡ none) where
-  free : (q : Reason) → names d q ≡ true → number q ≤ 7 → holds d (p .strategies) i j q ≡ false
+  free : (q : Reason) → names d q ≡ true → number q ≤ 8 → holds d (p .strategies) i j q ≡ false
   free = none-holds d (p .strategies) i j none-found
 
   abbrev rival : List ℕ
@@ -76,6 +83,32 @@ module _
   rival-feasible =
       record { permitted = rival-permitted; within = rw (within-is d rival (numbers d (strategyAt rival) rival-permitted)) rival-within }
 
+  rival-leaders : leadersRespected d (strategyAt rival) ≡ true
+  unfolding leadersRespected respects holds names
+  rival-leaders =
+      give-respects (leaderOf d) (segmentsOf d) (p .strategies) i j l (omega arith) lj
+      (not-false (led (leaderOf d) (strategyAt (p .strategies)) i) (free LeaderHasNothing refl (omega arith))) (sound .leaders)
+
+  rival-worth : leadersWorth d (strategyAt rival) ≡ true
+  unfolding leadersWorth leaderWorth holds names
+  rival-worth =
+      all-true (segmentsOf d) (leaderWorth d (strategyAt rival))
+      (λ m lm hm. known m (eqb (leaderOf d m) 0) refl (eqb (leaderOf d m) i) refl (all-at (segmentsOf d) (leaderWorth d (strategyAt (p .strategies))) worth m lm hm))
+    where
+      known :
+          (m : ℕ) → (x : Bool) → eqb (leaderOf d m) 0 ≡ x → (y : Bool) → eqb (leaderOf d m) i ≡ y → leaderWorth d (strategyAt (p .strategies)) m ≡ true
+          → leaderWorth d (strategyAt rival) m ≡ true
+      known m true e y f was = rw e
+      known m false e true f was =
+          rw (eqb-true (leaderOf d m) i f, ne-eqb i 0 (λ z. omega arith), given (p .strategies) i j l (omega arith), ne-eqb j 0 (λ z. omega arith))
+          (above (benefit d i j) (free NoBenefit refl (omega arith)))
+      known m false e false f was =
+          let some-leader = eqb-false (leaderOf d m) 0 e in
+          rw (kept (p .strategies) i j (leaderOf d m) l (omega arith) (eqb-false (leaderOf d m) i f)) was
+
+  rival-rival : Rival d (strategyAt rival)
+  rival-rival = record { feasible = rival-feasible; leaders = rival-leaders; worth = rival-worth }
+
   rival-apart : Apart d i i (strategyAt (p .strategies)) (strategyAt rival)
   rival-apart = record { elsewhere = λ m lm hm ne ne'. sym (kept (p .strategies) i j m l lm ne) }
 
@@ -83,7 +116,7 @@ module _
   unfolding holds
   last-holds =
       both (within (tableOf d) rival) (leZ (totalOf d (strategyAt rival)) (totalOf d (strategyAt (p .strategies)))) rival-within
-      (T-true _ (sound .neighbours (strategyAt rival) rival-feasible i i rival-apart .le))
+      (T-true _ (sound .neighbours (strategyAt rival) rival-rival i i rival-apart .le))
 
   pub last-explained : Explained d (p .strategies) i j NoGreaterTotal
   last-explained = explained-last d (p .strategies) i j none-found last-holds

@@ -1,4 +1,4 @@
--- Where phase 3 finds no change, no change of one segment or two to candidates or nothing is within the limits and better.
+-- Where phase 3 finds no change, no change of one segment or two to candidates or nothing is within the limits, respects leaders and is better.
 use Prim.Native.Nat.{ℕ, zero, suc, _-_, _≤_, _<_}
 use mathlib.Core.Path.{_≡_, refl, ap, sym, _∙_}
 use mathlib.Core.Bool.{Bool, true, false, _&&_}
@@ -10,14 +10,15 @@ use borrow.Author.Tests.{ltb-true, ltb-false, lt-ltb, eqb-true, eqb-false, eq-eq
 use lib.Dec.{ltb, eqb}
 use lib.Seq.{set-getD, set-set, set-comm}
 use Rattle.base.specs.Search.{first}
+use Rattle.base.proofs.Choice.{both}
 use Rattle.base.proofs.Search.{orElse-none, only-none, first-at}
 use Rattle.rules.specs.Table.{Table}
-use Rattle.rules.specs.Phases.{strategyAt, give, isCandidate, total, within, another, counts, single, pair, firstStrategy, singlesOf, firstSingle, pairsWith, pairsOf, pairsFrom, firstPair, change}
+use Rattle.rules.specs.Phases.{strategyAt, give, isCandidate, total, within, respects, another, counts, single, pair, firstStrategy, singlesOf, firstSingle, pairsWith, pairsOf, pairsFrom, firstPair, change}
 use Rattle.laws.specs.Tables.{Allowed}
 use Rattle.laws.proofs.Give.{kept}
 use Rattle.laws.proofs.Gives.{allowed-number}
 
-module _ (t : Table) (c : List ℕ) where
+module _ (t : Table) (leader : ℕ → ℕ) (c : List ℕ) where
   strategy-at : (f : ℕ → Option (List ℕ)) → firstStrategy t f ≡ none → (j : ℕ) → j ≤ t .strategies → f j ≡ none
   unfolding firstStrategy
   strategy-at f e zero h = orElse-none (f 0) (first (t .strategies) f) e .0
@@ -30,33 +31,39 @@ module _ (t : Table) (c : List ℕ) where
   another-yes i j (inr ok) ne =
       rw (ne-eqb j (strategyAt c i) ne, ne-eqb j 0 (λ z. omega arith), lt-ltb 0 (t .benefit i j) (ok .2))
 
-  -- a change that does not count, though the limits hold, does not raise the total
-  no-rise : (e : List ℕ) → counts t c e ≡ false → within t e ≡ true → total t e ≤ total t c
+  -- every limit holds, and leaders are respected
+  abbrev pub Keeps : List ℕ → Type 0
+  Keeps e = (within t e ≡ true) × (respects leader (t .segments) e ≡ true)
+
+  -- a change that does not count, though both are kept, does not raise the total
+  no-rise : (e : List ℕ) → counts t leader c e ≡ false → Keeps e → total t e ≤ total t c
   unfolding counts
-  no-rise e f w = ltb-false (total t c) (total t e) (first-fails (ltb (total t c) (total t e)) (within t e) f w)
+  no-rise e f w =
+      let kept = both (within t e) (respects leader (t .segments) e) (w .0) (w .1) in
+      ltb-false (total t c) (total t e) (first-fails (ltb (total t c) (total t e)) (within t e && respects leader (t .segments) e) f kept)
     where
       first-fails : (x y : Bool) → (x && y) ≡ false → y ≡ true → x ≡ false
       first-fails true y f w = sym w ∙ f
       first-fails false y f w = refl
 
-  module _ (ended : change t c ≡ none) where
-    pub no-single : (i j : ℕ) → 1 ≤ i → i ≤ t .segments → j ≤ t .strategies → (another t c i j && counts t c (give c i j)) ≡ false
+  module _ (ended : change t leader c ≡ none) where
+    pub no-single : (i j : ℕ) → 1 ≤ i → i ≤ t .segments → j ≤ t .strategies → (another t c i j && counts t leader c (give c i j)) ≡ false
     unfolding change firstSingle singlesOf single
     no-single i j l h s =
-        let none-in = first-at (t .segments) (singlesOf t c) (orElse-none (firstSingle t c) (firstPair t c) ended .0) i l h in
-        only-none (another t c i j && counts t c (give c i j)) (give c i j) (strategy-at (single t c i) none-in j s)
+        let none-in = first-at (t .segments) (singlesOf t leader c) (orElse-none (firstSingle t leader c) (firstPair t leader c) ended .0) i l h in
+        only-none (another t c i j && counts t leader c (give c i j)) (give c i j) (strategy-at (single t leader c i) none-in j s)
 
     pub no-pair :
         (i k a b : ℕ) → 1 ≤ i → i < k → k ≤ t .segments → a ≤ t .strategies → b ≤ t .strategies
-        → (another t c i a && (another t c k b && counts t c (give (give c i a) k b))) ≡ false
+        → (another t c i a && (another t c k b && counts t leader c (give (give c i a) k b))) ≡ false
     unfolding change firstPair pairsFrom pairsOf pairsWith pair
     no-pair i k a b l lt h s v =
-        let none-from = first-at (t .segments) (pairsFrom t c) (orElse-none (firstSingle t c) (firstPair t c) ended .1) i l (omega arith) in
-        let none-of = first-at (t .segments) (pairsOf t c i) none-from k (omega arith) h in
-        let none-with = strategy-at (pairsWith t c i k) (rw (lt-ltb i k lt) at none-of) a s in
-        only-none (another t c i a && (another t c k b && counts t c (give (give c i a) k b))) (give (give c i a) k b) (strategy-at (pair t c i k a) none-with b v)
+        let none-from = first-at (t .segments) (pairsFrom t leader c) (orElse-none (firstSingle t leader c) (firstPair t leader c) ended .1) i l (omega arith) in
+        let none-of = first-at (t .segments) (pairsOf t leader c i) none-from k (omega arith) h in
+        let none-with = strategy-at (pairsWith t leader c i k) (rw (lt-ltb i k lt) at none-of) a s in
+        only-none (another t c i a && (another t c k b && counts t leader c (give (give c i a) k b))) (give (give c i a) k b) (strategy-at (pair t leader c i k a) none-with b v)
 
-    pub single-le : (i j : ℕ) → 1 ≤ i → i ≤ t .segments → Allowed t i j → within t (give c i j) ≡ true → total t (give c i j) ≤ total t c
+    pub single-le : (i j : ℕ) → 1 ≤ i → i ≤ t .segments → Allowed t i j → Keeps (give c i j) → total t (give c i j) ≤ total t c
     single-le i j l h ok w = known (eqb j (strategyAt c i)) refl
       where
         known : (x : Bool) → eqb j (strategyAt c i) ≡ x → total t (give c i j) ≤ total t c
@@ -65,7 +72,7 @@ module _ (t : Table) (c : List ℕ) where
             no-rise (give c i j) (rw (another-yes i j ok (eqb-false j (strategyAt c i) e)) at (no-single i j l h (allowed-number t i j ok))) w
 
     rising-pair :
-        (i k a b : ℕ) → 1 ≤ i → i < k → k ≤ t .segments → Allowed t i a → Allowed t k b → within t (give (give c i a) k b) ≡ true
+        (i k a b : ℕ) → 1 ≤ i → i < k → k ≤ t .segments → Allowed t i a → Allowed t k b → Keeps (give (give c i a) k b)
         → total t (give (give c i a) k b) ≤ total t c
     rising-pair i k a b l lt h oka okb w = known (eqb a (strategyAt c i)) refl (eqb b (strategyAt c k)) refl
       where
@@ -84,7 +91,7 @@ module _ (t : Table) (c : List ℕ) where
 
     -- two segments in any order, or one twice
     pub pair-le :
-        (i k a b : ℕ) → 1 ≤ i → i ≤ t .segments → 1 ≤ k → k ≤ t .segments → Allowed t i a → Allowed t k b → within t (give (give c i a) k b) ≡ true
+        (i k a b : ℕ) → 1 ≤ i → i ≤ t .segments → 1 ≤ k → k ≤ t .segments → Allowed t i a → Allowed t k b → Keeps (give (give c i a) k b)
         → total t (give (give c i a) k b) ≤ total t c
     pair-le i k a b l h lk hk oka okb w = known (ltb i k) refl (ltb k i) refl
       where

@@ -1,10 +1,10 @@
--- Phase 1 ends because every limit holds, after at most segments × strategies steps, with a candidate or nothing on each segment.
--- Of the table it takes that candidates fit alone.
+-- Phase 1 ends because every limit holds, after at most segments × strategies steps, with a candidate or nothing on each segment, and with
+-- leaders respected. Of the table it takes that candidates fit alone, and of leaders that their numbers are lower.
 use Prim.Native.Nat.{ℕ, zero, suc, _*_, _≤_, _<_}
 use mathlib.Core.Path.{_≡_, refl, sym, subst, _∙_}
 use mathlib.Core.Bool.{Bool, true, false, _&&_, _||_, false≢true}
 use mathlib.Core.List.{List}
-use mathlib.Core.Logic.{inl, inr}
+use mathlib.Core.Logic.{inl, inr, ⊎-elim}
 use mathlib.Core.Option.{none, some}
 use native.Mathlib.Nat.{mul-pos, lt-of-mul-lt-mul-right}
 use native.Mathlib.Omega.{arith}
@@ -18,12 +18,13 @@ use Rattle.base.proofs.All.{all-true}
 use Rattle.base.proofs.Runs.{run-ends, run-count}
 use Rattle.rules.specs.District.{mostSegments}
 use Rattle.rules.specs.Table.{Table}
-use Rattle.rules.specs.Phases.{strategyAt, isCandidate, greater, chosenUsage, used, holds, within, chosenShare, surplus, pullBy, pull, pulls, lesserRatio, weakest, comesAfter, nextCandidate, topCandidate, start, step, phase1}
-use Rattle.laws.specs.Tables.{FitAlone, Allowed, OfCandidates}
+use Rattle.rules.specs.Phases.{strategyAt, isCandidate, greater, chosenUsage, used, holds, within, chosenShare, surplus, pullBy, pull, pulls, lesserRatio, weakest, comesAfter, nextCandidate, topCandidate, bests, respects, pruned, start, step, phase1}
+use Rattle.laws.specs.Tables.{FitAlone, LowerLeaders, Allowed, OfCandidates}
 use Rattle.laws.proofs.Give.{sum-give}
 use Rattle.laws.proofs.Gives.{Gives, gives-candidates, PastNothing, gives-past}
-use Rattle.laws.proofs.Steps.{top-allowed, start-at, start-allowed, step-cases, step-gives, step-allowed, stepped, no-step}
-use Rattle.theorems.proofs.Searches.{run-gives}
+use Rattle.laws.proofs.Leaders.{pruned-drops, pruned-gives}
+use Rattle.laws.proofs.Steps.{top-allowed, bests-at, bests-allowed, start-allowed, start-respects, step-cases, step-gives, step-allowed, step-respects, moved, stepped, no-step}
+use Rattle.theorems.proofs.Searches.{run-gives, run-leads}
 use Rattle.laws.proofs.Shares.{share-covers, share-none, chosen-fits}
 
 -- ---- a limit that does not hold has a segment that pulls
@@ -172,7 +173,15 @@ potential-small : (t : Table) (c : List ℕ) → OfCandidates t c → potential 
 unfolding potential
 potential-small t c o = sum-bound (t .segments) (t .strategies) (λ i. rank t i (strategyAt c i)) (λ i l h. rank-small t i (strategyAt c i) (o .each i l h))
 
-module _ (t : Table) (fit : FitAlone t) where
+-- a segment that pruning leaves nothing has no candidates left
+pruned-lowers : (t : Table) (leader : ℕ → ℕ) (c : List ℕ) → potential t (pruned leader (t .segments) c) ≤ potential t c
+unfolding potential rank
+pruned-lowers t leader c =
+    let e = pruned leader (t .segments) c in
+    sum-le (t .segments) (λ i. rank t i (strategyAt e i)) (λ i. rank t i (strategyAt c i))
+    (λ i l h. ⊎-elim (λ same. rw same (omega arith)) (λ none. rw none (omega arith)) (pruned-drops leader (t .segments) c i l))
+
+module _ (t : Table) (leader : ℕ → ℕ) (fit : FitAlone t) where
   -- a segment with nothing does not pull
   pull-nothing : (c : List ℕ) (i : ℕ) → 1 ≤ i → i ≤ t .segments → strategyAt c i ≡ 0 → pull t c i ≡ 0
   unfolding pull pullBy chosenShare
@@ -185,55 +194,67 @@ module _ (t : Table) (fit : FitAlone t) where
   unfolding weakest pulls
   weakest-pulls c = best-ind (pulls t c) (lesserRatio t c) (λ b. 1 ≤ b → 1 ≤ pull t c b) (t .segments) (λ l. absurd (omega arith)) (λ k l h e some-k. ltb-true 0 (pull t c k) e)
 
-  step-falls : (c d : List ℕ) → step t c ≡ some d → OfCandidates t c → potential t d < potential t c
+  step-falls : (c d : List ℕ) → step t leader c ≡ some d → OfCandidates t c → potential t d < potential t c
   unfolding potential
   step-falls c d e o =
-      step-cases t c (λ x. x ≡ some d → potential t d < potential t c) (λ w n. absurd (no-step n)) (λ w z n. absurd (no-step n))
+      step-cases t leader c (λ x. x ≡ some d → potential t d < potential t c) (λ w n. absurd (no-step n)) (λ w z n. absurd (no-step n))
       (λ i w l h q.
-      let is : stepped t c i ≡ d = cc in
+      let is : stepped t leader c i ≡ d = cc in
       let pulling : 1 ≤ pull t c i = rw w at (weakest-pulls c (omega arith)) in
       let some-i : 1 ≤ strategyAt c i = chosen i l h pulling (strategyAt c i) refl in
       subst (λ (x : List ℕ). potential t x < potential t c) is
-      (omega (arith, sum-give t c i (nextCandidate t i (strategyAt c i)) l h (omega (arith, o .places, fit .segments)) (rank t), rank-falls t i (strategyAt c i) some-i))) e
+      (omega (
+        arith,
+        pruned-lowers t leader (moved t leader c i),
+        sum-give t c i (nextCandidate t i (strategyAt c i)) l h (omega (arith, o .places, fit .segments)) (rank t),
+        rank-falls t i (strategyAt c i) some-i,
+      ))) e
     where
       chosen : (i : ℕ) → 1 ≤ i → i ≤ t .segments → 1 ≤ pull t c i → (a : ℕ) → strategyAt c i ≡ a → 1 ≤ a
       chosen i l h p zero z = absurd (omega (arith, pull-nothing c i l h z))
       chosen i l h p (suc a) z = omega arith
 
   -- a programme of candidates from which there is no step is within the limits
-  stopped : (c : List ℕ) → OfCandidates t c → step t c ≡ none → within t c ≡ true
+  stopped : (c : List ℕ) → OfCandidates t c → step t leader c ≡ none → within t c ≡ true
   stopped c o =
-      step-cases t c (λ x. x ≡ none → within t c ≡ true) (λ w n. w) (λ w z n. nobody-within t fit c o z)
+      step-cases t leader c (λ x. x ≡ none → within t c ≡ true) (λ w n. w) (λ w z n. nobody-within t fit c o z)
       (λ i w l h n. absurd (no-step (sym n)))
 
   -- each segment has a candidate or nothing at the end,
-  phase1-gives : Gives t (start t) (phase1 t (start t) .last)
+  phase1-gives : Gives t (start t leader) (phase1 t leader (start t leader) .last)
   unfolding phase1
-  phase1-gives = run-gives t (step t) (t .segments * t .strategies) (start t) (step-gives t)
+  phase1-gives = run-gives t (step t leader) (t .segments * t .strategies) (start t leader) (step-gives t leader)
 
-  pub phase1-allowed : OfCandidates t (phase1 t (start t) .last)
-  phase1-allowed = gives-candidates t (start t) (phase1 t (start t) .last) phase1-gives (start-allowed t (fit .segments))
+  pub phase1-allowed : OfCandidates t (phase1 t leader (start t leader) .last)
+  phase1-allowed = gives-candidates t (start t leader) (phase1 t leader (start t leader) .last) phase1-gives (start-allowed t leader (fit .segments))
 
   -- there is no step from there,
-  pub phase1-ends : step t (phase1 t (start t) .last) ≡ none
+  pub phase1-ends : step t leader (phase1 t leader (start t leader) .last) ≡ none
   unfolding phase1
   phase1-ends =
-      run-ends (step t) (OfCandidates t) (step-allowed t) (potential t) step-falls (t .segments * t .strategies) (start t) (start-allowed t (fit .segments))
-      (potential-small t (start t) (start-allowed t (fit .segments)))
+      run-ends (step t leader) (OfCandidates t) (step-allowed t leader) (potential t) step-falls (t .segments * t .strategies) (start t leader) (start-allowed t leader (fit .segments))
+      (potential-small t (start t leader) (start-allowed t leader (fit .segments)))
 
   -- because every limit holds,
-  pub phase1-within : within t (phase1 t (start t) .last) ≡ true
-  phase1-within = stopped (phase1 t (start t) .last) phase1-allowed phase1-ends
+  pub phase1-within : within t (phase1 t leader (start t leader) .last) ≡ true
+  phase1-within = stopped (phase1 t leader (start t leader) .last) phase1-allowed phase1-ends
 
   -- and the steps are few
-  pub phase1-few : phase1 t (start t) .count ≤ t .segments * t .strategies
+  pub phase1-few : phase1 t leader (start t leader) .count ≤ t .segments * t .strategies
   unfolding phase1
   phase1-few =
       omega (
         arith,
-        run-count (step t) (OfCandidates t) (step-allowed t) (potential t) step-falls (t .segments * t .strategies) (start t) (start-allowed t (fit .segments)),
-        potential-small t (start t) (start-allowed t (fit .segments)),
+        run-count (step t leader) (OfCandidates t) (step-allowed t leader) (potential t) step-falls (t .segments * t .strategies) (start t leader) (start-allowed t leader (fit .segments)),
+        potential-small t (start t leader) (start-allowed t leader (fit .segments)),
       )
+
+  -- at each step leaders are respected
+  pub phase1-respects : LowerLeaders leader (t .segments) → respects leader (t .segments) (phase1 t leader (start t leader) .last) ≡ true
+  unfolding phase1
+  phase1-respects lower =
+      run-leads (step t leader) (t .segments * t .strategies) (start t leader) (λ s. respects leader (t .segments) s ≡ true) (step-respects t leader lower)
+      (start-respects t leader lower)
 
   -- places past the segments hold nothing, where the table has no benefit there
   module _ (no-benefit : (i j : ℕ) → t .segments < i → t .benefit i j ≡ 0) where
@@ -241,12 +262,16 @@ module _ (t : Table) (fit : FitAlone t) where
     none-there i j past (inl e) = e
     none-there i j past (inr w) = absurd (omega (arith, no-benefit i j past))
 
-    start-past : PastNothing t (start t)
-    start-past i l past = known (leb i mostSegments) refl
+    bests-past : PastNothing t (bests t)
+    bests-past i l past = known (leb i mostSegments) refl
       where
-        known : (v : Bool) → leb i mostSegments ≡ v → strategyAt (start t) i ≡ 0
-        known true e = start-at t i l (leb-true i mostSegments e) ∙ none-there i (topCandidate t i) past (top-allowed t i)
-        known false e = List·getD-eq-default (start t) 0 (omega (arith, leb-false i mostSegments e, start-allowed t (fit .segments) .places))
+        known : (v : Bool) → leb i mostSegments ≡ v → strategyAt (bests t) i ≡ 0
+        known true e = bests-at t i l (leb-true i mostSegments e) ∙ none-there i (topCandidate t i) past (top-allowed t i)
+        known false e = List·getD-eq-default (bests t) 0 (omega (arith, leb-false i mostSegments e, bests-allowed t (fit .segments) .places))
 
-    pub phase1-past : PastNothing t (phase1 t (start t) .last)
-    phase1-past = gives-past t (start t) (phase1 t (start t) .last) phase1-gives start-past
+    start-past : PastNothing t (start t leader)
+    unfolding start
+    start-past = gives-past t (bests t) (pruned leader (t .segments) (bests t)) (pruned-gives leader t (t .segments) (bests t) (omega arith)) bests-past
+
+    pub phase1-past : PastNothing t (phase1 t leader (start t leader) .last)
+    phase1-past = gives-past t (start t leader) (phase1 t leader (start t leader) .last) phase1-gives start-past

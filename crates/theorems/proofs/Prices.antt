@@ -13,11 +13,11 @@ use Rattle.base.proofs.Each.{each-replicate}
 use Rattle.base.proofs.Sums.{sum-le, sum-bound, most-bound}
 use Rattle.rules.specs.District.{mostResources}
 use Rattle.rules.specs.Table.{Table}
-use Rattle.rules.specs.Phases.{chosenBenefit, total, topCandidate, start}
+use Rattle.rules.specs.Phases.{chosenBenefit, total, topCandidate, bests}
 use Rattle.rules.specs.Ceiling.{priceAt, raised, lowered, net, margin, ceilingAt, lowers, priced, pricedAll, pricesAfter, ceiling}
 use Rattle.laws.specs.Tables.{FitAlone}
 use Rattle.laws.proofs.Changes.{top-most}
-use Rattle.laws.proofs.Steps.{start-at}
+use Rattle.laws.proofs.Steps.{bests-at}
 
 module _ (t : Table) where
   -- ---- other prices are taken only where they lower the ceiling
@@ -48,23 +48,23 @@ module _ (t : Table) where
 
   module _ (fit : FitAlone t) where
     -- at any prices a margin is at most the benefit of the best candidate
-    margin-le : (p : List ℕ) (i : ℕ) → 1 ≤ i → i ≤ t .segments → margin t p i ≤ chosenBenefit t (start t) i
+    margin-le : (p : List ℕ) (i : ℕ) → 1 ≤ i → i ≤ t .segments → margin t p i ≤ chosenBenefit t (bests t) i
     unfolding margin net chosenBenefit
     margin-le p i l h =
-        let top = ap (t .benefit i) (start-at t i l (omega (arith, fit .segments))) in
+        let top = ap (t .benefit i) (bests-at t i l (omega (arith, fit .segments))) in
         let most-left = most-bound (t .strategies) (t .benefit i (topCandidate t i)) (net t p i)
         (λ j lj hj. omega (arith, top-most t (fit .segments) (fit .nothing-worth) i j l h hj)) in
         omega arith
 
-    free-le : ceilingAt t (replicate mostResources 0) ≤ total t (start t)
+    free-le : ceilingAt t (replicate mostResources 0) ≤ total t (bests t)
     unfolding ceilingAt total
     free-le =
         omega (
           arith,
           sum-bound (t .resources) 0 (priceAt (replicate mostResources 0)) (λ r l h. free r),
-          sum-le (t .segments) (margin t (replicate mostResources 0)) (chosenBenefit t (start t)) (margin-le (replicate mostResources 0)),
+          sum-le (t .segments) (margin t (replicate mostResources 0)) (chosenBenefit t (bests t)) (margin-le (replicate mostResources 0)),
         )
 
-    pub ceiling-le : ceiling t ≤ total t (start t)
+    pub ceiling-le : ceiling t ≤ total t (bests t)
     unfolding ceiling
     ceiling-le = le-trans (after-falls 41) free-le

@@ -1,4 +1,4 @@
--- The search for a reason, in its seven parts: what it finds holds, and nothing before that does; where it finds nothing, none of the seven holds.
+-- The search for a reason, in its eight parts: what it finds holds, and nothing before that does; where it finds nothing, none of the eight holds.
 use Prim.Native.Nat.{ℕ, zero, suc, _+_, _-_, _≤_, _<_}
 use mathlib.Core.Path.{_≡_, refl, sym, ap, subst, _∙_}
 use mathlib.Core.Bool.{true, false, _&&_, false≢true}
@@ -16,7 +16,7 @@ use Rattle.base.proofs.Search.{orElse-assoc, only-none, only-some, first-at, fi
 use Rattle.rules.specs.District.{District, yearsOf, distressesOf, resourcesOf}
 use Rattle.rules.specs.Reasons.{told, holds, given, hindrance}
 use Rattle.rules.specs.declared.Reason.{Reason}
-use Rattle.rules.specs.declared.Reason.the-variants.{InProgramme, Barred, MinimumMissed, OverallMissed, NoBenefit, OverAlone, OverBeside, NoGreaterTotal}
+use Rattle.rules.specs.declared.Reason.the-variants.{InProgramme, Barred, MinimumMissed, OverallMissed, NoBenefit, LeaderHasNothing, OverAlone, OverBeside, NoGreaterTotal}
 use Rattle.theorems.specs.Reasons.{names, before, Explained}
 
 -- ---- the order of the reasons
@@ -33,16 +33,18 @@ told-is Barred = refl
 told-is (MinimumMissed k t) = refl
 told-is OverallMissed = refl
 told-is NoBenefit = refl
+told-is LeaderHasNothing = refl
 told-is (OverAlone r) = refl
 told-is (OverBeside r) = refl
 told-is NoGreaterTotal = refl
 
-number-le : (q : Reason) → number q ≤ 8
+number-le : (q : Reason) → number q ≤ 9
 number-le InProgramme = omega arith
 number-le Barred = omega arith
 number-le (MinimumMissed k t) = omega arith
 number-le OverallMissed = omega arith
 number-le NoBenefit = omega arith
+number-le LeaderHasNothing = omega arith
 number-le (OverAlone r) = omega arith
 number-le (OverBeside r) = omega arith
 number-le NoGreaterTotal = omega arith
@@ -68,15 +70,15 @@ after-plain : (n : ℕ) (r : Reason) → before (n ∷ []) (told r) ≡ true →
 after-plain n r b = after n [] r b (λ l. l) (λ e more. not-ended (values r) more)
 
 -- the last comes after all others
-before-last : (q : Reason) → number q ≤ 7 → before (told q) (told NoGreaterTotal) ≡ true
+before-last : (q : Reason) → number q ≤ 8 → before (told q) (told NoGreaterTotal) ≡ true
 unfolding before
-before-last q h = subst (λ (l : List ℕ). before l (8 ∷ []) ≡ true) (sym (told-is q)) (rw (lt-ltb (number q) 8 (omega arith)))
+before-last q h = subst (λ (l : List ℕ). before l (9 ∷ []) ≡ true) (sym (told-is q)) (rw (lt-ltb (number q) 9 (omega arith)))
 
 -- ---- the parts of the search
 
-seven : {A : Type 0} (f : ℕ → Option A) → first 7 f ≡ orElse (f 1) (orElse (f 2) (orElse (f 3) (orElse (f 4) (orElse (f 5) (orElse (f 6) (f 7))))))
+eight : {A : Type 0} (f : ℕ → Option A) → first 8 f ≡ orElse (f 1) (orElse (f 2) (orElse (f 3) (orElse (f 4) (orElse (f 5) (orElse (f 6) (orElse (f 7) (f 8)))))))
 unfolding first
-seven f = simp orElse-assoc
+eight f = simp orElse-assoc
 
 module _ (d : District) (c : List ℕ) (i j : ℕ) where
   -- what a part finds has its number, names what the district has, and holds
@@ -103,14 +105,14 @@ module _ (d : District) (c : List ℕ) (i j : ℕ) where
   abbrev parts : List (Option Reason)
   parts =
       given d c i j InProgramme ∷ given d c i j Barred ∷ first (distressesOf d) minimum ∷ given d c i j OverallMissed ∷ given d c i j NoBenefit
-      ∷ first (resourcesOf d) (λ r. given d c i j (OverAlone r)) ∷ first (resourcesOf d) (λ r. given d c i j (OverBeside r)) ∷ []
+      ∷ given d c i j LeaderHasNothing ∷ first (resourcesOf d) (λ r. given d c i j (OverAlone r)) ∷ first (resourcesOf d) (λ r. given d c i j (OverBeside r)) ∷ []
 
   abbrev part : ℕ → Option Reason
   part n = getD parts (n - 1) none
 
-  hindrance-is : hindrance d c i j ≡ first 7 part
+  hindrance-is : hindrance d c i j ≡ first 8 part
   unfolding hindrance
-  hindrance-is = sym (seven part)
+  hindrance-is = sym (eight part)
 
   abbrev AllFind : ℕ → List (Option Reason) → Type 0
   AllFind n [] = Unit {0}
@@ -137,8 +139,11 @@ module _ (d : District) (c : List ℕ) (i j : ℕ) where
           (
             finds-plain NoBenefit refl,
             (
-              finds-first 6 (resourcesOf d) (λ r. given d c i j (OverAlone r)) (λ r lr hr. finds-plain (OverAlone r) (between-yes 1 (resourcesOf d) r lr hr)),
-              (finds-first 7 (resourcesOf d) (λ r. given d c i j (OverBeside r)) (λ r lr hr. finds-plain (OverBeside r) (between-yes 1 (resourcesOf d) r lr hr)), tt),
+              finds-plain LeaderHasNothing refl,
+              (
+                finds-first 7 (resourcesOf d) (λ r. given d c i j (OverAlone r)) (λ r lr hr. finds-plain (OverAlone r) (between-yes 1 (resourcesOf d) r lr hr)),
+                (finds-first 8 (resourcesOf d) (λ r. given d c i j (OverBeside r)) (λ r lr hr. finds-plain (OverBeside r) (between-yes 1 (resourcesOf d) r lr hr)), tt),
+              ),
             ),
           ),
         ),
@@ -152,16 +157,16 @@ module _ (d : District) (c : List ℕ) (i j : ℕ) where
   -- ---- a reason that the search comes to, the last where it finds none
 
   record Reached (r : Reason) : Type 0 where
-    pub passed : (m : ℕ) → 1 ≤ m → m ≤ 7 → m < number r → part m ≡ none
-    pub here : number r ≤ 7 → part (number r) ≡ some r
+    pub passed : (m : ℕ) → 1 ≤ m → m ≤ 8 → m < number r → part m ≡ none
+    pub here : number r ≤ 8 → part (number r) ≡ some r
 
   reached-none : hindrance d c i j ≡ none → Reached NoGreaterTotal
   reached-none e =
-      record { passed = λ m l h less. first-at 7 part (sym hindrance-is ∙ e) m l h; here = λ h. absurd (omega arith) }
+      record { passed = λ m l h less. first-at 8 part (sym hindrance-is ∙ e) m l h; here = λ h. absurd (omega arith) }
 
   reached-some : (r : Reason) → hindrance d c i j ≡ some r → Reached r × Found (number r) r
   reached-some r e =
-      let w = first-ended 7 part r (sym hindrance-is ∙ e) in
+      let w = first-ended 8 part r (sym hindrance-is ∙ e) in
       let found = part-finds (w .at) (w .low) r (w .found) in
       let there : number r ≡ w .at = found .numbered in
       (record { passed = λ m l h less. w .before m l (omega arith); here = λ h. subst (λ (m : ℕ). part m ≡ some r) (sym there) (w .found) }, subst (λ (m : ℕ). Found m r) (sym there) found)
@@ -169,14 +174,14 @@ module _ (d : District) (c : List ℕ) (i j : ℕ) where
   -- ---- none before it holds
 
   module _ (r : Reason) (reached : Reached r) where
-    plain : (n : ℕ) (q : Reason) → 1 ≤ n → n ≤ 7 → part n ≡ given d c i j q → before (n ∷ []) (told r) ≡ true → holds d c i j q ≡ false
+    plain : (n : ℕ) (q : Reason) → 1 ≤ n → n ≤ 8 → part n ≡ given d c i j q → before (n ∷ []) (told r) ≡ true → holds d c i j q ≡ false
     plain n q l h is b = only-none (holds d c i j q) q (sym is ∙ reached .passed n l h (after-plain n r b))
 
-    at : (n : ℕ) → n ≤ 7 → n ≡ number r → part n ≡ some r
-    at n h e = let few : number r ≤ 7 = omega arith in subst (λ (m : ℕ). part m ≡ some r) (sym e) (reached .here few)
+    at : (n : ℕ) → n ≤ 8 → n ≡ number r → part n ≡ some r
+    at n h e = let few : number r ≤ 8 = omega arith in subst (λ (m : ℕ). part m ≡ some r) (sym e) (reached .here few)
 
     of-resource :
-        (n : ℕ) (f : ℕ → Reason) → ((m : ℕ) → values (f m) ≡ m ∷ []) → 1 ≤ n → n ≤ 7 → part n ≡ first (resourcesOf d) (λ m. given d c i j (f m))
+        (n : ℕ) (f : ℕ → Reason) → ((m : ℕ) → values (f m) ≡ m ∷ []) → 1 ≤ n → n ≤ 8 → part n ≡ first (resourcesOf d) (λ m. given d c i j (f m))
         → (m : ℕ) → between 1 (resourcesOf d) m ≡ true → before (n ∷ m ∷ []) (told r) ≡ true → holds d c i j (f m) ≡ false
     of-resource n f tells l h is m named b =
         let range = between-in 1 (resourcesOf d) m named in
@@ -220,9 +225,10 @@ module _ (d : District) (c : List ℕ) (i j : ℕ) where
         of-minimum k t (x .0) (x .1) (y .0) (y .1) b
     none-before OverallMissed named b = plain 4 OverallMissed (omega arith) (omega arith) refl b
     none-before NoBenefit named b = plain 5 NoBenefit (omega arith) (omega arith) refl b
-    none-before (OverAlone m) named b = of-resource 6 OverAlone (λ x. refl) (omega arith) (omega arith) refl m named b
-    none-before (OverBeside m) named b = of-resource 7 OverBeside (λ x. refl) (omega arith) (omega arith) refl m named b
-    none-before NoGreaterTotal named b = absurd (omega (arith, after-plain 8 r b, number-le r))
+    none-before LeaderHasNothing named b = plain 6 LeaderHasNothing (omega arith) (omega arith) refl b
+    none-before (OverAlone m) named b = of-resource 7 OverAlone (λ x. refl) (omega arith) (omega arith) refl m named b
+    none-before (OverBeside m) named b = of-resource 8 OverBeside (λ x. refl) (omega arith) (omega arith) refl m named b
+    none-before NoGreaterTotal named b = absurd (omega (arith, after-plain 9 r b, number-le r))
 
   -- the search found this one,
   pub explained-some : (r : Reason) → hindrance d c i j ≡ some r → Explained d c i j r
@@ -232,7 +238,7 @@ module _ (d : District) (c : List ℕ) (i j : ℕ) where
 
   -- or none, and then the last is the reason if it holds
   module _ (none-found : hindrance d c i j ≡ none) where
-    pub none-holds : (q : Reason) → names d q ≡ true → number q ≤ 7 → holds d c i j q ≡ false
+    pub none-holds : (q : Reason) → names d q ≡ true → number q ≤ 8 → holds d c i j q ≡ false
     none-holds q named h = none-before NoGreaterTotal (reached-none none-found) q named (before-last q h)
 
     pub explained-last : holds d c i j NoGreaterTotal ≡ true → Explained d c i j NoGreaterTotal

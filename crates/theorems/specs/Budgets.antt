@@ -1,4 +1,4 @@
--- Request 7 of document 02, computed: whether the best candidates fit the limits together, beside total and ceiling. The figures are an
+-- Request 7 of document 02, computed: whether the best candidates fit the limits together and respect leaders, beside total and ceiling. The figures are an
 -- independent program's (reference/); what fits was worked by hand.
 use Prim.Native.Nat.{ℕ}
 use mathlib.Core.Path.{_≡_, refl}
@@ -7,12 +7,13 @@ use mathlib.Core.List.{List, [], _∷_, map}
 use lib.IntN.{pos}
 use Rattle.rules.specs.Rating.{withinLimits, totalOf}
 use Rattle.rules.specs.Phases.{strategyAt}
-use Rattle.rules.specs.Demands.{permittedAt, allPermitted, Feasible}
+use Rattle.rules.specs.Demands.{permittedAt, allPermitted, Feasible, leadersRespected}
 use Rattle.rules.specs.Lists.{Call, Load, Alter, districtAfter}
 use Rattle.rules.specs.declared.Edit.the-variants.{SetLimit}
-use Rattle.rules.specs.Writer.{Roads, strategy, nothingDemanded, segment, barring, fileOf}
+use Rattle.rules.specs.Writer.{Roads, strategy, nothingDemanded, segment, barring, fileOf, fileWithLeaders}
 use Rattle.rules.specs.Results.{planned, shows, resultOf, _⇒_, Agree}
 use Rattle.rules.specs.Marked.{card}
+use Rattle.rules.specs.Leaders.{atStart}
 use Rattle.rules.specs.declared.Programme.{Programme}
 use Rattle.theorems.specs.GoodBudget.{moreBenefit, bestCandidate, AtCeiling}
 
@@ -50,8 +51,24 @@ fitting = refl
 
 -- so what is promised of M3 is that its two figures are equal, and no less
 pub in-m3 : (p : Programme) → AtCeiling (districtAfter (Load card ∷ Alter (SetLimit 1 180) ∷ [])) p → p .total ≡ p .ceiling
-unfolding resultOf moreBenefit bestCandidate
-in-m3 p good = good .equal refl
+unfolding resultOf moreBenefit bestCandidate leadersRespected
+in-m3 p good = good .equal refl refl
+
+-- a leader that has no candidate, with two behind it: the best candidates fit together, but do not respect leaders, and of the ceiling of 300,000
+-- the total, which `Leaders` computes, is 100,000
+abbrev pub led : List ℕ → List Bool
+led leaders =
+    let d = districtAfter (Load (fileWithLeaders atStart leaders) ∷ []) in
+    withinLimits d (bestCandidate d) ∷ leadersRespected d (bestCandidate d) ∷ []
+
+pub leading : map led ((0 ∷ 1 ∷ 2 ∷ 0 ∷ []) ∷ (0 ∷ 0 ∷ 2 ∷ 3 ∷ []) ∷ []) ≡ (true ∷ false ∷ []) ∷ (true ∷ true ∷ []) ∷ []
+unfolding resultOf moreBenefit bestCandidate leadersRespected
+leading = refl
+
+-- so where all leaders have candidates the promise is the whole one
+pub in-led : (p : Programme) → AtCeiling (districtAfter (Load (fileWithLeaders atStart (0 ∷ 0 ∷ 2 ∷ 3 ∷ [])) ∷ [])) p → p .total ≡ p .ceiling
+unfolding resultOf moreBenefit bestCandidate leadersRespected
+in-led p good = good .equal refl refl
 
 -- strategies of equal benefit, of which the second uses less: the unit stops two changes short of the best programme
 abbrev pub ofEquals : Roads

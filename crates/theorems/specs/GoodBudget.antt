@@ -10,7 +10,7 @@ use Rattle.rules.specs.District.{District, strategiesOf}
 use Rattle.rules.specs.Rating.{benefit, candidate, withinLimits, totalOf}
 use Rattle.rules.specs.Calls.{showOf}
 use Rattle.rules.specs.Lists.{Call, districtAfter, unitAfter}
-use Rattle.rules.specs.Demands.{Feasible, strategyIn}
+use Rattle.rules.specs.Demands.{Feasible, leadersRespected, strategyIn}
 use Rattle.rules.specs.declared.Programme.{Programme}
 
 -- on segment i strategy a has a greater benefit than b
@@ -21,9 +21,10 @@ moreBenefit d i a b = ltZ (benefit d i b) (benefit d i a)
 unfoldable pub bestCandidate : District → ℕ → ℕ
 bestCandidate d i = best (strategiesOf d) (candidate d i) (moreBenefit d i)
 
--- of a district and the programme shown for it: where the programme of all best candidates is within the limits, the total is the ceiling
+-- of a district and the programme shown for it: where the programme of all best candidates is within the limits and respects leaders, as request
+-- 8 has it, the total is the ceiling
 pub record AtCeiling (d : District) (p : Programme) : Type 0 where
-  pub equal : withinLimits d (bestCandidate d) ≡ true → p .total ≡ p .ceiling
+  pub equal : leadersRespected d (bestCandidate d) ≡ true → withinLimits d (bestCandidate d) ≡ true → p .total ≡ p .ceiling
 
 -- where the total is the ceiling, no programme of permitted strategies within the limits has a greater total
 pub record Optimal (d : District) (p : Programme) : Type 0 where

@@ -1,5 +1,5 @@
--- What request 4 of document 02 promises: the reason that is named is the first of those that hold, and after every list of calls one of the
--- eight does.
+-- What request 4 of document 02 promises, with the reason of request 8: the reason that is named is the first of those that hold, and after every
+-- list of calls one of the nine does.
 use Prim.Native.Nat.{ℕ, suc}
 use mathlib.Core.Path.{_≡_}
 use mathlib.Core.Bool.{Bool, true, false, _&&_, _||_}
@@ -12,7 +12,7 @@ use Rattle.rules.specs.Calls.{barRefusal, whyOf, showOf}
 use Rattle.rules.specs.Lists.{Call, districtAfter, unitAfter}
 use Rattle.rules.specs.declared.Unit.{Unit}
 use Rattle.rules.specs.declared.Reason.{Reason}
-use Rattle.rules.specs.declared.Reason.the-variants.{InProgramme, Barred, MinimumMissed, OverallMissed, NoBenefit, OverAlone, OverBeside, NoGreaterTotal}
+use Rattle.rules.specs.declared.Reason.the-variants.{InProgramme, Barred, MinimumMissed, OverallMissed, NoBenefit, LeaderHasNothing, OverAlone, OverBeside, NoGreaterTotal}
 use Rattle.rules.specs.declared.Why.the-variants.{Because, Refused}
 
 -- the district has what the reason names: distress type and year, or the resource
@@ -22,6 +22,7 @@ names d Barred = true
 names d (MinimumMissed k t) = between 1 (distressesOf d) k && between 1 (yearsOf d) t
 names d OverallMissed = true
 names d NoBenefit = true
+names d LeaderHasNothing = true
 names d (OverAlone r) = between 1 (resourcesOf d) r
 names d (OverBeside r) = between 1 (resourcesOf d) r
 names d NoGreaterTotal = true
@@ -44,7 +45,7 @@ pub record Asked (u : Unit) (i j : ℕ) : Type 0 where
   -- a question that nothing refuses has a reason for its answer, any other its number;
   pub accepted : barRefusal (u .district) i j ≡ 0 → whyOf u i j ≡ Because (reasonFor (u .district) (u .programme .strategies) i j)
   pub refused : (n : ℕ) → barRefusal (u .district) i j ≡ suc n → whyOf u i j ≡ Refused (suc n)
-  -- one of the first seven is the first that holds
+  -- one of the first eight is the first that holds
   pub first :
       (reason : Reason) → whyOf u i j ≡ Because reason → ¬ (reason ≡ NoGreaterTotal)
       → Explained (u .district) (u .programme .strategies) i j reason
@@ -52,7 +53,7 @@ pub record Asked (u : Unit) (i j : ℕ) : Type 0 where
 abbrev pub EveryReason : Type 0
 EveryReason = (u : Unit) (i j : ℕ) → Asked u i j
 
--- after any list of calls the answer is the first of the eight that holds
+-- after any list of calls the answer is the first of the nine that holds
 pub record Answered (cs : List Call) (i j : ℕ) : Type 0 where
   pub reason : Reason
   pub answer : whyOf (unitAfter cs) i j ≡ Because reason

@@ -6,7 +6,7 @@ use lib.ListN.{length, take, drop, replicate}
 use lib.IntN.{pos}
 use Rattle.base.specs.Over.{listed}
 use Rattle.rules.specs.Calls.{loadRefusal}
-use Rattle.rules.specs.Writer.{Roads, minus, strategy, nothingDemanded, segment, twoBytes, fourBytes, signedByte, fileOf}
+use Rattle.rules.specs.Writer.{Roads, minus, strategy, nothingDemanded, segment, twoBytes, fourBytes, signedByte, fileOf, fileWithLeaders}
 use Rattle.rules.specs.Results.{resultOf}
 use Rattle.rules.specs.Marked.{card}
 
@@ -105,3 +105,21 @@ pub ends :
     ≡ 0 ∷ 0 ∷ 0 ∷ replicate 38 4 ++ 2 ∷ 2 ∷ 3 ∷ 3 ∷ 2 ∷ 3 ∷ 3 ∷ 2 ∷ 3 ∷ 1 ∷ 1 ∷ 4 ∷ 4 ∷ []
 unfolding resultOf
 ends = refl
+
+-- of 64 segments the last may have any of the others for its leader, and not itself
+abbrev pub lastLeader : ℕ → List ℕ
+lastLeader leader =
+    fileWithLeaders
+    (record {
+      years = 1;
+      limits = 0 ∷ [];
+      greatest = 1 ∷ [];
+      strategies = strategy (0 ∷ []) (pos 0) 0 ∷ [];
+      pavements = nothingDemanded ∷ [];
+      segments = replicate 64 (segment 1 1 (0 ∷ []));
+    })
+    (replicate 63 0 ++ leader ∷ [])
+
+pub last-leaders : map loadRefusal (lastLeader 63 ∷ lastLeader 64 ∷ []) ≡ 0 ∷ 4 ∷ []
+unfolding resultOf
+last-leaders = refl

@@ -1,4 +1,4 @@
--- Reasons worked out by an independent program (reference/): two districts in which each of the eight comes up. All indexes are 100, so that a
+-- Reasons worked out by an independent program (reference/): two districts in which each but the sixth comes up. All indexes are 100, so that a
 -- percent is what survives; a segment has an area of 100, so that a requirement of 1,000 uses one unit.
 use Prim.Native.Nat.{ℕ, _*_}
 use mathlib.Core.Path.{refl}
@@ -69,15 +69,15 @@ abbrev pub explanations : List WorkedCase
 explanations =
     whys (Load (fileOf demanding) ∷ [])
     ⇒ inRow
-    ((8 ∷ []) ∷ (1 ∷ []) ∷ (3 ∷ 1 ∷ 2 ∷ []) ∷ (3 ∷ 1 ∷ 1 ∷ []) ∷ (3 ∷ 2 ∷ 1 ∷ []) ∷ (3 ∷ 2 ∷ 2 ∷ []) ∷ (4 ∷ []) ∷ (2 ∷ []) ∷ (3 ∷ 1 ∷ 2 ∷ []) ∷ (3 ∷ 1 ∷ 2 ∷ [])
+    ((9 ∷ []) ∷ (1 ∷ []) ∷ (3 ∷ 1 ∷ 2 ∷ []) ∷ (3 ∷ 1 ∷ 1 ∷ []) ∷ (3 ∷ 2 ∷ 1 ∷ []) ∷ (3 ∷ 2 ∷ 2 ∷ []) ∷ (4 ∷ []) ∷ (2 ∷ []) ∷ (3 ∷ 1 ∷ 2 ∷ []) ∷ (3 ∷ 1 ∷ 2 ∷ [])
     ∷ (3 ∷ 1 ∷ 2 ∷ [])
-    ∷ (1 ∷ []) ∷ (2 ∷ []) ∷ (8 ∷ []) ∷ (8 ∷ []) ∷ (8 ∷ []) ∷ (8 ∷ []) ∷ (8 ∷ []) ∷ (4 ∷ []) ∷ (5 ∷ []) ∷ (5 ∷ []) ∷ (8 ∷ [])
+    ∷ (1 ∷ []) ∷ (2 ∷ []) ∷ (9 ∷ []) ∷ (9 ∷ []) ∷ (9 ∷ []) ∷ (9 ∷ []) ∷ (9 ∷ []) ∷ (4 ∷ []) ∷ (5 ∷ []) ∷ (5 ∷ []) ∷ (9 ∷ [])
     ∷ [])
     -- both segments have strategy 1
     ∷ whys (Load (fileOf limiting) ∷ [])
     ⇒ inRow
-    ((1 ∷ []) ∷ (7 ∷ 1 ∷ []) ∷ (6 ∷ 1 ∷ []) ∷ (6 ∷ 2 ∷ []) ∷ (8 ∷ []) ∷ (7 ∷ 1 ∷ []) ∷ (7 ∷ 2 ∷ []) ∷ (8 ∷ []) ∷ (7 ∷ 3 ∷ []) ∷ (7 ∷ 2 ∷ [])
-    ∷ (1 ∷ []) ∷ (7 ∷ 1 ∷ []) ∷ (6 ∷ 1 ∷ []) ∷ (6 ∷ 2 ∷ []) ∷ (8 ∷ []) ∷ (7 ∷ 1 ∷ []) ∷ (7 ∷ 2 ∷ []) ∷ (8 ∷ []) ∷ (7 ∷ 3 ∷ []) ∷ (7 ∷ 2 ∷ [])
+    ((1 ∷ []) ∷ (8 ∷ 1 ∷ []) ∷ (7 ∷ 1 ∷ []) ∷ (7 ∷ 2 ∷ []) ∷ (9 ∷ []) ∷ (8 ∷ 1 ∷ []) ∷ (8 ∷ 2 ∷ []) ∷ (9 ∷ []) ∷ (8 ∷ 3 ∷ []) ∷ (8 ∷ 2 ∷ [])
+    ∷ (1 ∷ []) ∷ (8 ∷ 1 ∷ []) ∷ (7 ∷ 1 ∷ []) ∷ (7 ∷ 2 ∷ []) ∷ (9 ∷ []) ∷ (8 ∷ 1 ∷ []) ∷ (8 ∷ 2 ∷ []) ∷ (9 ∷ []) ∷ (8 ∷ 3 ∷ []) ∷ (8 ∷ 2 ∷ [])
     ∷ [])
     ∷ []
 

@@ -6,7 +6,7 @@
 //! answers stay in the work folder.
 
 use reference::console;
-use reference::district::District;
+use reference::district::{District, Segment};
 use reference::listing;
 use reference::make;
 use reference::options::Given;
@@ -362,7 +362,10 @@ fn transcoded(tally: &mut Tally, frame: &[u8]) -> Vec<u8> {
         Ok(district) => {
             let bytes = file::encode(&district);
             tally.see("accepted");
-            tally.see_if("largest file", bytes.len() == file::LONGEST);
+            tally.see_if("longest file", bytes.len() == file::LONGEST);
+            tally.see_if("longest file without leaders", bytes.len() == file::LONGEST_PLAIN);
+            tally.see_if("leaders", district.has_leaders());
+            tally.see_if("leaders all 0", frame != bytes);
             let mut answer = vec![0];
             frames::put(&mut answer, &bytes);
             answer
@@ -391,7 +394,10 @@ fn features(tally: &mut Tally, district: &District, plan: &Plan) {
     tally.see("planned");
     tally.see_if("N=0", n == 0);
     tally.see_if("N=64", n == 64);
-    tally.see_if("widest", file::encode(district).len() == file::LONGEST);
+    tally.see_if("widest", file::encode(district).len() >= file::LONGEST_PLAIN);
+    if district.has_leaders() {
+        led_features(tally, district, plan, &tables);
+    }
     tally.see_if("steps>0", plan.steps > 0);
     tally.see_if("pickups>0", plan.pickups > 0);
     tally.see_if("changes>0", plan.changes > 0);
@@ -413,6 +419,25 @@ fn features(tally: &mut Tally, district: &District, plan: &Plan) {
     let ties_within = tables.segments.iter().any(|s| twice(s.benefit[1..].to_vec()));
     let bests = tables.segments.iter().filter_map(|s| s.benefit[1..].iter().max().copied());
     tally.see_if("ties", ties_within || twice(bests.collect()));
+}
+
+/// The same of a district in which a leader is set.
+fn led_features(tally: &mut Tally, district: &District, plan: &Plan, tables: &Tables) {
+    let segments = &district.segments;
+    let named: Vec<usize> = tables.leaders.iter().flatten().copied().collect();
+    let all = (1u16 << district.strategies.len()) - 1;
+    tally.see("leaders");
+    tally.see_if("chains of leaders", named.iter().any(|&leader| segments[leader].leader > 0));
+    let followers = |leader: usize| named.iter().filter(|&&one| one == leader).count();
+    tally.see_if("many followers of one leader", named.iter().any(|&leader| followers(leader) >= 4));
+    tally.see_if("leaders barred from everything", named.iter().any(|&leader| segments[leader].bars == all));
+    let idle = |leader: usize| segments[leader].bars != all && tables.segments[leader].count() == 1;
+    tally.see_if("other leaders without candidates", named.iter().any(|&leader| idle(leader)));
+    let unled = District {
+        segments: segments.iter().map(|segment| Segment { leader: 0, ..segment.clone() }).collect(),
+        ..district.clone()
+    };
+    tally.see_if("leaders decide", self::plan(&unled) != *plan);
 }
 
 /// Notes what a page has that is worth having tested.

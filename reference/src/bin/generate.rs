@@ -4,7 +4,7 @@ use reference::district::District;
 use reference::make::{self, Shape};
 use reference::options::Given;
 use reference::random::Random;
-use reference::{example, file, frames, reasons, vectors};
+use reference::{example, file, frames, leaders, reasons, vectors};
 use std::fs;
 use std::io::{self, BufWriter, Write};
 use std::path::Path;
@@ -16,6 +16,7 @@ const USAGE: &str = "usage:
   generate scripts --count N --seed S --out DIR   panel scripts, each in a folder with its files
   generate series  --seed S --out DIR             districts that grow in N, in S and in R
   generate example                                the report's example problem, to standard output
+  generate leaders --out DIR                      the files with leaders that are stored, for the console
   generate reasons --out DIR                      the districts whose reasons are stored, for the console
   generate vectors                                the stored lists of calls as frames, to standard output
   generate walls   --out DIR                      the districts whose pages are stored, for the console
@@ -42,8 +43,9 @@ fn run(arguments: &[String]) -> Result<(), String> {
         "scripts" => scripts(count, seed, Path::new(given.needed("out")?)),
         "series" => series(seed, Path::new(given.needed("out")?)),
         "example" => io::stdout().write_all(&file::encode(&example::district())),
-        "walls" => named(vectors::walls(), Path::new(given.needed("out")?)),
-        "reasons" => named(reasons::districts(), Path::new(given.needed("out")?)),
+        "walls" => named(encoded(vectors::walls()), Path::new(given.needed("out")?)),
+        "reasons" => named(encoded(reasons::districts()), Path::new(given.needed("out")?)),
+        "leaders" => named(leaders::files(), Path::new(given.needed("out")?)),
         "vectors" => io::stdout().write_all(&vectors::frames()),
         _ => return Err(format!("unknown argument {what}")),
     }
@@ -79,13 +81,18 @@ fn scripts(count: u64, seed: u64, out: &Path) -> io::Result<()> {
     Ok(())
 }
 
-/// Districts under names of their own.
-fn named<'a>(districts: impl IntoIterator<Item = (&'a str, District)>, out: &Path) -> io::Result<()> {
+/// Files under names of their own.
+fn named(files: impl IntoIterator<Item = (&'static str, Vec<u8>)>, out: &Path) -> io::Result<()> {
     fs::create_dir_all(out)?;
-    for (name, district) in districts {
-        fs::write(out.join(name), file::encode(&district))?;
+    for (name, bytes) in files {
+        fs::write(out.join(name), bytes)?;
     }
     Ok(())
+}
+
+/// Districts as files, with their names.
+fn encoded(districts: impl IntoIterator<Item = (&'static str, District)>) -> Vec<(&'static str, Vec<u8>)> {
+    districts.into_iter().map(|(name, district)| (name, file::encode(&district))).collect()
 }
 
 /// One busy district of the widest shape, cut down in one count at a time:

@@ -8,7 +8,7 @@ use reference::calls::{self, Call};
 use reference::district::District;
 use reference::options::Given;
 use reference::random::Random;
-use reference::vectors::small;
+use reference::vectors::{led, small};
 use reference::{file, frames};
 use std::io::Write;
 use std::process::{Command, ExitCode, Stdio};
@@ -16,12 +16,13 @@ use std::process::{Command, ExitCode, Stdio};
 const USAGE: &str = "usage: tell --wrong PATH [--count N] [--seed S] [--segments N]\n";
 
 /// What `small` makes a district of: limits; strategies with requirements, a
-/// gain and a percent; segments with a length, a width and bars.
+/// gain and a percent; segments with a length, a width and bars. Then leaders.
 #[derive(Clone)]
 struct Sketch {
     limits: Vec<u32>,
     strategies: Vec<(Vec<u32>, i8, u8)>,
     segments: Vec<(u16, u8, u16)>,
+    leaders: Vec<u8>,
 }
 
 fn main() -> ExitCode {
@@ -54,6 +55,7 @@ fn run(arguments: &[String]) -> Result<(), String> {
         best = simpler;
     }
     println!("small(&{:?}, &{:?}, &{:?})", best.limits, best.strategies, best.segments);
+    println!("leaders {:?}", best.leaders);
     print!("{}", calls::worked(&list(&best)));
     Ok(())
 }
@@ -96,7 +98,7 @@ fn differing(wrong: &str, sketches: &[Sketch]) -> Result<Vec<Sketch>, String> {
 fn district(sketch: &Sketch) -> District {
     let strategies: Vec<(&[u32], i8, u8)> =
         sketch.strategies.iter().map(|(requirements, gain, percent)| (&requirements[..], *gain, *percent)).collect();
-    small(&sketch.limits, &strategies, &sketch.segments)
+    led(small(&sketch.limits, &strategies, &sketch.segments), &sketch.leaders)
 }
 
 fn list(sketch: &Sketch) -> Vec<u8> {
@@ -129,7 +131,11 @@ fn sketch(random: &mut Random, most: usize) -> Sketch {
                 _ => (random.within(1, 400) as u16, random.within(1, 20) as u8, random.below(1 << strategies) as u16),
             })
             .collect(),
+        leaders: vec![0; segments],
     };
+    if random.chance(50) {
+        made.leaders = (1..=segments as u64).map(|own| random.below(own) as u8).collect();
+    }
     // Limits at which some of it fits and some does not.
     for (r, limit) in made.limits.iter_mut().enumerate() {
         let area: u64 = made.segments.iter().map(|segment| u64::from(segment.0) * u64::from(segment.1)).sum();
@@ -154,7 +160,16 @@ fn simpler(from: &Sketch) -> Vec<Sketch> {
     for i in 0..from.segments.len() {
         add(&|made| {
             made.segments.remove(i);
+            // Who followed it follows nobody; numbers behind it are one less.
+            made.leaders.remove(i);
+            let own = i as u8 + 1;
+            for leader in made.leaders.iter_mut().filter(|leader| **leader >= own) {
+                *leader = if *leader == own { 0 } else { *leader - 1 };
+            }
         });
+    }
+    for i in (0..from.segments.len()).filter(|&i| from.leaders[i] > 0) {
+        add(&|made| made.leaders[i] = 0);
     }
     for j in (0..from.strategies.len()).filter(|_| from.strategies.len() > 1) {
         add(&|made| {

@@ -1,132 +1,16 @@
--- `load` meets its contract: what the file is read as is what the rest of it is read as, after the values so far.
-use Prim.Native.Nat.{ℕ, _+_, _-_, _≤_, _<_}
-use mathlib.Core.Path.{_≡_, refl, sym, ap, _∙_}
-use mathlib.Core.List.{List, [], _++_}
-use native.Mathlib.Omega.{arith}
-use lib.ListN.{length, take, drop, length-drop, length-replicate}
-use lib.Seq.{take-all, take-add}
-use Rattle.rules.specs.File.{refused, found, readRecord, readRecords, decode}
-use Rattle.rules.specs.Format.{slotOf, fileRecords}
-use Rattle.rules.specs.declared.Slot.{Slot}
-use Rattle.grammar.specs.Places.{startOf}
-use Rattle.grammar.proofs.Slots.{ready, start-next}
-use Rattle.file.specs.Readings.{readOf, ReadInto}
-use Rattle.file.specs.declared.reading.Reading.{Reading}
-use Rattle.file.specs.declared.reading.Reading.the-variants.{At, Refused}
-use Rattle.file.proofs.Forth.{loaded-ranged}
-use Rattle.file.proofs.Refusals.{loaded-found, loaded-refused}
-use Rattle.file.proofs.Steps.{less, records-found, records-refused, records-end, records-over}
+-- `load` meets its contract: the file is read in the form that it names.
+use mathlib.Core.Path.{_∙_}
 use borrow.Author.Needs.{needs}
+use Rattle.file.proofs.Forth.{loaded-ranged}
+use Rattle.file.proofs.Refusals.{loaded-from}
 use Rattle.file.proofs.load.Statement.{statement}
 use Rattle.file.proofs.load.Tie as tie
-use Rattle.rules.specs.District.{districtPlaces}
 
-abbrev Inv-loop : tie.InvT-loop
-Inv-loop file d₀ at₀ place₀ n₀ d at place n =
-    (n ≤ fileRecords)
-    × (decode file ≡ readRecords (fileRecords - n) n (take place d) (drop at file))
-    × (place ≡ startOf n)
-    × (at ≤ length file)
-    × (length d ≡ districtPlaces)
-
-abbrev μ-loop : tie.MeasureT-loop
-μ-loop file d₀ at₀ place₀ n₀ d at place n = fileRecords - n
-
--- what a reader's answer says of the records from the n-th on
-module _ (n place at : ℕ) (slot : Slot) (d next file : List ℕ) (res : Reading) (h : n < fileRecords) (e : slot ≡ slotOf n) (r : ReadInto (readRecord (take place d) slot (drop at file)) place (slot .places) file d next res) where
-  answer : readRecord (take place d) (slotOf n) (drop at file) ≡ readOf res (take (slot .places) (drop place next)) file
-  answer = ap (λ (s : Slot). readRecord (take place d) s (drop at file)) (sym e) ∙ r .same
-
-  took : (k : ℕ) → res ≡ At k → readRecords (fileRecords - n) n (take place d) (drop at file) ≡ readRecords (fileRecords - (n + 1)) (n + 1) (take (place + slot .places) next) (drop k file)
-  took k q =
-      let vs = take (slot .places) (drop place next) in
-      ap (λ (m : ℕ). readRecords m n (take place d) (drop at file)) (less fileRecords n h)
-      ∙ records-found (fileRecords - (n + 1)) n (take place d) (drop at file) vs (drop k file) (answer ∙ ap (λ (x : Reading). readOf x vs file) q)
-      ∙ ap (λ (l : List ℕ). readRecords (fileRecords - (n + 1)) (n + 1) l (drop k file)) (ap (λ (l : List ℕ). l ++ vs) (sym (r .before)) ∙ sym (take-add place (slot .places) next))
-
-  refuses : (k : ℕ) → res ≡ Refused k → readRecords (fileRecords - n) n (take place d) (drop at file) ≡ refused k
-  refuses k q =
-      ap (λ (m : ℕ). readRecords m n (take place d) (drop at file)) (less fileRecords n h)
-      ∙ records-refused (fileRecords - (n + 1)) n (take place d) (drop at file) k (answer ∙ ap (λ (x : Reading). readOf x (take (slot .places) (drop place next)) file) q)
-
--- after the last record
-last : (c : tie.After-loop Inv-loop μ-loop) → c .before .loop .n ≡ fileRecords
-last c = omega arith
-
-ended : (c : tie.After-loop Inv-loop μ-loop) → let l = c .before .loop in let file = c .before .before .before .args .file .now in decode file ≡ readRecords 0 (l .n) (take (l .place) (l .d)) (drop (l .at) file)
-ended c =
-    let l = c .before .loop in
-    let file = c .before .before .before .args .file .now in
-    let z : fileRecords - l .n ≡ 0 = omega arith in
-    l .inv .1 ∙ ap (λ (m : ℕ). readRecords m (l .n) (take (l .place) (l .d)) (drop (l .at) file)) z
-
-loop-holds : tie.Need-loop-holds Inv-loop μ-loop
-unfolding decode
-loop-holds c = (omega arith, refl, refl, omega arith, length-replicate {A = ℕ} districtPlaces 0)
-
-read-record-requires : tie.Need-read-record-requires Inv-loop μ-loop
-read-record-requires c κs =
-    let l = c .before .before .before .loop in
-    (rw (c .before .slot-at .ensures, l .inv .2) (ready (l .n) (omega arith)), (l .inv .3, l .inv .4))
-
-add-place : tie.Need-add-place Inv-loop μ-loop
-add-place c =
-    let l = c .before .before .before .before .before .before .before .before .loop in
-    omega (arith, ap (λ (s : Slot). s .places) (c .before .before .before .before .before .before .slot-at .ensures), ready (l .n) (omega arith) .room)
-
-loop-again : tie.Need-loop-again Inv-loop μ-loop
-loop-again c =
-    let l = c .before .before .before .before .before .before .before .before .loop in
-    let file = c .before .before .before .before .before .before .before .before .before .before .args .file .now in
-    let s = c .before .before .before .before .before .before .slot-at in
-    let r = c .before .before .before .before .read-record in
-    let g = c .before .before .step .given in (
-      omega arith,
-      l .inv .1 ∙ took (l .n) (l .place) (l .at) (s .result) (l .d) (r .last .0) file (r .result) (omega arith) (s .ensures) (r .ensures) (g .0 .0) (g .1),
-      omega (arith, start-next (l .n), ap (λ (s : Slot). s .places) (s .ensures)),
-      rw (g .1) at (r .ensures .inside),
-      r .ensures .all,
-    )
-
-returns : tie.Need-returns Inv-loop μ-loop
+returns : tie.Need-returns
 returns c =
-    let l = c .before .before .before .before .before .before .before .before .loop in
-    let file = c .before .before .before .before .before .before .before .before .before .before .args .file .now in
-    let s = c .before .before .before .before .before .before .slot-at in
-    let r = c .before .before .before .before .read-record in
-    let g = c .before .before .step2 .given in
-    loaded-ranged file (c .refused .ensures ∙ loaded-refused file (g .0 .0) (l .inv .1 ∙ refuses (l .n) (l .place) (l .at) (s .result) (l .d) (r .last .0) file (r .result) (omega arith) (s .ensures) (r .ensures) (g .0 .0) (g .1)))
-
-returns-2 : tie.Need-returns-2 Inv-loop μ-loop
-returns-2 c =
-    let l = c .before .before .before .loop in
-    let file = c .before .before .before .before .before .args .file .now in
-    loaded-ranged file (c .refused2 .ensures ∙ loaded-refused file 5 (ended (c .before .before) ∙ records-over (l .n) (take (l .place) (l .d)) (drop (l .at) file) (simp length-drop (omega arith))))
-
-returns-3 : tie.Need-returns-3 Inv-loop μ-loop
-returns-3 c =
-    let l = c .before .before .loop in
-    let file = c .before .before .before .before .args .file .now in
-    let all : take (l .place) (l .d) ≡ l .d = take-all (l .place) (l .d) (omega (arith, ap startOf (last (c .before)))) in
-    loaded-ranged file (loaded-found file (l .d) [] (ended (c .before) ∙ records-end (l .n) (take (l .place) (l .d)) (drop (l .at) file) (simp length-drop (omega arith)) ∙ ap (λ (d : List ℕ). found d []) all))
+    let file = c .before .before .before .args .file .now in
+    let f = c .before .form-in in
+    loaded-ranged file (c .load-as .ensures ∙ loaded-from (f .result) file (f .ensures .1))
 
 pub load-spec : {M : Type 1} → statement M
-load-spec =
-    tie.close
-    (tie.spec
-    Inv-loop
-    μ-loop
-    loop-holds
-    (λ c κs. search needs)
-    read-record-requires
-    (λ c. search needs)
-    add-place
-    (λ c. search needs)
-    (λ c. search needs)
-    loop-again
-    (λ c. search needs)
-    (λ c κs. search needs)
-    returns
-    (λ c κs. search needs)
-    returns-2
-    returns-3)
+load-spec = tie.close (tie.spec (λ c κs. search needs) (λ c κs. search needs) returns)

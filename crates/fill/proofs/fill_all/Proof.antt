@@ -8,15 +8,15 @@ fill-shares-requires : tie.Need-fill-shares-requires
 fill-shares-requires c κs =
     let u = c .before .before .before .before .before .before .before .before .before .before .fill-uses .ensures in
     let l = c .before .before .before .before .before .before .fill-limits .ensures in
-    let p = c .before .before .before .before .before .before .before .before .before .before .before .before .before .before .before .before .before .before .before .before .before .pre in
+    let p = c .before .before .before .before .before .before .before .before .before .before .before .before .before .before .before .before .before .before .before .before .before .before .before .before .before .before .pre in
     let z = sized _ (p .0) u l in
     ((z .0, z .1, search needs, search needs), bounded _ (p .0) u l)
 
 returns : tie.Need-returns
 returns c =
-    let p = c .before .before .before .before .before .before .before .before .before .before .before .before .before .before .before .before .before .before .before .before .before .before .before .before .before .before .before .before .before .pre in
+    let p = c .before .before .before .before .before .before .before .before .before .before .before .before .before .before .before .before .before .before .before .before .before .before .before .before .before .before .before .before .before .before .before .before .before .before .pre in
     let f = c .before .before .before .before .before .before .before .fill-shares .ensures in
-    filled-by _ (p .0) (c .before .before .before .before .before .before .before .before .before .before .before .before .before .before .before .before .before .before .fill-uses .ensures) (c .before .before .before .before .before .before .before .before .before .before .before .before .before .before .fill-limits .ensures) (c .before .before .before .before .before .before .before .before .before .before .before .before .before .before .before .before .before .before .before .before .before .before .fill-benefits .ensures) (f .0) (f .1)
+    filled-by _ (p .0) (c .before .before .before .before .before .before .before .before .before .before .before .before .before .before .before .before .before .before .fill-uses .ensures) (c .before .before .before .before .before .before .before .before .before .before .before .before .before .before .fill-limits .ensures) (c .before .before .before .before .before .before .before .before .before .before .before .before .before .before .before .before .before .before .before .before .before .before .before .before .before .before .fill-leaders .ensures) (c .before .before .before .before .before .before .before .before .before .before .before .before .before .before .before .before .before .before .before .before .before .before .fill-benefits .ensures) (f .0) (f .1)
 
 pub fill-all-spec : {M : Type 1} → statement M
 fill-all-spec =
@@ -25,7 +25,9 @@ fill-all-spec =
     (λ c κs. search needs)
     (λ c κs. search needs)
     (λ c κs. search needs)
+    (λ c κs. search needs)
     fill-shares-requires
+    (λ c. search needs)
     (λ c. search needs)
     (λ c. search needs)
     (λ c. search needs)

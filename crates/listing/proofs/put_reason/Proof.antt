@@ -38,15 +38,19 @@ returns-5 c = rw (c .before .before .before .before .before .enum-told4 .given .
 
 returns-6 : tie.Need-returns-6
 unfolding reasonLine text
-returns-6 c = rw (c .before .before .before .before .before .before .reason2 .given .1) (c .before .before .put-over .ensures)
+returns-6 c = rw (c .before .before .before .before .before .enum-told5 .given .1) (c .before .before .put5 .ensures)
 
 returns-7 : tie.Need-returns-7
 unfolding reasonLine text
-returns-7 c = rw (c .before .before .before .before .before .before .reason3 .given .1) (c .before .before .put-over2 .ensures)
+returns-7 c = rw (c .before .before .before .before .before .before .reason2 .given .1) (c .before .before .put-over .ensures)
 
 returns-8 : tie.Need-returns-8
 unfolding reasonLine text
-returns-8 c = rw (c .before .before .before .before .before .enum-told5 .given .1) (c .before .before .put5 .ensures)
+returns-8 c = rw (c .before .before .before .before .before .before .reason3 .given .1) (c .before .before .put-over2 .ensures)
+
+returns-9 : tie.Need-returns-9
+unfolding reasonLine text
+returns-9 c = rw (c .before .before .before .before .before .enum-told6 .given .1) (c .before .before .put6 .ensures)
 
 pub put-reason-spec : {M : Type 1} → statement M
 put-reason-spec =
@@ -62,6 +66,9 @@ put-reason-spec =
     (λ c. search needs)
     (λ c. search needs)
     put-pair-requires
+    (λ c. search needs)
+    (λ c. search needs)
+    (λ c κs. search needs)
     (λ c. search needs)
     (λ c. search needs)
     (λ c κs. search needs)
@@ -92,4 +99,6 @@ put-reason-spec =
     (λ c. search needs)
     returns-7
     (λ c. search needs)
-    returns-8)
+    returns-8
+    (λ c. search needs)
+    returns-9)

@@ -10,7 +10,7 @@ use Rattle.base.proofs.All.{each-none, each-set}
 use Rattle.rules.specs.District.{mostSegments}
 use Rattle.rules.specs.Phases.{strategyAt, topCandidate}
 use Rattle.tables.specs.Arrays.{tables}
-use Rattle.phase1.proofs.Candidates.{start-is}
+use Rattle.phase1.proofs.Candidates.{bests-are}
 use Rattle.phase1.proofs.choose_tops.Statement.{statement}
 use Rattle.phase1.proofs.choose_tops.Tie as tie
 
@@ -33,7 +33,7 @@ loop-again c =
     )
 
 returns : tie.Need-returns Inv-loop μ-loop
-returns c = λ u l. start-is _ _ (c .before .loop .inv .1) (λ k lk hk. c .before .loop .inv .2 k lk (omega arith) u l)
+returns c = λ u l. bests-are _ _ (c .before .loop .inv .1) (λ k lk hk. c .before .loop .inv .2 k lk (omega arith) u l)
 
 pub choose-tops-spec : {M : Type 1} → statement M
 choose-tops-spec =

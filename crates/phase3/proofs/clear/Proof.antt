@@ -12,13 +12,13 @@ use Rattle.phase3.proofs.clear.Statement.{statement}
 use Rattle.phase3.proofs.clear.Tie as tie
 
 abbrev Inv-loop : tie.InvT-loop
-Inv-loop resources row₀ r₀ row r = (r ≤ resources) × (length row ≡ rowPlaces) × (getD row 0 0 ≡ 0) × ((q : ℕ) → 1 ≤ q → q ≤ r → getD row q 0 ≡ unreached)
+Inv-loop resources marked row₀ r₀ row r = (r ≤ resources) × (length row ≡ rowPlaces) × (getD row 0 0 ≡ marked) × ((q : ℕ) → 1 ≤ q → q ≤ r → getD row q 0 ≡ unreached)
 
 abbrev μ-loop : tie.MeasureT-loop
-μ-loop resources row₀ r₀ row r = resources - r
+μ-loop resources marked row₀ r₀ row r = resources - r
 
 loop-holds : tie.Need-loop-holds Inv-loop μ-loop
-loop-holds c = (search needs, simp length-set (c .pre .1), getD-set-same (now (c .args .row)) 0 0 0 (omega (arith, c .pre .1)), each-none _)
+loop-holds c = (search needs, simp length-set (c .pre .1), getD-set-same (now (c .args .row)) 0 (c .args .marked) 0 (omega (arith, c .pre .1)), each-none _)
 
 loop-again : tie.Need-loop-again Inv-loop μ-loop
 loop-again c =

@@ -8,10 +8,10 @@ use Rattle.phase3.proofs.first_change.Tie as tie
 returns : tie.Need-returns
 returns c =
     let e = c .before .before .first-two .ensures in
-    (change-pair _ (c .before .before .before .before .before .before .first-one .ensures) (sym (c .before .before .before .before .before .is-nothing .ensures) ∙ c .before .before .before .before .if1 .taken) (e .0), e .1)
+    (change-pair _ _ (c .before .before .before .before .before .before .first-one .ensures) (sym (c .before .before .before .before .before .is-nothing .ensures) ∙ c .before .before .before .before .if1 .taken) (e .0), e .1)
 
 returns-2 : tie.Need-returns-2
-returns-2 c = (change-single _ (c .before .before .first-one .ensures) (sym (c .before .is-nothing .ensures) ∙ c .if1 .left), c .before .before .before .before .before .before .before .before .before .before .pre .1 .1)
+returns-2 c = (change-single _ _ (c .before .before .first-one .ensures) (sym (c .before .is-nothing .ensures) ∙ c .if1 .left), c .before .before .before .before .before .before .before .before .before .before .before .pre .1 .1)
 
 pub first-change-spec : {M : Type 1} → statement M
 first-change-spec =

@@ -16,7 +16,7 @@ use Rattle.phase3.proofs.first_of_pair.Tie as tie
 
 pair-may-rise-requires : tie.Need-pair-may-rise-requires
 pair-may-rise-requires c κs =
-    let s = c .before .before .before .before .before .before .before .before in
+    let s = c .before .before .before .before .before .before .before .before .before in
     let p = s .pre .0 in
     let m = s .pre .1 in
     let a = s .args in
@@ -31,26 +31,26 @@ pair-may-rise-requires c κs =
 
 returns : tie.Need-returns
 returns c =
-    let s = c .before .before .before .before .before .before .before .before .before .before in
+    let s = c .before .before .before .before .before .before .before .before .before .before .before in
     let p = s .pre .0 in
     let m = s .pre .1 in
     let a = s .args in (
       found-nothing refl
-          (no-of _ _ (places (p .2)) _ _ (m .0) (m .1) (m .2) (benefit-nothing _)
+          (no-of _ _ _ (places (p .2)) _ _ (m .0) (m .1) (m .2) (benefit-nothing _)
           (sym (c .before .pair-may-rise .ensures (a .z) (now (a .uses)) (now (a .limits)) (p .3) (omega (arith, m .1, m .2)) (m .2)) ∙ not-true _ (c .if1 .taken))),
       p .5,
     )
 
 mark-of-requires : tie.Need-mark-of-requires
 mark-of-requires c κs =
-    let s = c .before .before .before .before .before .before .before .before .before .before .before .before .pre in
+    let s = c .before .before .before .before .before .before .before .before .before .before .before .before .before .pre in
     let g = s .0 .2 in
     let from = from-cell g in
     (g .chosen .places, from _ (s .1 .0) (omega (arith, s .1 .1, s .1 .2)), from _ (omega (arith, s .1 .0, s .1 .1)) (s .1 .2))
 
 returns-2 : tie.Need-returns-2
 returns-2 c =
-    let s = c .before .before .before .before .before .before .before .before .before .before .before .before .before .before .before in
+    let s = c .before .before .before .before .before .before .before .before .before .before .before .before .before .before .before .before in
     let p = s .pre .0 in
     let m = s .pre .1 in
     let at = rowAt (s .args .i) (s .args .k) in (
@@ -62,20 +62,20 @@ returns-2 c =
 
 look-requires : tie.Need-look-requires
 look-requires c κs =
-    let s = c .before .before .before .before .before .before .before .before .before .before .before .before .before .before .before .before .before .pre in
+    let s = c .before .before .before .before .before .before .before .before .before .before .before .before .before .before .before .before .before .before .pre in
     let p = s .0 in
-    ((p .0, p .1, p .2, p .3, simp (length-take, length-drop) (omega (arith, p .5 .places, p .2 .bounded .segments, s .1 .0, s .1 .1, s .1 .2))), s .1)
+    ((p .0, p .1, p .2, p .3, simp (length-take, length-drop) (omega (arith, p .5 .places, p .2 .bounded .segments, s .1 .0, s .1 .1, s .1 .2)), p .6), s .1)
 
 returns-3 : tie.Need-returns-3
 returns-3 c =
-    let s = c .before .before .before .before .before .before .before .before .before .before .before .before .before .before .before .before .before .before .before .before in
+    let s = c .before .before .before .before .before .before .before .before .before .before .before .before .before .before .before .before .before .before .before .before .before in
     let p = s .pre .0 in
     let m = s .pre .1 in
     let at = rowAt (s .args .i) (s .args .k) in
     let e = c .before .before .look .ensures in (
       e .0,
       memory-put (p .5) (p .2 .bounded .segments) (p .2 .bounded .resources) _ _ (m .0) (m .1) (m .2) (at + rowPlaces - at) (omega arith)
-          (c .before .before .look .last .1 .1 .1 .1 .1 .1 .1 .1 .1 .0)
+          (c .before .before .look .last .1 .1 .1 .1 .1 .1 .1 .1 .1 .1 .0)
           (e .1 .0)
           (e .1 .1),
     )

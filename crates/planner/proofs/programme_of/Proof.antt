@@ -8,19 +8,19 @@ use Rattle.planner.proofs.programme_of.Statement.{statement}
 use Rattle.planner.proofs.programme_of.Tie as tie
 
 fill-all-requires : tie.Need-fill-all-requires
-fill-all-requires c κs = (in-ranges _ (c .before .before .before .before .before .pre), refl, refl, refl, refl, refl)
+fill-all-requires c κs = (in-ranges _ (c .before .before .before .before .before .before .pre), refl, refl, refl, refl, refl, refl)
 
 ceiling-of-requires : tie.Need-ceiling-of-requires
-ceiling-of-requires c κs = sized (in-ranges _ (c .before .before .before .before .before .before .before .before .before .before .before .before .before .pre)) (c .before .before .before .before .before .before .before .fill-all .ensures)
+ceiling-of-requires c κs = sized (in-ranges _ (c .before .before .before .before .before .before .before .before .before .before .before .before .before .before .before .pre)) (c .before .before .before .before .before .before .before .before .fill-all .ensures)
 
 phases-requires : tie.Need-phases-requires
 phases-requires c κs =
-    let ranges = in-ranges _ (c .before .before .before .before .before .before .before .before .before .before .before .before .before .before .before .before .before .before .pre) in
-    let filled = c .before .before .before .before .before .before .before .before .before .before .before .before .fill-all .ensures in
-    ((filled .tabled, filled .fit, shares-of ranges filled), c .before .before .before .before .ceiling-of .ensures _ (priced ranges filled))
+    let ranges = in-ranges _ (c .before .before .before .before .before .before .before .before .before .before .before .before .before .before .before .before .before .before .before .before .before .pre) in
+    let filled = c .before .before .before .before .before .before .before .before .before .before .before .before .before .before .fill-all .ensures in
+    ((filled .tabled, filled .fit, shares-of ranges filled, filled .leaders), c .before .before .before .before .before .ceiling-of .ensures _ (priced ranges filled))
 
 returns : tie.Need-returns
-returns c = c .phases .ensures ∙ ap programmeOf (c .before .before .before .before .before .before .before .before .before .before .before .before .before .fill-all .ensures .table)
+returns c = let filled = c .before .before .before .before .before .before .before .before .before .before .before .before .before .before .before .fill-all .ensures in rw (← filled .table, ← filled .leader) (c .phases .ensures)
 
 pub programme-of-spec : {M : Type 1} → statement M
 programme-of-spec =
@@ -31,10 +31,12 @@ programme-of-spec =
     (λ c. search needs)
     (λ c. search needs)
     (λ c. search needs)
+    (λ c. search needs)
     fill-all-requires
     (λ c. search needs)
     (λ c. search needs)
     ceiling-of-requires
+    (λ c. search needs)
     (λ c. search needs)
     (λ c. search needs)
     (λ c. search needs)

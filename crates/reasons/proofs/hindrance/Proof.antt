@@ -20,13 +20,13 @@ returns c =
     let o = m .before .before in
     let w = o .before .before .before in
     let l = w .before .before .before in
-    let p = l .before .before .before .args .t2 in
-    or-by (c .or-else6 .ensures) (c .before .given4 .ensures)
-    (or-by (b .or-else5 .ensures) (only-by Barred (b .before .given3 .ensures) (b .before .before .barred .ensures))
-    (or-by (m .or-else4 .ensures) (m .before .missed-minimum .ensures p)
-    (or-by (o .or-else3 .ensures) (only-by OverallMissed (o .before .given2 .ensures) (ap not (o .before .before .overall-reached .ensures)))
-    (or-by (w .or-else2 .ensures) (only-by NoBenefit (w .before .given .ensures) (ap (λ (z : ℤ). leZ z (pos 0)) (told w64 (w .before .before .benefit .ok) (w .before .before .benefit .ensures))))
-    (or-by (l .or-else .ensures) (l .before .over-alone .ensures p) (l .before .before .over-beside .ensures))))))
+    let p = l .before .args .t2 in
+    or-by (c .or-else5 .ensures) (c .before .given4 .ensures)
+    (or-by (b .or-else4 .ensures) (only-by Barred (b .before .given3 .ensures) (b .before .before .barred .ensures))
+    (or-by (m .or-else3 .ensures) (m .before .missed-minimum .ensures p)
+    (or-by (o .or-else2 .ensures) (only-by OverallMissed (o .before .given2 .ensures) (ap not (o .before .before .overall-reached .ensures)))
+    (or-by (w .or-else .ensures) (only-by NoBenefit (w .before .given .ensures) (ap (λ (z : ℤ). leZ z (pos 0)) (told w64 (w .before .before .benefit .ok) (w .before .before .benefit .ensures))))
+    (l .late-hindrance .ensures)))))
 
 pub hindrance-spec : {M : Type 1} → statement M
 hindrance-spec =
@@ -35,8 +35,6 @@ hindrance-spec =
     (λ c. search needs)
     (λ c. search needs)
     (λ c. search needs)
-    (λ c κs. search needs)
-    (λ c κs. search needs)
     (λ c κs. search needs)
     (λ c κs. search needs)
     (λ c κs. search needs)

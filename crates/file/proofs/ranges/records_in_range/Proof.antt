@@ -7,9 +7,9 @@ use lib.ListN.{drop}
 use borrow.Author.Tests.{not-true, not-false}
 use Rattle.rules.specs.File.{recordsInRange}
 use Rattle.rules.specs.declared.Slot.{Slot}
-use Rattle.rules.specs.Format.{fileRecords}
+use Rattle.rules.specs.Format.{leaderForm, fileRecords}
 use Rattle.grammar.specs.Places.{startOf}
-use Rattle.grammar.proofs.Slots.{ready, start-next}
+use Rattle.grammar.proofs.Slots.{record-room, start-next}
 use Rattle.file.proofs.Steps.{ranges-step}
 use borrow.Author.Needs.{needs}
 use Rattle.file.proofs.ranges.records_in_range.Statement.{statement}
@@ -37,8 +37,7 @@ numbers-in-range-requires : tie.Need-numbers-in-range-requires Inv-loop μ-loop
 numbers-in-range-requires c κs =
     let l = c .before .before .loop in
     let p = ap (λ (s : Slot). s .places) (c .slot-at .ensures) in
-    let r = ready (l .n) (omega arith) in
-    (omega (arith, r .few), omega (arith, r .room, l .inv .2))
+    omega (arith, record-room leaderForm (l .n) (omega arith), l .inv .2)
 
 returns : tie.Need-returns Inv-loop μ-loop
 returns c = sym (tested (c .before) false (not-true _ (c .if1 .taken)))
@@ -46,14 +45,14 @@ returns c = sym (tested (c .before) false (not-true _ (c .if1 .taken)))
 add-place : tie.Need-add-place Inv-loop μ-loop
 add-place c =
     let l = c .before .before .before .before .before .loop in
-    omega (arith, ap (λ (s : Slot). s .places) (c .before .before .before .slot-at .ensures), ready (l .n) (omega arith) .room, l .inv .2)
+    omega (arith, ap (λ (s : Slot). s .places) (c .before .before .before .slot-at .ensures), record-room leaderForm (l .n) (omega arith), l .inv .2)
 
 loop-again : tie.Need-loop-again Inv-loop μ-loop
 loop-again c =
     let l = c .before .before .before .before .before .loop in (
       omega arith,
       tested (c .before .before) true (not-false _ (c .before .if1 .left)),
-      omega (arith, l .inv .2, start-next (l .n), ap (λ (s : Slot). s .places) (c .before .before .before .slot-at .ensures)),
+      omega (arith, l .inv .2, start-next leaderForm (l .n), ap (λ (s : Slot). s .places) (c .before .before .before .slot-at .ensures)),
     )
 
 returns-2 : tie.Need-returns-2 Inv-loop μ-loop

@@ -45,9 +45,6 @@ left c =
 loop-holds : tie.Need-loop-holds Inv-loop μ-loop
 loop-holds c = (search needs, rw sub-zero, rw sub-zero (c .before .pre .1 .0), refl, c .before .pre .1 .1)
 
-field-at-requires : tie.Need-field-at-requires Inv-loop μ-loop
-field-at-requires c κs = omega (arith, c .before .before .before .before .pre .0 .few)
-
 number-requires : tie.Need-number-requires Inv-loop μ-loop
 number-requires c κs =
     let l = c .before .before .before .loop in
@@ -121,7 +118,7 @@ read-numbers-spec =
     Inv-loop
     μ-loop
     loop-holds
-    field-at-requires
+    (λ c κs. search needs)
     number-requires
     (λ c κs. search needs)
     returns

@@ -83,7 +83,7 @@ write-numbers-spec =
     Inv-loop
     μ-loop
     loop-holds
-    (λ c κs. omega arith)
+    (λ c κs. search needs)
     sub-put
     part-put-start
     (λ c. search needs)

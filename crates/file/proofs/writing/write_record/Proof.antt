@@ -31,7 +31,7 @@ write-numbers-requires : tie.Need-write-numbers-requires
 write-numbers-requires c κs =
     let st = c .before .before .before .before .before .before in
     let h = c .before .before .before .write-header in
-    (st .pre .0, rw (whole-tail (h .last .0) (h .result)) (simp length-drop (omega (arith, room (c .before .before .before)))))
+    (st .pre .0 .1, rw (whole-tail (h .last .0) (h .result)) (simp length-drop (omega (arith, room (c .before .before .before)))))
 
 add-result : tie.Need-add-result
 add-result c = omega (arith, room (c .before .before .before .before .before .before), c .before .before .write-numbers .ensures .0, c .before .before .before .before .before .before .before .before .before .good)
