@@ -13,14 +13,19 @@ pub const LONGEST: usize = 3_852;
 pub const LONGEST_PLAIN: usize = 3_788;
 
 /// The kind of the first record, in a file without leaders and in one with them.
-const PLAIN: u16 = 1;
-const LED: u16 = 8;
+pub const PLAIN: u16 = 1;
+pub const LED: u16 = 8;
 
 /// A district from any bytes, or the first ground for refusal, record by record.
 pub fn decode(bytes: &[u8]) -> Result<District, Refusal> {
+    decode_of(bytes, &[PLAIN, LED])
+}
+
+/// The same where only some kinds are due at the first record.
+pub fn decode_of(bytes: &[u8], due: &[u16]) -> Result<District, Refusal> {
     let mut records = Records { rest: bytes };
 
-    let (form, counts) = records.next_of(&[PLAIN, LED], 6)?;
+    let (form, counts) = records.next_of(due, 6)?;
     let led = form == LED;
     let most = [
         (0, MOST_SEGMENTS),
@@ -112,7 +117,9 @@ pub fn encode_led(district: &District) -> Vec<u8> {
     encode_as(district, LED)
 }
 
-fn encode_as(district: &District, form: u16) -> Vec<u8> {
+/// The file of a district in the form that has this first kind. Leaders that are
+/// set are lost where the form has none.
+pub fn encode_as(district: &District, form: u16) -> Vec<u8> {
     let mut out = Vec::with_capacity(LONGEST);
     let counts = [
         district.segments.len(),

@@ -24,6 +24,7 @@ pub mod reasons;
 pub mod refusal;
 pub mod survey;
 pub mod tables;
+pub mod turn;
 pub mod unit;
 pub mod vectors;
 pub mod why;

@@ -6,6 +6,7 @@ use crate::file;
 use crate::lists;
 use crate::random::Random;
 use crate::rating;
+use crate::turn::Way;
 use crate::unit::{plan, Plan};
 use std::path::Path;
 use std::{fs, io};
@@ -680,7 +681,12 @@ pub fn damaged_file(random: &mut Random, leaders: bool) -> Vec<u8> {
         to_an_end(random, &mut made);
         return file::encode(&made);
     }
-    let mut bytes = if leaders { file_of(random, made) } else { file::encode(&made) };
+    let bytes = if leaders { file_of(random, made) } else { file::encode(&made) };
+    damaged(random, bytes)
+}
+
+/// A sound file with one thing wrong (or, seldom, still right).
+fn damaged(random: &mut Random, mut bytes: Vec<u8>) -> Vec<u8> {
     let starts = record_starts(&bytes);
     let start = *random.pick(&starts);
     let length = usize::from(u16::from_le_bytes([bytes[start], bytes[start + 1]]));
@@ -724,6 +730,60 @@ pub fn damaged_file(random: &mut Random, leaders: bool) -> Vec<u8> {
         }
     }
     bytes
+}
+
+/// A file to be turned: most often of the form that is, sound or with one or two
+/// things wrong, with leaders set where there are some; else of the form that is
+/// wanted, or any file at all.
+pub fn any_turned_file(random: &mut Random, way: Way) -> Vec<u8> {
+    let shape = match random.below(20) {
+        0..=9 => small_shape(random, 6, 4),
+        10 | 11 => WIDEST,
+        _ => shape(random),
+    };
+    let mut made = district(random, shape);
+    let wanted = random.chance(12);
+    let form = match (way, wanted) {
+        (Way::Up, false) | (Way::Down, true) => file::PLAIN,
+        _ => file::LED,
+    };
+    if form == file::LED && random.chance(40) {
+        set_leaders(random, &mut made);
+    }
+    match random.below(100) {
+        0..=39 => file::encode_as(&made, form),
+        // Behind a leader that is set something else is wrong, most often near the end.
+        40..=49 => {
+            let mut bytes = file::encode_as(&made, form);
+            match random.below(3) {
+                0 => bytes.push(random.draw() as u8),
+                1 => bytes.truncate(bytes.len() - random.size(1, 40)),
+                _ => {
+                    let at = bytes.len() - random.size(1, 40);
+                    bytes[at] = random.draw() as u8;
+                }
+            }
+            bytes
+        }
+        50..=59 => {
+            to_an_end(random, &mut made);
+            file::encode_as(&made, form)
+        }
+        60..=64 if form == file::LED => misled_file(random, made),
+        60..=84 => damaged(random, file::encode_as(&made, form)),
+        // The other form's first kind, before segments of this one.
+        85..=88 => {
+            let mut bytes = file::encode_as(&made, form);
+            bytes[2] ^= (file::PLAIN ^ file::LED) as u8;
+            bytes
+        }
+        89..=91 => {
+            let once = damaged(random, file::encode_as(&made, form));
+            let noise = random.size(0, 3);
+            [once, random.bytes(noise)].concat()
+        }
+        _ => any_file(random),
+    }
 }
 
 /// A file in which one leader is its own number, or near it, or any byte.

@@ -30,6 +30,8 @@ pub enum Refusal {
     NoReading = 13,
     /// A leader that is not below the segment's own number.
     Leader = 14,
+    /// Turning down a file in which a leader is set.
+    LeaderSet = 15,
 }
 
 impl Refusal {

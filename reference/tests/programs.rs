@@ -32,6 +32,26 @@ fn page_prints_the_card() {
     assert_eq!(output_of(page, &[], &more[..88]), b"refused 5\n");
 }
 
+/// Up, down, refused both ways, and what lies behind 4,096 bytes is not looked at.
+#[test]
+fn up_and_down_turn_the_card() {
+    let [up, down] = [env!("CARGO_BIN_EXE_up"), env!("CARGO_BIN_EXE_down")];
+    let turned = output_of(up, &[], &card_bytes());
+    assert_eq!((turned.len(), turned[2]), (89, 8));
+    assert_eq!(output_of(down, &[], &turned), card_bytes());
+    assert_eq!(output_of(up, &[], &turned), b"refused 2\n");
+    assert_eq!(output_of(down, &[], &card_bytes()), b"refused 2\n");
+    let mut led = turned.clone();
+    led[84] = 1;
+    assert_eq!(output_of(down, &[], &led), b"refused 15\n");
+    for (program, file) in [(up, card_bytes()), (down, turned), (down, led)] {
+        assert_eq!(output_of(program, &[], b""), b"refused 1\n");
+        assert_eq!(output_of(program, &[], &[&file[..], &[0]].concat()), b"refused 5\n");
+        let long = [file, vec![0; 4_100]].concat();
+        assert_eq!(output_of(program, &[], &long[..4_096]), b"refused 5\n");
+    }
+}
+
 #[test]
 fn panel_answers() {
     let panel = env!("CARGO_BIN_EXE_panel");
@@ -119,33 +139,58 @@ fn compare_agrees_and_disagrees() {
     let compare = env!("CARGO_BIN_EXE_compare");
     let work = std::env::temp_dir().join(format!("reference-{}-compare", std::process::id()));
     let work = work.to_str().unwrap();
-    let kinds = ["--plan", "--page", "--panel", "--codec", "--vectors"];
-    let [plan, page, panel, codec, vectors] = [
+    let kinds = ["--plan", "--page", "--panel", "--codec", "--vectors", "--up", "--down"];
+    let [plan, page, panel, codec, vectors, up, down] = [
         env!("CARGO_BIN_EXE_plan"),
         env!("CARGO_BIN_EXE_page"),
         env!("CARGO_BIN_EXE_panel"),
         env!("CARGO_BIN_EXE_codec"),
         env!("CARGO_BIN_EXE_vectors"),
+        env!("CARGO_BIN_EXE_up"),
+        env!("CARGO_BIN_EXE_down"),
     ];
-    let run = |programs: [&str; 5]| {
+    let run = |programs: [&str; 7]| {
         let arguments: Vec<&str> =
             kinds.into_iter().zip(programs).flat_map(|(kind, program)| [kind, program]).collect();
         let output = Command::new(compare).args(arguments).args(["--count", "60", "--work", work]).output().unwrap();
         (output.status.success(), String::from_utf8(output.stdout).unwrap())
     };
-    let (fine, text) = run([plan, page, panel, codec, vectors]);
+    let (fine, text) = run([plan, page, panel, codec, vectors, up, down]);
     assert!(fine && text.ends_with("compared 60 cases, 0 differences\n"), "{text}");
     // One of them exchanged for another.
     for programs in [
-        [panel, page, panel, codec, vectors],
-        [plan, plan, panel, codec, vectors],
-        [plan, page, plan, codec, vectors],
-        [plan, page, panel, plan, vectors],
-        [plan, page, panel, codec, plan],
+        [panel, page, panel, codec, vectors, up, down],
+        [plan, plan, panel, codec, vectors, up, down],
+        [plan, page, plan, codec, vectors, up, down],
+        [plan, page, panel, plan, vectors, up, down],
+        [plan, page, panel, codec, plan, up, down],
+        [plan, page, panel, codec, vectors, down, down],
+        [plan, page, panel, codec, vectors, up, up],
     ] {
         let (fine, text) = run(programs);
         assert!(!fine && text.contains("difference: "), "{text}");
         assert!(!text.ends_with(" 0 differences\n"));
     }
     std::fs::remove_dir_all(work).unwrap();
+}
+
+/// The stored files of `up` and `down` are run too, and a wrong program is found by them.
+#[test]
+fn compare_runs_the_stored_files() {
+    let compare = env!("CARGO_BIN_EXE_compare");
+    let turned = concat!(env!("CARGO_MANIFEST_DIR"), "/turned.txt");
+    let work = std::env::temp_dir().join(format!("reference-{}-turned", std::process::id()));
+    let run = |up: &str, down: &str| {
+        let programs =
+            ["--up", up, "--down", down, "--turned", turned, "--count", "0", "--work", work.to_str().unwrap()];
+        let output = Command::new(compare).args(programs).output().unwrap();
+        (output.status.success(), String::from_utf8(output.stdout).unwrap())
+    };
+    let [up, down] = [env!("CARGO_BIN_EXE_up"), env!("CARGO_BIN_EXE_down")];
+    let (fine, text) = run(up, down);
+    assert!(fine && text.ends_with(" cases, 0 differences\n") && !text.contains("compared 0 "), "{text}");
+    for (up, down) in [(down, down), (up, up)] {
+        let (fine, text) = run(up, down);
+        assert!(!fine && text.contains(", line "), "{text}");
+    }
 }

@@ -93,7 +93,12 @@ pub decode-encode-as : (form : ℕ) → Form form → (d : District) → inRange
 unfolding decodeAs encodeAs
 decode-encode-as form f d e s = records-back form f d (form-range form f d e s) fileRecords 0 refl
 
+-- also where the file's first kind says which,
+pub decode-own : (form : ℕ) → Form form → (d : District) → inRange d ≡ true → Suits form d → decode (encodeAs form d) ≡ found d []
+unfolding decode
+decode-own form f d e s = rw (form-encoded form f d) (decode-encode-as form f d e s)
+
 -- and of the form that the district's file gets
 pub decode-encode : (d : District) → inRange d ≡ true → decode (encode d) ≡ found d []
-unfolding decode encode
-decode-encode d e = rw (form-encoded (formOf d) (form-of d) d) (decode-encode-as (formOf d) (form-of d) d e (suits-own d))
+unfolding encode
+decode-encode d e = decode-own (formOf d) (form-of d) d e (suits-own d)

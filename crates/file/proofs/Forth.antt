@@ -27,7 +27,7 @@ use Rattle.grammar.proofs.Slots.{start-next, ready}
 use Rattle.file.specs.Readings.{loadedFrom}
 use Rattle.file.specs.declared.Loaded.{Loaded}
 use Rattle.file.proofs.TwoForms.{form-in, form-kept}
-use Rattle.file.proofs.Refusals.{refusals}
+use Rattle.file.proofs.Refusals.{refusals-as}
 use Rattle.file.proofs.Steps.{widths-none, widths-take, header-there, header-none, record-none, records-found, records-refused}
 
 -- ---- what is found was not refused
@@ -255,13 +255,17 @@ encode-decode file d rest e =
 
 -- ---- what a file loads as
 
-pub loads-as : (file : List ℕ) → loadRefusal file ≡ 0 → (Bytes file → ledByNone file ≡ false → encode (districtIn file) ≡ file) × (inRange (districtIn file) ≡ true)
-unfolding loadRefusal loadRefusalOf districtIn loadedOf
-loads-as file e = go (decode file) refl
+pub found-as : (form : ℕ) → Form form → (file : List ℕ) → loadRefusalOf (decodeAs form file) ≡ 0 → decodeAs form file ≡ found (loadedOf (decodeAs form file)) []
+unfolding loadRefusalOf loadedOf
+found-as form f file e = go (decodeAs form file) refl
   where
-    go : (o : Read) → decode file ≡ o → (Bytes file → (eqb (formIn file) leaderForm && leaderless (loadedOf (decode file))) ≡ false → encode (loadedOf (decode file)) ≡ file) × (inRange (loadedOf (decode file)) ≡ true)
-    go (refused n) q = absurd (omega (arith, refusals file n q, ap loadRefusalOf q))
-    go (found d rest) q = let k = encode-decode file d rest q in rw q (k .0, k .1)
+    go : (r : Read) → decodeAs form file ≡ r → r ≡ found (loadedOf r) []
+    go (refused n) q = absurd (omega (arith, refusals-as form file n q, ap loadRefusalOf q))
+    go (found d rest) q = ap (found d) (encode-decode-as form f file d rest q .3)
+
+pub loads-as : (file : List ℕ) → loadRefusal file ≡ 0 → (Bytes file → ledByNone file ≡ false → encode (districtIn file) ≡ file) × (inRange (districtIn file) ≡ true)
+unfolding loadRefusal districtIn decode
+loads-as file e = let k = encode-decode file _ [] (found-as (formIn file) (form-in file) file e) in (k .0, k .1)
 
 -- what is loaded is in the file's ranges too
 pub loaded-ranged : (file : List ℕ) → {r : Loaded} → r ≡ loadedFrom file → (r ≡ loadedFrom file) × (r .refusal ≡ 0 → inRange (r .district) ≡ true)

@@ -29,7 +29,7 @@ fn smaller(a: usize, b: usize) -> usize
 }
 
 // Whether no segment has a leader. Past the last place there is none.
-fn is_leaderless(d: District) -> bool
+pub fn is_leaderless(d: District) -> bool
     ensures { λ r. ⌜ r ≡ leaderless d ⌝ }
 {
     let segments = smaller(d[SEGMENT_COUNT], MOST_SEGMENTS);

@@ -1,6 +1,6 @@
 // The district's file: loading, for any bytes, and export, into any buffer.
 pub mod bytes;
-mod forms;
+pub mod forms;
 mod ranges;
 mod reading;
 mod writing;

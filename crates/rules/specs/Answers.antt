@@ -56,6 +56,10 @@ windowEmpty = 13
 abbrev pub leaderNotBelow : ℕ
 leaderNotBelow = 14
 
+-- of request 9: a leader is set in a file that is to have none
+abbrev pub leaderSet : ℕ
+leaderSet = 15
+
 -- ---- how one comes about
 
 -- refusal n where the test fails, else what the later tests say
@@ -66,6 +70,11 @@ unless false n rest = n
 -- refusal n where x is not 1 to count, else what the later tests say
 abbrev pub oneTo : ℕ → ℕ → ℕ → ℕ → ℕ
 oneTo x count n rest = unless (between 1 count x) n rest
+
+-- refusal n, and where there is none what the later tests say
+abbrev pub orLater : ℕ → ℕ → ℕ
+orLater zero rest = rest
+orLater (suc n) rest = suc n
 
 -- ---- what is answered and what is held
 

@@ -12,6 +12,7 @@ pub mod Answers
 pub mod Survey
 pub mod Meter
 pub mod Calls
+pub mod Conversions
 pub mod Lists
 pub mod Offices
 pub mod Demands
@@ -25,3 +26,4 @@ pub mod Explanations
 pub mod Metered
 pub mod Feasibility
 pub mod Leaders
+pub mod Converted

@@ -31,3 +31,6 @@ pub const WINDOW_EMPTY: usize = 13;
 
 // Of request 8.
 pub const LEADER_NOT_BELOW: usize = 14;
+
+// Of request 9: a leader is set in a file that is to have none.
+pub const LEADER_SET: usize = 15;

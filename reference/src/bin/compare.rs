@@ -1,9 +1,11 @@
 //! Compares other programs with this library, case by case:
-//! `compare [--plan PATH] [--page PATH] [--panel PATH] [--codec PATH] [--vectors PATH] --count N --seed S`.
+//! `compare [--plan PATH] [--page PATH] [--panel PATH] [--codec PATH] [--vectors PATH] [--up PATH] [--down PATH]
+//! --count N --seed S`.
 //!
 //! The cases are dealt out among the programs given. A case is made from the
 //! seed and its number alone. Where answers differ, the case's files and both
-//! answers stay in the work folder.
+//! answers stay in the work folder. With `--turned FILE` the stored cases of `up`
+//! and `down` in that file are run as well, in front of the others.
 
 use reference::console;
 use reference::district::{District, Segment};
@@ -12,6 +14,7 @@ use reference::make;
 use reference::options::Given;
 use reference::random::Random;
 use reference::tables::Tables;
+use reference::turn::{self, Way};
 use reference::unit::{plan, Plan, Unit};
 use reference::{calls, example, file, frames, lists, page, rating};
 use std::collections::BTreeMap;
@@ -24,7 +27,7 @@ use std::thread;
 use std::time::Duration;
 
 const USAGE: &str = "usage: compare [--plan PATH] [--page PATH] [--panel PATH] [--codec PATH] [--vectors PATH]
-               [--count N] [--seed S] [--work DIR] [--case K]
+               [--up PATH] [--down PATH] [--turned FILE] [--count N] [--seed S] [--work DIR] [--case K]
 ";
 const PATIENCE: Duration = Duration::from_secs(120);
 
@@ -47,6 +50,7 @@ enum Kind {
     Codec,
     Vectors,
     Panel,
+    Turn(Way),
 }
 
 impl Kind {
@@ -57,10 +61,12 @@ impl Kind {
             Kind::Codec => "codec",
             Kind::Vectors => "vectors",
             Kind::Panel => "panel",
+            Kind::Turn(Way::Up) => "up",
+            Kind::Turn(Way::Down) => "down",
         }
     }
 
-    /// How many of fifteen cases it gets when all five are there.
+    /// How many of nineteen cases it gets when all seven are there.
     fn weight(self) -> usize {
         match self {
             Kind::Plan => 5,
@@ -68,6 +74,7 @@ impl Kind {
             Kind::Codec => 3,
             Kind::Vectors => 2,
             Kind::Panel => 2,
+            Kind::Turn(_) => 2,
         }
     }
 }
@@ -100,8 +107,8 @@ struct Run {
 
 /// The number of differences.
 fn run(arguments: &[String]) -> Result<u64, String> {
-    let given =
-        Given::read(arguments, &["plan", "page", "panel", "codec", "vectors", "count", "seed", "work", "case"])?;
+    let known = ["plan", "page", "panel", "codec", "vectors", "up", "down", "turned", "count", "seed", "work", "case"];
+    let given = Given::read(arguments, &known)?;
     let (seed, count) = (given.number("seed", 1)?, given.number("count", 300)?);
     let cases = match given.text("case") {
         None => 0..count,
@@ -123,6 +130,9 @@ fn run(arguments: &[String]) -> Result<u64, String> {
         tallies: programs.keys().map(|&kind| (kind, Tally::default())).collect(),
     };
 
+    if let Some(path) = given.text("turned") {
+        run.stored_turns(&programs, path)?;
+    }
     let mut files: Vec<(u64, Vec<u8>)> = Vec::new();
     let mut lists: Vec<(u64, Vec<u8>)> = Vec::new();
     for case in cases {
@@ -131,6 +141,7 @@ fn run(arguments: &[String]) -> Result<u64, String> {
             Kind::Plan => run.plan_case(&programs[&kind], case)?,
             Kind::Page => run.page_case(&programs[&kind], case)?,
             Kind::Panel => run.panel_case(&programs[&kind], case)?,
+            Kind::Turn(way) => run.turn_case(way, &programs[&kind], case)?,
             Kind::Codec => files.push((case, make::any_frame(&mut Random::for_case(seed, case)))),
             Kind::Vectors => lists.push((case, lists::any_list(&mut Random::for_case(seed, case)))),
         }
@@ -147,7 +158,8 @@ fn run(arguments: &[String]) -> Result<u64, String> {
 
 fn programs(given: &Given) -> Result<BTreeMap<Kind, PathBuf>, String> {
     let mut programs = BTreeMap::new();
-    for kind in [Kind::Plan, Kind::Page, Kind::Codec, Kind::Vectors, Kind::Panel] {
+    let turns = [Kind::Turn(Way::Up), Kind::Turn(Way::Down)];
+    for kind in [Kind::Plan, Kind::Page, Kind::Codec, Kind::Vectors, Kind::Panel].into_iter().chain(turns) {
         if let Some(path) = given.text(kind.name()) {
             // Programs are run from other folders too, so the path must be whole.
             let path = fs::canonicalize(path).map_err(|error| format!("{path}: {error}"))?;
@@ -222,7 +234,7 @@ impl Run {
                 format!("refused {}\n", refusal.number())
             }
         };
-        self.file_case(Kind::Plan, program, case, &bytes, &expected)
+        self.file_case(Kind::Plan, program, case, &bytes, expected.as_bytes())
     }
 
     fn page_case(&mut self, program: &Path, case: u64) -> Result<(), String> {
@@ -238,17 +250,50 @@ impl Run {
                 format!("refused {}\n", refusal.number())
             }
         };
-        self.file_case(Kind::Page, program, case, &bytes, &expected)
+        self.file_case(Kind::Page, program, case, &bytes, expected.as_bytes())
+    }
+
+    fn turn_case(&mut self, way: Way, program: &Path, case: u64) -> Result<(), String> {
+        let bytes = make::any_turned_file(&mut Random::for_case(self.seed, case), way);
+        turn_features(self.tally(Kind::Turn(way)), way, &bytes);
+        let expected = turn::answer(way, &bytes[..bytes.len().min(4_096)]);
+        self.file_case(Kind::Turn(way), program, case, &bytes, &expected)
+    }
+
+    /// The stored cases of `up` and `down`, each through its program where that
+    /// is given.
+    fn stored_turns(&mut self, programs: &BTreeMap<Kind, PathBuf>, path: &str) -> Result<(), String> {
+        let text = fs::read_to_string(path).map_err(|error| format!("{path}: {error}"))?;
+        for (line, way, bytes, expected) in turn::cases(&text)? {
+            let kind = Kind::Turn(way);
+            if let Some(program) = programs.get(&kind) {
+                self.tally(kind).see("stored");
+                if call(program, Path::new("."), &bytes)? == expected {
+                    self.agreed(kind);
+                } else {
+                    self.tally(kind).differed += 1;
+                    println!("difference: {}, line {line} of {path}", kind.name());
+                }
+            }
+        }
+        Ok(())
     }
 
     /// The program gets a file and must print what is expected.
-    fn file_case(&mut self, kind: Kind, program: &Path, case: u64, bytes: &[u8], expected: &str) -> Result<(), String> {
+    fn file_case(
+        &mut self,
+        kind: Kind,
+        program: &Path,
+        case: u64,
+        bytes: &[u8],
+        expected: &[u8],
+    ) -> Result<(), String> {
         let got = call(program, Path::new("."), bytes)?;
-        if got == expected.as_bytes() {
+        if got == expected {
             self.agreed(kind);
             return Ok(());
         }
-        self.differed(kind, case, &[("bin", bytes), ("expected", expected.as_bytes()), ("got", &got)])
+        self.differed(kind, case, &[("bin", bytes), ("expected", expected), ("got", &got)])
     }
 
     /// All frames go through one run of the program; `expected` notes what a
@@ -375,6 +420,42 @@ fn transcoded(tally: &mut Tally, frame: &[u8]) -> Vec<u8> {
             vec![refusal.number()]
         }
     }
+}
+
+/// Notes what a file to be turned has that is worth having tested.
+fn turn_features(tally: &mut Tally, way: Way, bytes: &[u8]) {
+    match turn::turn(way, bytes) {
+        Ok(turned) => {
+            tally.see("turned");
+            tally.see_if("N=0", bytes[4] == 0);
+            tally.see_if("longest file", bytes.len().max(turned.len()) == file::LONGEST);
+        }
+        Err(refusal) => {
+            tally.see(format!("refused {}", refusal.number()));
+            let other = [file::PLAIN, file::LED][usize::from(way == Way::Up)];
+            let wanted = bytes.len() >= 4 && bytes[2..4] == other.to_le_bytes();
+            tally.see_if("of the wanted form", wanted && file::decode(bytes).is_ok());
+            tally.see_if("of the wanted form, damaged", wanted && file::decode(bytes).is_err());
+            // A leader is set in a segment that is in order, and something else is wrong behind it.
+            let led = way == Way::Down && !wanted && refusal.number() < 15 && leader_in_front(bytes);
+            tally.see_if("damaged behind a leader", led);
+        }
+    }
+}
+
+/// Whether the records of a file in the form with leaders, up to the first that
+/// is not whole, have a segment with a leader.
+fn leader_in_front(bytes: &[u8]) -> bool {
+    let mut rest = bytes;
+    while rest.len() >= 4 {
+        let length = usize::from(u16::from_le_bytes([rest[0], rest[1]]));
+        let Some(payload) = rest.get(4..4 + length) else { return false };
+        if rest[2..4] == [6, 0] && payload.last().is_some_and(|&leader| leader > 0) {
+            return true;
+        }
+        rest = &rest[4 + length..];
+    }
+    false
 }
 
 /// What `vectors` prints for a list of calls.

@@ -6,14 +6,14 @@
 
 use reference::refusal::Refusal;
 use reference::unit::Unit;
-use reference::{calls, console, file, frames, listing, options::Given, page, rating};
+use reference::{calls, console, file, frames, listing, options::Given, page, rating, turn};
 use std::panic::{catch_unwind, AssertUnwindSafe};
 use std::path::Path;
 use std::process::ExitCode;
 use std::sync::atomic::{AtomicUsize, Ordering};
 use std::{fs, io};
 
-const USAGE: &str = "usage: stored --crates DIR --computed FILE --work DIR\n";
+const USAGE: &str = "usage: stored --crates DIR --computed FILE --turned FILE --work DIR\n";
 
 static PANICS: AtomicUsize = AtomicUsize::new(0);
 
@@ -41,7 +41,7 @@ fn main() -> ExitCode {
 }
 
 fn first_different(arguments: &[String]) -> Result<Option<String>, String> {
-    let given = Given::read(arguments, &["crates", "computed", "work"])?;
+    let given = Given::read(arguments, &["crates", "computed", "turned", "work"])?;
     let (crates, work) = (Path::new(given.needed("crates")?), Path::new(given.needed("work")?));
     let error = |error: io::Error| error.to_string();
     let read = |name: &str| fs::read(crates.join(name)).map_err(error);
@@ -56,6 +56,14 @@ fn first_different(arguments: &[String]) -> Result<Option<String>, String> {
     let worked = [answer(|| page::answer(&file))];
     if let Some(at) = differs(worked, &[text(&read("page/stdout")?)]) {
         return Ok(Some(format!("page {at}")));
+    }
+
+    for (name, way) in [("up", turn::Way::Up), ("down", turn::Way::Down)] {
+        let file = read(&format!("{name}/stdin"))?;
+        let worked = [answer(|| hex(&turn::answer(way, &file)))];
+        if let Some(at) = differs(worked, &[hex(&read(&format!("{name}/stdout"))?)]) {
+            return Ok(Some(format!("{name} {at}")));
+        }
     }
 
     let lists = split(&read("vectors/stdin")?);
@@ -80,6 +88,13 @@ fn first_different(arguments: &[String]) -> Result<Option<String>, String> {
     if let Some(worked) = worked {
         if let Some(at) = differs(by_line(&worked).into_iter().map(Some), &by_line(&text(&read("panel/stdout")?))) {
             return Ok(Some(format!("line {at} of panel")));
+        }
+    }
+
+    let cases = turn::cases(&fs::read_to_string(given.needed("turned")?).map_err(error)?)?;
+    for (line, way, file, stored) in cases {
+        if differs([answer(|| hex(&turn::answer(way, &file)))], &[hex(&stored)]).is_some() {
+            return Ok(Some(format!("line {line} of turned.txt")));
         }
     }
 
