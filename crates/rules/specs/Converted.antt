@@ -45,14 +45,12 @@ cardLed = set cardUp 84 1
 abbrev pub cardOnceMore : List ℕ
 cardOnceMore = set (take 85 cardLed ++ set (drop 69 cardLed) 15 0) 4 3
 
--- the card; what is down already, as it is and cut off; a leader, and the same where the last record is cut short, has another kind or another
--- length, and where a byte follows; a leader that is the segment itself
+-- the card; what is down already, as it is and cut off; a leader, and the same where the last record has another kind, and where a byte follows; a
+-- leader that is the segment itself; a leader between two segments that have none
 pub downs :
     map downRefusal
-    (cardUp ∷ card ∷ take 4 card
-    ∷ cardLed ∷ take 88 cardLed ∷ set cardLed 87 6 ∷ set cardLed 85 1 ∷ (cardLed ++ 0 ∷ []) ∷ set cardLed 84 2
-    ∷ cardOnceMore ∷ [])
-    ≡ 0 ∷ 2 ∷ 2 ∷ 15 ∷ 1 ∷ 2 ∷ 3 ∷ 5 ∷ 4 ∷ 15 ∷ []
+    (cardUp ∷ card ∷ take 4 card ∷ cardLed ∷ set cardLed 87 6 ∷ (cardLed ++ 0 ∷ []) ∷ set cardLed 84 2 ∷ cardOnceMore ∷ [])
+    ≡ 0 ∷ 2 ∷ 2 ∷ 15 ∷ 2 ∷ 5 ∷ 4 ∷ 15 ∷ []
 unfolding resultOf downRefusal
 downs = refl
 

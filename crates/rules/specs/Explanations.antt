@@ -1,14 +1,11 @@
--- Reasons, computed from these rules: two districts whose answers take an order among the reasons and firsts among numbers, and the card's. What
--- each comes to is an independent program's (reference/); crates/worked has two in which each but the sixth comes up. All indexes are 100, so that
--- a percent is what survives; a segment has an area of 100, so that a requirement of 1,000 uses one unit.
+-- Reasons, computed from these rules: two districts whose answers take an order among the reasons and firsts among numbers. What each comes to is
+-- an independent program's (reference/); crates/worked has two in which each but the sixth comes up, and the card's. All indexes are 100, so that a
+-- percent is what survives; a segment has an area of 100, so that a requirement of 1,000 uses one unit.
 use mathlib.Core.Path.{refl}
 use mathlib.Core.List.{List, [], _∷_}
 use lib.IntN.{pos}
-use Rattle.rules.specs.Lists.{Load, Alter}
-use Rattle.rules.specs.declared.Edit.the-variants.{Bar, SetLimit}
-use Rattle.rules.specs.Writer.{Roads, strategy, nothingDemanded, segment, fileOf}
+use Rattle.rules.specs.Writer.{Roads, strategy, nothingDemanded, segment, districtOf}
 use Rattle.rules.specs.Results.{whys, inRow, resultOf, WorkedCase, _⇒_, Agree}
-use Rattle.rules.specs.Marked.{card}
 
 -- demands decide: both distress types miss a minimum, the first in two years and the second in an earlier one; one that is barred misses too;
 -- one of no benefit misses the overall requirement
@@ -51,15 +48,10 @@ passing =
 
 abbrev pub explanations : List WorkedCase
 explanations =
-    whys (Load (fileOf missing) ∷ []) ⇒ inRow ((3 ∷ 1 ∷ 2 ∷ []) ∷ (2 ∷ []) ∷ (1 ∷ []) ∷ (4 ∷ []) ∷ [])
+    whys (districtOf missing) ⇒ inRow ((3 ∷ 1 ∷ 2 ∷ []) ∷ (2 ∷ []) ∷ (1 ∷ []) ∷ (4 ∷ []) ∷ [])
     -- both segments have strategy 1
-    ∷ whys (Load (fileOf passing) ∷ [])
+    ∷ whys (districtOf passing)
     ⇒ inRow ((1 ∷ []) ∷ (8 ∷ 1 ∷ []) ∷ (7 ∷ 2 ∷ []) ∷ (9 ∷ []) ∷ (1 ∷ []) ∷ (8 ∷ 1 ∷ []) ∷ (7 ∷ 2 ∷ []) ∷ (9 ∷ []) ∷ [])
-    -- the card: segments of two sizes, and with limit 59 one that has nothing
-    ∷ whys (Load card ∷ []) ⇒ inRow ((9 ∷ []) ∷ (1 ∷ []) ∷ (1 ∷ []) ∷ (8 ∷ 1 ∷ []) ∷ [])
-    ∷ whys (Load card ∷ Alter (SetLimit 1 59) ∷ []) ⇒ inRow ((8 ∷ 1 ∷ []) ∷ (7 ∷ 1 ∷ []) ∷ (1 ∷ []) ∷ (7 ∷ 1 ∷ []) ∷ [])
-    -- barred after the load
-    ∷ whys (Load card ∷ Alter (Bar 1 1) ∷ []) ⇒ inRow ((2 ∷ []) ∷ (1 ∷ []) ∷ (1 ∷ []) ∷ (8 ∷ 1 ∷ []) ∷ [])
     ∷ []
 
 pub explained : Agree explanations

@@ -12,9 +12,8 @@ use Rattle.rules.specs.District.{District}
 use Rattle.rules.specs.Rating.{candidate, withinLimits, totalOf}
 use Rattle.rules.specs.Phases.{strategyAt}
 use Rattle.rules.specs.Plan.{planOf}
-use Rattle.rules.specs.Calls.{districtIn}
 use Rattle.rules.specs.Demands.{permittedAt, allPermitted, Feasible, leadersRespected, leaderWorth, leadersWorth, Rival, Sound, strategyIn}
-use Rattle.rules.specs.Writer.{Roads, minus, strategy, nothingDemanded, segment, barring, fileOf, fileWithLeaders}
+use Rattle.rules.specs.Writer.{Roads, minus, strategy, nothingDemanded, segment, barring, districtOf, districtWithLeaders}
 use Rattle.rules.specs.Results.{resultOf}
 use Rattle.rules.specs.declared.Programme.{Programme}
 
@@ -40,7 +39,7 @@ threeBenefits =
     }
 
 abbrev pub district : District
-district = districtIn (fileOf threeBenefits)
+district = districtOf threeBenefits
 
 -- strategy 2 on segment 1 and strategy 3 on segment 2
 abbrev pub harmful : ℕ → ℕ
@@ -83,7 +82,7 @@ oneLeads =
     }
 
 abbrev pub led : District
-led = districtIn (fileWithLeaders oneLeads (0 ∷ 1 ∷ []))
+led = districtWithLeaders oneLeads (0 ∷ 1 ∷ [])
 
 -- the programme shown; then segment 2 without its leader; a leader of no benefit, and of one below 0; and a segment that leads none with such a
 -- strategy

@@ -8,10 +8,10 @@ use Prim.Native.Nat.{ℕ}
 use mathlib.Core.Path.{refl}
 use mathlib.Core.List.{List, [], _∷_}
 use lib.IntN.{pos}
-use Rattle.rules.specs.Lists.{Load, Alter}
-use Rattle.rules.specs.declared.Edit.the-variants.{SetRating}
-use Rattle.rules.specs.Writer.{Roads, minus, strategy, nothingDemanded, segment, barring, fileOf}
-use Rattle.rules.specs.Results.{shown, initialRating, ratings, effects, planned, shows, resultOf, WorkedCase, _⇒_, Agree}
+use Rattle.rules.specs.District.{District, withRating}
+use Rattle.rules.specs.Calls.{districtIn}
+use Rattle.rules.specs.Writer.{Roads, minus, strategy, nothingDemanded, segment, barring, districtOf}
+use Rattle.rules.specs.Results.{Shown, InitialRating, Ratings, Effect, given, planned, shows, resultOf, WorkedCase, _⇒_, Agree}
 use Rattle.rules.specs.Marked.{card, oneSegment}
 
 -- steps, a pick-up and changes, with a strategy barred
@@ -219,9 +219,9 @@ equalCeilings =
           ∷ [];
     }
 
--- a loss that is less in each year
-abbrev pub fogSeal : List ℕ
-fogSeal = fileOf (oneSegment 100 (minus 6) (90 ∷ 50 ∷ 0 ∷ []))
+-- a loss that is less in each year, at rating 2
+abbrev pub fogSeal : District
+fogSeal = withRating (districtOf (oneSegment 100 (minus 6) (90 ∷ 50 ∷ 0 ∷ []))) 1 1 2
 
 -- one gain cut at the greatest rating, 9 to 5, and one at 0, −6 to −2; without the second cut the strategy does harm, and nothing is taken
 abbrev pub bothCuts : Roads
@@ -314,11 +314,11 @@ oddTypes =
 abbrev pub furtherCases : List WorkedCase
 furtherCases =
     -- M9 with a second year
-    effects (Load (fileOf (oneSegment 101 (pos 1) (90 ∷ 90 ∷ []))) ∷ []) ⇒ (pos 184 ∷ [])
+    given Effect (districtOf (oneSegment 101 (pos 1) (90 ∷ 90 ∷ []))) ⇒ (pos 184 ∷ [])
     -- rating 5 and gain 15 in year 0, whatever the indexes and percents
-    ∷ initialRating (Load (fileOf (oneSegment 1_000 (pos 15) (0 ∷ []))) ∷ []) ⇒ (pos 20_000_000 ∷ [])
+    ∷ given InitialRating (districtOf (oneSegment 1_000 (pos 15) (0 ∷ []))) ⇒ (pos 20_000_000 ∷ [])
     -- segment 2 has the greater benefit and the smaller ratio
-    ∷ shown (Load card ∷ Alter (SetRating 2 1 9) ∷ []) ⇒ shows (2 ∷ 1 ∷ []) 8_250_000 8_250_000 10_014_076 1 0 0
+    ∷ given Shown (withRating (districtIn card) 2 1 9) ⇒ shows (2 ∷ 1 ∷ []) 8_250_000 8_250_000 10_014_076 1 0 0
     ∷ planned fourSegments ⇒ shows (1 ∷ 2 ∷ 0 ∷ 1 ∷ []) 111_572_863 38_908_450 127_252_761 3 1 2
     ∷ planned tiedSegments ⇒ shows (3 ∷ 0 ∷ 2 ∷ 3 ∷ []) 4_820_000 3_960_000 5_551_230 8 1 2
     ∷ planned twoLimits ⇒ shows (1 ∷ 1 ∷ 0 ∷ []) 2_240_000 2_240_000 2_993_508 2 1 0
@@ -332,17 +332,17 @@ furtherCases =
     ∷ planned equalCeilings ⇒ shows (2 ∷ 0 ∷ []) 27_000 6_000 30_000 1 0 1
     -- document 02, request 1: rating 2 and gain −6. The whole rating is lost at first and no more, nine tenths of it in year 1, half in year 2 and
     -- nothing in year 3. Without the cut it comes to −4, and −3.4, −1 and 2.
-    ∷ initialRating (Load fogSeal ∷ Alter (SetRating 1 1 2) ∷ []) ⇒ (pos 0 ∷ [])
-    ∷ ratings (Load fogSeal ∷ Alter (SetRating 1 1 2) ∷ []) ⇒ (pos 200_000 ∷ pos 1_000_000 ∷ pos 2_000_000 ∷ [])
-    ∷ effects (Load fogSeal ∷ Alter (SetRating 1 1 2) ∷ []) ⇒ (minus 380 ∷ [])
+    ∷ given InitialRating fogSeal ⇒ (pos 0 ∷ [])
+    ∷ given Ratings fogSeal ⇒ (pos 200_000 ∷ pos 1_000_000 ∷ pos 2_000_000 ∷ [])
+    ∷ given Effect fogSeal ⇒ (minus 380 ∷ [])
     ∷ planned bothCuts ⇒ shows (1 ∷ []) 620_000 620_000 620_000 0 0 0
     ∷ planned cutDecides ⇒ shows (2 ∷ 2 ∷ []) 2_840_000 2_840_000 2_840_000 0 0 0
     -- document 02, request 5: the years of M7 count 95, 80, 55 and 20 percent
-    ∷ effects (Load (fileOf (oneSegment 100 (pos 15) (90 ∷ 70 ∷ 40 ∷ 0 ∷ []))) ∷ []) ⇒ (pos 3_750 ∷ [])
+    ∷ given Effect (districtOf (oneSegment 100 (pos 15) (90 ∷ 70 ∷ 40 ∷ 0 ∷ []))) ⇒ (pos 3_750 ∷ [])
     -- two years whose ends have an odd sum, in millionths: halved year by year it comes to 174
-    ∷ effects (Load (fileOf (oneSegment 125 (pos 1) (99 ∷ 70 ∷ []))) ∷ []) ⇒ (pos 175 ∷ [])
+    ∷ given Effect (districtOf (oneSegment 125 (pos 1) (99 ∷ 70 ∷ []))) ⇒ (pos 175 ∷ [])
     -- two distress types whose sums are odd: halved type by type it comes to 174
-    ∷ effects (Load (fileOf oddTypes) ∷ []) ⇒ (pos 175 ∷ [])
+    ∷ given Effect (districtOf oddTypes) ⇒ (pos 175 ∷ [])
     ∷ planned endsDecide ⇒ shows (1 ∷ 2 ∷ 0 ∷ []) 5_800_000 5_800_000 5_800_000 0 0 0
     ∷ planned evenedOut ⇒ shows (0 ∷ []) 0 0 0 0 0 0
     ∷ []

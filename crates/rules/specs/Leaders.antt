@@ -6,13 +6,12 @@ use mathlib.Core.Bool.{true, false}
 use mathlib.Core.List.{List, [], _∷_, map}
 use lib.ListN.{set}
 use lib.IntN.{pos}
-use Rattle.rules.specs.Calls.{leaderRefusal, loadRefusal, districtIn}
+use Rattle.rules.specs.Calls.{leaderRefusal, loadRefusal, edited}
 use Rattle.rules.specs.File.{encode}
 use Rattle.rules.specs.Demands.{ledByNone}
-use Rattle.rules.specs.Lists.{Load, Alter, districtAfter}
 use Rattle.rules.specs.declared.Edit.the-variants.{SetLeader}
-use Rattle.rules.specs.Writer.{Strategy, Roads, strategy, nothingDemanded, segment, barring, fileOf, fileWithLeaders}
-use Rattle.rules.specs.Results.{Case, shown, shows, whys, inRow, resultOf, WorkedCase, _⇒_, Agree}
+use Rattle.rules.specs.Writer.{Strategy, Roads, strategy, nothingDemanded, segment, barring, fileOf, fileWithLeaders, districtWithLeaders, districtOf}
+use Rattle.rules.specs.Results.{Shown, Case, given, shows, whys, inRow, resultOf, WorkedCase, _⇒_, Agree}
 
 -- segments of an area of 100, with what is barred on each
 abbrev roads : ℕ → List Strategy → List (List ℕ) → Roads
@@ -27,7 +26,7 @@ roads limit strategies bars =
     }
 
 abbrev led : Roads → List ℕ → Case
-led d leaders = shown (Load (fileWithLeaders d leaders) ∷ [])
+led d leaders = given Shown (districtWithLeaders d leaders)
 
 -- segment 1 has no candidate, so that segments 2 and 3, one behind the other, start with nothing
 abbrev pub atStart : Roads
@@ -71,11 +70,9 @@ leaderCases =
     ∷ led (kept (1 ∷ 3 ∷ [])) (0 ∷ 1 ∷ 0 ∷ []) ⇒ shows (1 ∷ 2 ∷ 0 ∷ []) 220_000 220_000 239_182 1 0 0
     ∷ led (kept (1 ∷ 2 ∷ 3 ∷ [])) (0 ∷ 1 ∷ 0 ∷ []) ⇒ shows (0 ∷ 0 ∷ 3 ∷ []) 210_000 200_000 238_341 1 0 1
     ∷ led steppedOn (0 ∷ 1 ∷ []) ⇒ shows (2 ∷ 3 ∷ []) 450_000 450_000 476_000 1 0 0
-    -- the same by the call
-    ∷ shown (Load (fileOf together) ∷ Alter (SetLeader 2 1) ∷ []) ⇒ shows (2 ∷ 3 ∷ []) 450_000 400_000 450_000 1 0 1
     -- the reason stands behind that of no benefit, and before those of limits
-    ∷ whys (Load (fileWithLeaders withoutLeader (0 ∷ 1 ∷ [])) ∷ []) ⇒ inRow ((2 ∷ []) ∷ (2 ∷ []) ∷ (2 ∷ []) ∷ (6 ∷ []) ∷ (5 ∷ []) ∷ (6 ∷ []) ∷ [])
-    ∷ whys (Load (fileWithLeaders steppedOn (0 ∷ 1 ∷ [])) ∷ []) ⇒ inRow ((8 ∷ 1 ∷ []) ∷ (1 ∷ []) ∷ (2 ∷ []) ∷ (8 ∷ 1 ∷ []) ∷ (9 ∷ []) ∷ (1 ∷ []) ∷ [])
+    ∷ whys (districtWithLeaders withoutLeader (0 ∷ 1 ∷ [])) ⇒ inRow ((2 ∷ []) ∷ (2 ∷ []) ∷ (2 ∷ []) ∷ (6 ∷ []) ∷ (5 ∷ []) ∷ (6 ∷ []) ∷ [])
+    ∷ whys (districtWithLeaders steppedOn (0 ∷ 1 ∷ [])) ⇒ inRow ((8 ∷ 1 ∷ []) ∷ (1 ∷ []) ∷ (2 ∷ []) ∷ (8 ∷ 1 ∷ []) ∷ (9 ∷ []) ∷ (1 ∷ []) ∷ [])
     ∷ []
 
 pub leaders : Agree leaderCases
@@ -84,33 +81,39 @@ leaders = refl
 
 -- ---- the file
 
+-- two segments
+abbrev pub oneBehind : Roads
+oneBehind = roads 20 (strategy (20000 ∷ []) (pos 40) 100 ∷ []) ([] ∷ (1 ∷ []) ∷ [])
+
 -- leaders of segment 1 and of segment 2, each behind its record
 abbrev pub ledFile : ℕ → ℕ → List ℕ
-ledFile first second = fileWithLeaders together (first ∷ second ∷ [])
+ledFile first second = fileWithLeaders oneBehind (first ∷ second ∷ [])
 
 -- none, one, a segment's own number, a higher one; then either form with the other's first kind, and kinds that name no form
 pub loads :
     map loadRefusal
     (ledFile 0 0 ∷ ledFile 0 1 ∷ ledFile 1 0 ∷ ledFile 0 2 ∷ ledFile 0 255
-    ∷ set (ledFile 0 1) 2 1 ∷ set (fileOf together) 2 8 ∷ set (ledFile 0 1) 2 9 ∷ set (ledFile 0 1) 3 1
+    ∷ set (ledFile 0 1) 2 1 ∷ set (fileOf oneBehind) 2 8 ∷ set (ledFile 0 1) 2 9 ∷ set (ledFile 0 1) 3 1
     ∷ [])
     ≡ 0 ∷ 0 ∷ 4 ∷ 4 ∷ 4 ∷ 3 ∷ 3 ∷ 2 ∷ 2 ∷ []
 unfolding resultOf
 loads = refl
 
--- with a leader the file comes back; without one it comes back in the other form, also where a call took the leader away
+-- the file has room for leaders where one is set, and else none
 pub exports :
-    encode (districtIn (ledFile 0 1)) ∷ encode (districtIn (ledFile 0 0)) ∷ encode (districtAfter (Load (ledFile 0 1) ∷ Alter (SetLeader 2 0) ∷ [])) ∷ []
-    ≡ ledFile 0 1 ∷ fileOf together ∷ fileOf together ∷ []
+    encode (districtWithLeaders oneBehind (0 ∷ 1 ∷ [])) ∷ encode (districtOf oneBehind) ∷ []
+    ≡ ledFile 0 1 ∷ fileOf oneBehind ∷ []
 unfolding resultOf
 exports = refl
 
 -- what is not promised byte for byte is a file with room for leaders that sets none, and no other
-pub excepted : map ledByNone (fileOf together ∷ ledFile 0 0 ∷ ledFile 0 1 ∷ []) ≡ false ∷ true ∷ false ∷ []
+pub excepted : map ledByNone (fileOf oneBehind ∷ ledFile 0 0 ∷ ledFile 0 1 ∷ []) ≡ false ∷ true ∷ false ∷ []
 unfolding resultOf
 excepted = refl
 
--- ---- the call, in a district of two segments: no leader and a lower number go; the own number and higher ones do not; 6 comes first
+-- ---- the call
+
+-- in a district of two segments: no leader and a lower number go; the own number and higher ones do not; 6 comes first
 abbrev pub setLeaders : List ℕ → List ℕ
 setLeaders d =
     leaderRefusal d 1 0 ∷ leaderRefusal d 2 0 ∷ leaderRefusal d 2 1
@@ -118,6 +121,13 @@ setLeaders d =
     ∷ leaderRefusal d 0 0 ∷ leaderRefusal d 3 1 ∷ leaderRefusal d 3 3
     ∷ []
 
-pub calls : setLeaders (districtIn (fileOf together)) ≡ 0 ∷ 0 ∷ 0 ∷ 14 ∷ 14 ∷ 14 ∷ 14 ∷ 6 ∷ 6 ∷ 6 ∷ []
+pub calls : setLeaders (districtOf oneBehind) ≡ 0 ∷ 0 ∷ 0 ∷ 14 ∷ 14 ∷ 14 ∷ 14 ∷ 6 ∷ 6 ∷ 6 ∷ []
 unfolding resultOf
 calls = refl
+
+-- a leader set, and taken away again
+pub altered :
+    edited (districtOf oneBehind) (SetLeader 2 1) ∷ edited (districtWithLeaders oneBehind (0 ∷ 1 ∷ [])) (SetLeader 2 0) ∷ []
+    ≡ districtWithLeaders oneBehind (0 ∷ 1 ∷ []) ∷ districtOf oneBehind ∷ []
+unfolding resultOf
+altered = refl

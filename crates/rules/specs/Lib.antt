@@ -18,6 +18,7 @@ pub mod Offices
 pub mod Demands
 pub mod Writer
 pub mod Results
+pub mod Written
 pub mod Marked
 pub mod Further
 pub mod Refusals

@@ -7,9 +7,8 @@ use lib.ListN.{replicate}
 use lib.IntN.{pos}
 use Rattle.base.specs.Text.{text}
 use Rattle.rules.specs.Calls.{freshUnit, Export, pageOf}
-use Rattle.rules.specs.Lists.{Load}
-use Rattle.rules.specs.Writer.{Roads, strategy, nothingDemanded, segment, barring, fileOf}
-use Rattle.rules.specs.Results.{paged, printed, resultOf, WorkedCase, _⇒_, Agree}
+use Rattle.rules.specs.Writer.{Roads, strategy, nothingDemanded, segment, barring, districtOf}
+use Rattle.rules.specs.Results.{Paged, given, printed, resultOf, WorkedCase, _⇒_, Agree}
 use Rattle.rules.specs.declared.Answer.the-variants.{Accepted, Refused}
 
 abbrev pub headingLine : String
@@ -38,7 +37,7 @@ fiveResources =
 
 abbrev pub pages : List WorkedCase
 pages =
-    paged (Load (fileOf fiveResources) ∷ [])
+    given Paged (districtOf fiveResources)
     ⇒ printed
     (headingLine
     ∷ " 1 10.00   3  2        2400000        30         1         8         0          "

@@ -4,9 +4,9 @@ use mathlib.Core.Path.{_≡_, refl}
 use mathlib.Core.List.{List, [], _∷_, _++_, map}
 use lib.ListN.{take, set, replicate}
 use Rattle.rules.specs.Calls.{barRefusal, limitRefusal, ratingRefusal, exportRefusal, pageRefusal, loadRefusal, districtIn, exportOf}
-use Rattle.rules.specs.Lists.{Load, Alter, ExportTo, PageTo, Show, AskWhy, refusalOf, unitAfter}
+use Rattle.rules.specs.Lists.{Load, Alter, ExportTo, PageTo, Show, AskWhy, refusalOf}
 use Rattle.rules.specs.declared.Edit.the-variants.{Bar, Unbar, SetLimit, SetRating}
-use Rattle.rules.specs.Results.{shown, shows, whyIn, resultOf, WorkedCase, _⇒_, Agree}
+use Rattle.rules.specs.Results.{shown, holding, shows, whyIn, resultOf, WorkedCase, _⇒_, Agree}
 use Rattle.rules.specs.Marked.{card}
 use Rattle.rules.specs.declared.Unit.{Unit}
 use Rattle.rules.specs.declared.Answer.the-variants.{Accepted}
@@ -85,7 +85,7 @@ calls = refl
 abbrev pub questions : Unit → List ℕ
 questions u = whyIn u 3 3 ++ whyIn u 0 1 ++ whyIn u 2 3 ++ whyIn u 2 0
 
-pub asked : questions (unitAfter (Load card ∷ [])) ≡ 0 ∷ 6 ∷ 0 ∷ 6 ∷ 0 ∷ 7 ∷ 0 ∷ 7 ∷ []
+pub asked : questions (holding (districtIn card)) ≡ 0 ∷ 6 ∷ 0 ∷ 6 ∷ 0 ∷ 7 ∷ 0 ∷ 7 ∷ []
 unfolding resultOf
 asked = refl
 
@@ -93,14 +93,12 @@ asked = refl
 
 abbrev pub lists : List WorkedCase
 lists =
-    -- barred twice; barred and unbarred, and unbarred what is not barred
-    shown (Load card ∷ Alter (Bar 2 2) ∷ Alter (Bar 2 2) ∷ []) ⇒ shows (2 ∷ 1 ∷ []) 8_250_000 8_250_000 8_250_000 0 0 0
-    ∷ shown (Load card ∷ Alter (Unbar 1 1) ∷ Alter (Bar 2 2) ∷ Alter (Unbar 2 2) ∷ Alter (Unbar 2 2) ∷ []) ⇒ shows (2 ∷ 1 ∷ []) 8_250_000 8_250_000 8_438_555 1 0 0
-    -- refused calls in between; export, page, show and why
-    ∷ shown (Load card ∷ Load [] ∷ Alter (Bar 3 1) ∷ Alter (SetLimit 2 0) ∷ Alter (SetLimit 1 1_000_000_000) ∷ Alter (SetRating 1 1 21) ∷ Alter (Unbar 1 3) ∷ ExportTo [] ∷ PageTo [] ∷ Show ∷ AskWhy 3 1 ∷ AskWhy 1 1 ∷ [])
+    -- refused calls in between, and what is barred and unbarred again; export, page, show and why
+    shown (Load card ∷ Load [] ∷ Alter (Bar 3 1) ∷ Alter (SetLimit 2 0) ∷ Alter (SetLimit 1 1_000_000_000) ∷ Alter (SetRating 1 1 21) ∷ Alter (Unbar 1 3) ∷ Alter (Bar 2 2) ∷ Alter (Unbar 2 2) ∷ ExportTo [] ∷ PageTo [] ∷ Show ∷ AskWhy 3 1 ∷ AskWhy 1 1 ∷ [])
     ⇒ shows (2 ∷ 1 ∷ []) 8_250_000 8_250_000 8_438_555 1 0 0
-    -- loaded again; nothing but refused calls
-    ∷ shown (Load card ∷ Alter (SetLimit 1 0) ∷ Load card ∷ []) ⇒ shows (2 ∷ 1 ∷ []) 8_250_000 8_250_000 8_438_555 1 0 0
+    -- loaded again, unbarred what is not barred, and barred twice; nothing but refused calls
+    ∷ shown (Load card ∷ Alter (SetLimit 1 0) ∷ Load card ∷ Alter (Unbar 1 1) ∷ Alter (Bar 2 2) ∷ Alter (Bar 2 2) ∷ [])
+    ⇒ shows (2 ∷ 1 ∷ []) 8_250_000 8_250_000 8_250_000 0 0 0
     ∷ shown (Load [] ∷ Alter (Bar 1 1) ∷ []) ⇒ shows [] 0 0 0 0 0 0
     ∷ []
 
@@ -109,6 +107,6 @@ unfolding resultOf
 in-a-row = refl
 
 -- three bytes are left over, and keep what they held
-pub buffer : exportOf (unitAfter (Load card ∷ [])) (replicate 90 255) ≡ record { answer = Accepted 87; buffer = card ++ 255 ∷ 255 ∷ 255 ∷ [] }
+pub buffer : exportOf (holding (districtIn card)) (replicate 90 255) ≡ record { answer = Accepted 87; buffer = card ++ 255 ∷ 255 ∷ 255 ∷ [] }
 unfolding resultOf
 buffer = refl

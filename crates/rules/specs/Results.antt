@@ -31,20 +31,43 @@ use Rattle.rules.specs.Survey
 use Rattle.rules.specs.Lists
 use Rattle.rules.specs.Writer
 
--- after the calls: what is shown, the page, why for each strategy of each segment, or what segment 1 comes to under strategy 1 for distress 1:
--- its rating in year 0; ratings, and survivals, in years 1 to T; the effect
-pub data Case : Type 0 where
-  shown : List Lists.Call → Case
-  paged : List Lists.Call → Case
-  initialRating : List Lists.Call → Case
-  ratings : List Lists.Call → Case
-  survivals : List Lists.Call → Case
-  effects : List Lists.Call → Case
-  whys : List Lists.Call → Case
+-- what is shown, the page, why for each strategy of each segment, or what segment 1 comes to under strategy 1 for distress 1: its rating in year
+-- 0; ratings, and survivals, in years 1 to T; the effect
+pub data Question : Type 0 where
+  Shown : Question
+  Paged : Question
+  Whys : Question
+  InitialRating : Question
+  Ratings : Question
+  Survivals : Question
+  Effect : Question
 
--- the district that is loaded, shown
+pub record Case : Type 0 where
+  pub question : Question
+  pub unit : Unit
+
+-- asked after calls on a fresh unit
+abbrev pub after : Question → List Lists.Call → Case
+after q cs = record { question = q; unit = Lists.unitAfter cs }
+
+abbrev pub shown : List Lists.Call → Case
+shown cs = after Shown cs
+
+abbrev pub paged : List Lists.Call → Case
+paged cs = after Paged cs
+
+-- asked without a call of a unit that holds a district in the file's ranges, with the plan for it
+unfoldable pub holding : District.District → Unit
+holding d = record { district = d; programme = Plan.programmeOf (Table.tableOf d) (District.leaderOf d) }
+
+abbrev pub given : Question → District.District → Case
+given q d = record { question = q; unit = holding d }
+
 abbrev pub planned : Writer.Roads → Case
-planned d = shown (Lists.Load (Writer.fileOf d) ∷ [])
+planned d = given Shown (Writer.districtOf d)
+
+abbrev pub whys : District.District → Case
+whys d = given Whys d
 
 -- what is shown: a strategy for each segment; total, total after phase 2, ceiling; steps, pick-ups, changes
 abbrev pub shows : List ℕ → ℕ → ℕ → ℕ → ℕ → ℕ → ℕ → List ℤ
@@ -72,32 +95,29 @@ answeredIn u i j (Refused n) = 0 ∷ n ∷ []
 unfoldable pub whyIn : Unit → ℕ → ℕ → List ℕ
 whyIn u i j = answeredIn u i j (Calls.whyOf u i j)
 
--- of segment i
-unfoldable pub whysIn : Unit → ℕ → List ℕ
-whysIn u i = Writer.each (λ row. row) (Over.listed (District.strategiesOf (u .district)) (whyIn u i))
+-- the same where nothing refuses the question and the district is in the file's ranges
+unfoldable pub reasonIn : Unit → ℕ → ℕ → List ℕ
+reasonIn u i j = answeredIn u i j (Because (Reasons.orLast (Reasons.hindrance (u .district) (u .programme .strategies) i j)))
 
-unfoldable pub resultIn : Case → Unit → List ℤ
-resultIn (shown cs) u = shownBy (District.segmentsOf (u .district)) (Calls.showOf u)
-resultIn (paged cs) u = map (λ b. pos b) (Page.page (u .district) (Calls.showOf u))
-resultIn (initialRating cs) u = Rating.rating (u .district) 1 1 1 0 ∷ []
-resultIn (ratings cs) u = Over.listed (District.yearsOf (u .district)) (Rating.rating (u .district) 1 1 1)
-resultIn (survivals cs) u = Over.listed (District.yearsOf (u .district)) (λ t. pos (Rating.survival (u .district) 1 1 1 t))
-resultIn (effects cs) u = Rating.effect (u .district) 1 1 ∷ []
-resultIn (whys cs) u = inRow (Over.listed (District.segmentsOf (u .district)) (whysIn u))
+-- for each strategy of each segment, in a row
+unfoldable pub forEach : Unit → (ℕ → ℕ → List ℕ) → List ℤ
+forEach u f =
+    inRow (Over.listed (District.segmentsOf (u .district))
+    (λ i. Writer.each (λ row. row) (Over.listed (District.strategiesOf (u .district)) (f i))))
 
-unfoldable pub callsBefore : Case → List Lists.Call
-callsBefore (shown cs) = cs
-callsBefore (paged cs) = cs
-callsBefore (initialRating cs) = cs
-callsBefore (ratings cs) = cs
-callsBefore (survivals cs) = cs
-callsBefore (effects cs) = cs
-callsBefore (whys cs) = cs
+unfoldable pub resultIn : Question → Unit → List ℤ
+resultIn Shown u = shownBy (District.segmentsOf (u .district)) (Calls.showOf u)
+resultIn Paged u = map (λ b. pos b) (Page.page (u .district) (Calls.showOf u))
+resultIn Whys u = forEach u (reasonIn u)
+resultIn InitialRating u = Rating.rating (u .district) 1 1 1 0 ∷ []
+resultIn Ratings u = Over.listed (District.yearsOf (u .district)) (Rating.rating (u .district) 1 1 1)
+resultIn Survivals u = Over.listed (District.yearsOf (u .district)) (λ t. pos (Rating.survival (u .district) 1 1 1 t))
+resultIn Effect u = Rating.effect (u .district) 1 1 ∷ []
 
 unfoldable pub resultOf : Case → List ℤ
 unfolding
-    shownBy answeredIn whyIn whysIn resultIn callsBefore
-    Writer.fileOf Writer.fileWithLeaders
+    holding shownBy answeredIn whyIn reasonIn forEach resultIn
+    Writer.fileOf Writer.fileWithLeaders Writer.districtWithLeaders
     Bits.setBit Bits.clearBit
     Over.sum Over.sumZ Over.all Over.most Over.betterOf Over.best Over.minZ Over.maxZ Over.listedFrom
     Search.first Search.run
@@ -133,7 +153,7 @@ unfolding
     Calls.exported Calls.exportOf Calls.pageOf Calls.showOf Calls.explained Calls.whyOf
     Survey.deductPoints Survey.blockOf Survey.pointsOf Survey.surveyRefusal Survey.surveyOf
     Lists.refusalOf Lists.altered Lists.districtFrom Lists.districtAfter Lists.lentTo Lists.outcomeOf Lists.unitFrom Lists.unitAfter
-resultOf c = resultIn c (Lists.unitAfter (callsBefore c))
+resultOf c = resultIn (c .question) (c .unit)
 
 infix 70 _⇒_
 -- a case, and what it comes to as worked elsewhere

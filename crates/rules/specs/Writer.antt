@@ -1,9 +1,10 @@
--- A district by names, and its file byte for byte by document 01, "The district and its file". The computed cases are written so.
--- It does not go by Format and File, which are what the cases try.
-use Prim.Native.Nat.{ℕ, zero, suc, _+_, _-_, _/_, _%_, _^_}
-use mathlib.Core.List.{List, [], _∷_, _++_, foldr}
+-- A district by names, its file byte for byte by document 01, "The district and its file", and its numbers as a district holds them. The computed
+-- cases are written so. It does not go by Format and File, which are what the cases try.
+use Prim.Native.Nat.{ℕ, zero, suc, _+_, _-_, _*_, _/_, _%_, _^_}
+use mathlib.Core.List.{List, [], _∷_, _++_, map, foldr}
 use lib.ListN.{length, take, replicate}
 use lib.IntN.{ℤ, pos, negsuc}
+use Rattle.rules.specs.District.{District, mostSegments, mostStrategies, mostYears, mostDistresses, mostPavements, mostResources, perStrategy, perPavement, perSegment}
 
 -- Of a strategy, a pavement type and a segment, numbers at the end of a row that are 0 need not be written.
 
@@ -160,3 +161,40 @@ module _ (d : Roads) where
 
   unfoldable pub fileWithLeaders : List ℕ → List ℕ
   fileWithLeaders leaders = recordOf 8 countBytes ++ tableRecords ++ ledRecords (d .segments) leaders ++ recordOf 7 []
+
+-- ---- the numbers of the district, each at its place: for cases that are not about files. `Written` compares them with what the file loads as.
+
+abbrev pub rowPlaces : List (List ℕ) → List ℕ
+rowPlaces xs = each (filledUp 0 mostYears) (filledUp [] mostDistresses xs)
+
+abbrev pub strategyPlaces : Strategy → List ℕ
+strategyPlaces s =
+    filledUp 0 mostResources (s .requirements)
+    ++ filledUp 0 mostDistresses (map signedByte (s .gains))
+    ++ rowPlaces (s .percents)
+
+abbrev pub pavementPlaces : Pavement → List ℕ
+pavementPlaces p = p .overall ∷ rowPlaces (p .minima)
+
+abbrev pub segmentPlaces : Segment → ℕ → List ℕ
+segmentPlaces s leader =
+    s .pavement ∷ s .traffic ∷ s .environment ∷ s .length ∷ s .width ∷ mask (s .barred)
+    ∷ (filledUp 0 mostDistresses (s .ratings) ++ leader ∷ [])
+
+-- leaders at the end that are 0 need not be written
+abbrev pub ledPlaces : List Segment → List ℕ → List ℕ
+ledPlaces [] leaders = []
+ledPlaces (s ∷ ss) [] = segmentPlaces s 0 ++ ledPlaces ss []
+ledPlaces (s ∷ ss) (l ∷ ls) = segmentPlaces s l ++ ledPlaces ss ls
+
+unfoldable pub districtWithLeaders : Roads → List ℕ → District
+districtWithLeaders d leaders =
+    countBytes d
+    ++ filledUp 0 mostResources (d .limits)
+    ++ filledUp 0 mostDistresses (d .greatest)
+    ++ filledUp 0 (perStrategy * mostStrategies) (each strategyPlaces (d .strategies))
+    ++ filledUp 0 (perPavement * mostPavements) (each pavementPlaces (d .pavements))
+    ++ filledUp 0 (perSegment * mostSegments) (ledPlaces (d .segments) leaders)
+
+abbrev pub districtOf : Roads → District
+districtOf d = districtWithLeaders d []

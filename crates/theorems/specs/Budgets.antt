@@ -5,12 +5,12 @@ use mathlib.Core.Path.{_≡_, refl}
 use mathlib.Core.Bool.{Bool, true, false}
 use mathlib.Core.List.{List, [], _∷_, map}
 use lib.IntN.{pos}
+use Rattle.rules.specs.District.{District, freshDistrict, withLimit}
 use Rattle.rules.specs.Rating.{withinLimits, totalOf}
 use Rattle.rules.specs.Phases.{strategyAt}
 use Rattle.rules.specs.Demands.{permittedAt, allPermitted, Feasible, leadersRespected}
-use Rattle.rules.specs.Lists.{Call, Load, Alter, districtAfter}
-use Rattle.rules.specs.declared.Edit.the-variants.{SetLimit}
-use Rattle.rules.specs.Writer.{Roads, strategy, nothingDemanded, segment, barring, fileOf, fileWithLeaders}
+use Rattle.rules.specs.Calls.{districtIn}
+use Rattle.rules.specs.Writer.{Roads, strategy, nothingDemanded, segment, barring, districtWithLeaders, districtOf}
 use Rattle.rules.specs.Results.{planned, shows, resultOf, _⇒_, Agree}
 use Rattle.rules.specs.Marked.{card}
 use Rattle.rules.specs.Leaders.{atStart}
@@ -33,40 +33,40 @@ pub equal : Agree (planned oneOfTwo ⇒ shows (0 ∷ 1 ∷ []) 40_000 40_000 40_
 unfolding resultOf
 equal = refl
 
-abbrev pub bestFit : List Call → Bool
-bestFit cs = withinLimits (districtAfter cs) (bestCandidate (districtAfter cs))
+abbrev pub bestFit : District → Bool
+bestFit d = withinLimits d (bestCandidate d)
 
 -- without a segment, and without a candidate, nothing has to fit; M3's limit is just enough, M4's is not
 pub fitting :
     map bestFit
-    ([]
-    ∷ (Load card ∷ Alter (SetLimit 1 0) ∷ [])
-    ∷ (Load card ∷ Alter (SetLimit 1 180) ∷ [])
-    ∷ (Load card ∷ Alter (SetLimit 1 179) ∷ [])
-    ∷ (Load (fileOf oneOfTwo) ∷ [])
+    (freshDistrict
+    ∷ withLimit (districtIn card) 1 0
+    ∷ withLimit (districtIn card) 1 180
+    ∷ withLimit (districtIn card) 1 179
+    ∷ districtOf oneOfTwo
     ∷ [])
     ≡ true ∷ true ∷ true ∷ false ∷ false ∷ []
 unfolding resultOf moreBenefit bestCandidate
 fitting = refl
 
 -- so what is promised of M3 is that its two figures are equal, and no less
-pub in-m3 : (p : Programme) → AtCeiling (districtAfter (Load card ∷ Alter (SetLimit 1 180) ∷ [])) p → p .total ≡ p .ceiling
+pub in-m3 : (p : Programme) → AtCeiling (withLimit (districtIn card) 1 180) p → p .total ≡ p .ceiling
 unfolding resultOf moreBenefit bestCandidate leadersRespected
 in-m3 p good = good .equal refl refl
 
 -- a leader that has no candidate, with two behind it: the best candidates fit together, but do not respect leaders, and of the ceiling of 300,000
 -- the total, which `Leaders` computes, is 100,000
-abbrev pub led : List ℕ → List Bool
-led leaders =
-    let d = districtAfter (Load (fileWithLeaders atStart leaders) ∷ []) in
-    withinLimits d (bestCandidate d) ∷ leadersRespected d (bestCandidate d) ∷ []
+abbrev pub led : District → List Bool
+led d = withinLimits d (bestCandidate d) ∷ leadersRespected d (bestCandidate d) ∷ []
 
-pub leading : map led ((0 ∷ 1 ∷ 2 ∷ 0 ∷ []) ∷ (0 ∷ 0 ∷ 2 ∷ 3 ∷ []) ∷ []) ≡ (true ∷ false ∷ []) ∷ (true ∷ true ∷ []) ∷ []
+pub leading :
+    map led (districtWithLeaders atStart (0 ∷ 1 ∷ 2 ∷ 0 ∷ []) ∷ districtWithLeaders atStart (0 ∷ 0 ∷ 2 ∷ 3 ∷ []) ∷ [])
+    ≡ (true ∷ false ∷ []) ∷ (true ∷ true ∷ []) ∷ []
 unfolding resultOf moreBenefit bestCandidate leadersRespected
 leading = refl
 
 -- so where all leaders have candidates the promise is the whole one
-pub in-led : (p : Programme) → AtCeiling (districtAfter (Load (fileWithLeaders atStart (0 ∷ 0 ∷ 2 ∷ 3 ∷ [])) ∷ [])) p → p .total ≡ p .ceiling
+pub in-led : (p : Programme) → AtCeiling (districtWithLeaders atStart (0 ∷ 0 ∷ 2 ∷ 3 ∷ [])) p → p .total ≡ p .ceiling
 unfolding resultOf moreBenefit bestCandidate leadersRespected
 in-led p good = good .equal refl refl
 
@@ -87,17 +87,17 @@ unfolding resultOf
 below = refl
 
 -- the lower of equals do not fit together; the higher ones do
-pub lower : bestFit (Load (fileOf ofEquals) ∷ []) ≡ false
+pub lower : bestFit (districtOf ofEquals) ≡ false
 unfolding resultOf moreBenefit bestCandidate
 lower = refl
 
 abbrev pub higher : ℕ → ℕ
 higher = strategyAt (1 ∷ 2 ∷ 2 ∷ [])
 
-pub feasible : Feasible (districtAfter (Load (fileOf ofEquals) ∷ [])) higher
+pub feasible : Feasible (districtOf ofEquals) higher
 unfolding resultOf permittedAt allPermitted
 feasible = record { permitted = refl; within = refl }
 
-pub greater : totalOf (districtAfter (Load (fileOf ofEquals) ∷ [])) higher ≡ pos 130_000
+pub greater : totalOf (districtOf ofEquals) higher ≡ pos 130_000
 unfolding resultOf
 greater = refl

@@ -5,8 +5,8 @@ use lib.ListN.{replicate}
 use lib.IntN.{pos}
 use Rattle.rules.specs.Lists.{Load, Alter}
 use Rattle.rules.specs.declared.Edit.the-variants.{SetLimit}
-use Rattle.rules.specs.Writer.{Roads, nothingDemanded, segment, fileOf}
-use Rattle.rules.specs.Results.{paged, printed, resultOf, WorkedCase, _⇒_, Agree}
+use Rattle.rules.specs.Writer.{Roads, nothingDemanded, segment, districtOf}
+use Rattle.rules.specs.Results.{Paged, given, paged, printed, resultOf, WorkedCase, _⇒_, Agree}
 use Rattle.rules.specs.Marked.{card}
 use Rattle.rules.specs.Further.{fourSegments}
 use Rattle.rules.specs.Pages.{headingLine}
@@ -45,7 +45,7 @@ pages =
     ∷ "                                      59                                        "
     ∷ [])
     -- the total after phase 3, where phase 2 ends with 38,908,450
-    ∷ paged (Load (fileOf fourSegments) ∷ [])
+    ∷ given Paged (districtOf fourSegments)
     ⇒ printed
     (headingLine
     ∷ " 1  4.90  42  1       17595900       117                                        "
@@ -55,7 +55,7 @@ pages =
     ∷ "                     111572863       736                                        "
     ∷ "                                     746                                        "
     ∷ [])
-    ∷ paged (Load (fileOf widest) ∷ [])
+    ∷ given Paged (districtOf widest)
     ⇒ printed
     (headingLine
     ∷ " 1 99.99 200  1   899910000000  19997981  19997981  19997981  19997981          "
