@@ -1,6 +1,7 @@
 //! Lists of calls as bytes, and what the last of them gives.
 //!
-//! A call is 13 bytes: its kind, and three numbers of 4 bytes, low byte first.
+//! A call is 17 bytes: its kind, the office that it names in 4 bytes, and three
+//! numbers of 4 bytes; low bytes come first.
 //! The kinds are the words of the console, counted from 0: 0 is a load, whose
 //! file follows and whose first number is the file's length; 1 an export, whose
 //! first number is its room, cut to that of the longest file; 2 bar, 3 unbar,
@@ -8,16 +9,17 @@
 //! room, cut to that of the longest page; 9 why; 10 an index reading and 11 a
 //! mile marker, whose first number is the record's bits; 12 a lost sample; 13
 //! roughness; 14 set leader. Of why and of roughness only the refusal is answered. Survey
-//! points, 7, change nothing and count as a show, as does any other kind.
+//! points, 7, and naming an office, 15, are no calls of an office. They count as a
+//! show of the one that stands in them, as does any other kind.
 //! The list ends where no whole call is left.
 
 use crate::file;
 use crate::listing::listing;
 use crate::page;
 use crate::refusal::Refusal;
-use crate::unit::Unit;
+use crate::station::Station;
 
-const HEAD: usize = 13;
+const HEAD: usize = 17;
 
 #[derive(Clone, Debug, PartialEq, Eq)]
 pub enum Call {
@@ -38,9 +40,10 @@ pub enum Call {
 }
 
 impl Call {
-    fn write(&self, out: &mut Vec<u8>) {
+    fn write(&self, office: u32, out: &mut Vec<u8>) {
         let mut head = |kind: u8, numbers: [u32; 3]| {
             out.push(kind);
+            out.extend(office.to_le_bytes());
             numbers.iter().for_each(|number| out.extend(number.to_le_bytes()));
         };
         match self {
@@ -64,14 +67,15 @@ impl Call {
         }
     }
 
-    /// The call at the front of the bytes, if it is there whole, and what follows.
-    fn take(bytes: &[u8]) -> Option<(Call, &[u8])> {
+    /// The call at the front of the bytes, if it is there whole, with its office and what follows.
+    fn take(bytes: &[u8]) -> Option<(u32, Call, &[u8])> {
         let (head, rest) = (bytes.get(..HEAD)?, &bytes[HEAD..]);
-        let [a, b, c] = [1, 5, 9].map(|at| u32::from_le_bytes([head[at], head[at + 1], head[at + 2], head[at + 3]]));
+        let four = |at: usize| u32::from_le_bytes([head[at], head[at + 1], head[at + 2], head[at + 3]]);
+        let [office, a, b, c] = [1, 5, 9, 13].map(four);
         let call = match head[0] {
             0 => {
                 let file = rest.get(..a as usize)?;
-                return Some((Call::Load(file.to_vec()), &rest[file.len()..]));
+                return Some((office, Call::Load(file.to_vec()), &rest[file.len()..]));
             }
             1 => Call::Export(a),
             2 => Call::Bar(a, b),
@@ -87,18 +91,23 @@ impl Call {
             14 => Call::SetLeader(a, b),
             _ => Call::Show,
         };
-        Some((call, rest))
+        Some((office, call, rest))
     }
 
-    pub fn make(&self, unit: &mut Unit) -> Result<(), Refusal> {
+    /// Makes the call, which names this office.
+    pub fn make(&self, office: u32, station: &mut Station) -> Result<(), Refusal> {
+        let office = u64::from(office);
+        if let Call::Load(file) = self {
+            return station.load(office, file);
+        }
+        let unit = station.office_mut(office)?;
         match self {
-            Call::Load(file) => unit.load(file),
             Call::Export(room) => unit.export(&mut vec![0; file::LONGEST.min(*room as usize)]).map(|_| ()),
             Call::Bar(i, j) => unit.bar((*i).into(), (*j).into()),
             Call::Unbar(i, j) => unit.unbar((*i).into(), (*j).into()),
             Call::SetLimit(r, limit) => unit.set_limit((*r).into(), (*limit).into()),
             Call::SetRating(i, k, rating) => unit.set_rating((*i).into(), (*k).into(), (*rating).into()),
-            Call::Show => Ok(()),
+            Call::Load(_) | Call::Show => Ok(()),
             Call::Page(room) => unit.page(&mut vec![0; page::LONGEST.min(*room as usize)]).map(|_| ()),
             Call::Why(i, j) => unit.why((*i).into(), (*j).into()).map(|_| ()),
             Call::Index(bits) => unit.index(*bits),
@@ -110,33 +119,42 @@ impl Call {
     }
 }
 
-/// The bytes that stand for a list of calls.
+/// The bytes that stand for a list of calls, all of them by office 1.
 pub fn encode(calls: &[Call]) -> Vec<u8> {
     let mut out = Vec::new();
-    calls.iter().for_each(|call| call.write(&mut out));
+    calls.iter().for_each(|call| call.write(1, &mut out));
     out
 }
 
-pub fn decode(bytes: &[u8]) -> Vec<Call> {
+/// The same of calls that each name an office.
+pub fn encode_by(calls: &[(u32, Call)]) -> Vec<u8> {
+    let mut out = Vec::new();
+    calls.iter().for_each(|(office, call)| call.write(*office, &mut out));
+    out
+}
+
+pub fn decode(bytes: &[u8]) -> Vec<(u32, Call)> {
     let mut calls = Vec::new();
     let mut rest = bytes;
-    while let Some((call, behind)) = Call::take(rest) {
-        calls.push(call);
+    while let Some((office, call, behind)) = Call::take(rest) {
+        calls.push((office, call));
         rest = behind;
     }
     calls
 }
 
 /// What `vectors` prints for a list: the last call's refusal or, where it was
-/// accepted or there is none, the plan after the list.
+/// accepted, the plan after the list of the office that it named; that of office 1
+/// where there is no call.
 pub fn worked(bytes: &[u8]) -> String {
-    let mut unit = Unit::fresh();
-    let mut last = Ok(());
-    for call in decode(bytes) {
-        last = call.make(&mut unit);
+    let mut station = Station::fresh();
+    let (mut named, mut last) = (1, Ok(()));
+    for (office, call) in decode(bytes) {
+        last = call.make(office, &mut station);
+        named = office;
     }
-    match last {
-        Ok(()) => listing(unit.show(), unit.district().segments.len()),
+    match last.and_then(|()| station.office(named.into())) {
+        Ok(unit) => listing(unit.show(), unit.district().segments.len()),
         Err(refusal) => format!("refused {}\n", refusal.number()),
     }
 }

@@ -1,9 +1,12 @@
-//! The panel: a console over one unit, fresh at its start.
+//! The panel: a console over one unit with its two offices, fresh at its start.
 //!
 //! How lines are read, where more than one reading was possible:
 //! - Words are separated by exactly one blank, with none in front or behind.
 //! - A PATH is all the rest of its line after `load ` or `export `: 1 to 255
 //!   bytes, blanks among them or at its ends too, but no NUL byte.
+//! - `office N` says which office the calls of later lines name, whatever number
+//!   it is; 1 at the start. A wrong one is refused when a call is made. A line that
+//!   is no command, and a file that can't be read, make none; `points` names none.
 //! - A number is one to 20 digits (zeros in front are fine) within 64 bits.
 //! - The bits of a reading or a marker are a number within 32 bits.
 //! - A line is blank if it holds only blanks, tabs and carriage returns.
@@ -19,6 +22,7 @@ use crate::listing::listing;
 use crate::meter::Roughness;
 use crate::page;
 use crate::refusal::Refusal;
+use crate::station::Station;
 use crate::survey;
 use crate::unit::Unit;
 use std::ffi::OsStr;
@@ -34,9 +38,9 @@ pub const FILE_MOST: u64 = 4_096;
 /// Answers every line of the input until it ends. Paths are taken relative
 /// to `base`.
 pub fn run(input: &mut dyn BufRead, output: &mut dyn Write, base: &Path) -> io::Result<()> {
-    let mut unit = Unit::fresh();
+    let mut console = Console::fresh();
     while let Some(line) = next_line(input)? {
-        if let Some(answer) = answer(&mut unit, &line, base) {
+        if let Some(answer) = console.answer(&line, base) {
             output.write_all(&answer)?;
             output.flush()?;
         }
@@ -69,88 +73,142 @@ fn next_line(input: &mut dyn BufRead) -> io::Result<Option<Vec<u8>>> {
     }
 }
 
-/// The answer to one line, its line feed included; none for a line that is
-/// passed over.
-pub fn answer(unit: &mut Unit, line: &[u8], base: &Path) -> Option<Vec<u8>> {
-    if line.first() == Some(&b'#') {
-        return None;
-    }
-    if line.len() > LINE_MOST {
-        return Some(unknown());
-    }
-    if line.iter().all(|byte| b" \t\r".contains(byte)) {
-        return None;
-    }
-    Some(obey(unit, line, base).unwrap_or_else(unknown))
+pub struct Console {
+    station: Station,
+    /// The office that calls name.
+    office: u64,
 }
+
+impl Console {
+    pub fn fresh() -> Console {
+        Console { station: Station::fresh(), office: 1 }
+    }
+
+    /// What the office holds that calls name now.
+    pub fn held(&self) -> Result<&Unit, Refusal> {
+        self.station.office(self.office)
+    }
+
+    /// The answer to one line, its line feed included; none for a line that is
+    /// passed over.
+    pub fn answer(&mut self, line: &[u8], base: &Path) -> Option<Vec<u8>> {
+        if line.first() == Some(&b'#') {
+            return None;
+        }
+        if line.len() > LINE_MOST {
+            return Some(unknown());
+        }
+        if line.iter().all(|byte| b" \t\r".contains(byte)) {
+            return None;
+        }
+        Some(self.obey(line, base).unwrap_or_else(unknown))
+    }
+
+    /// Carries a command out; none if the line is not one.
+    fn obey(&mut self, line: &[u8], base: &Path) -> Option<Vec<u8>> {
+        if let Some(path) = line.strip_prefix(b"load ") {
+            return path_ok(path).then(|| self.load(path, base));
+        }
+        if let Some(path) = line.strip_prefix(b"export ") {
+            return path_ok(path).then(|| self.export(path, base));
+        }
+        let mut words = line.split(|&byte| byte == b' ');
+        let command = words.next()?;
+        let numbers: Vec<u64> = words.map(number).collect::<Option<_>>()?;
+        let asked = match (command, numbers[..].as_ref()) {
+            (b"show", []) => self.held().map(shown),
+            (b"page", []) => self.held().and_then(page),
+            (b"points", &[code, degree, extent, seal]) => {
+                survey::points(code, degree, extent, seal).map(|points| format!("points {points}\n"))
+            }
+            (b"why", &[i, j]) => self.held().and_then(|unit| unit.why(i, j)).map(|reason| format!("{reason}\n")),
+            (b"roughness", []) => self.call(|unit| unit.roughness()).map(roughness),
+            (b"bar", &[i, j]) => self.edit(|unit| unit.bar(i, j)),
+            (b"unbar", &[i, j]) => self.edit(|unit| unit.unbar(i, j)),
+            (b"limit", &[r, v]) => self.edit(|unit| unit.set_limit(r, v)),
+            (b"rating", &[i, k, v]) => self.edit(|unit| unit.set_rating(i, k, v)),
+            (b"leader", &[i, leader]) => self.edit(|unit| unit.set_leader(i, leader)),
+            (b"index", &[bits]) => {
+                let bits = u32::try_from(bits).ok()?;
+                self.edit(|unit| unit.index(bits))
+            }
+            (b"marker", &[bits]) => {
+                let bits = u32::try_from(bits).ok()?;
+                self.edit(|unit| unit.marker(bits))
+            }
+            (b"lost", []) => self.edit(Unit::lost),
+            (b"office", &[office]) => {
+                self.office = office;
+                Ok(OK.to_string())
+            }
+            _ => return None,
+        };
+        Some(answered(asked))
+    }
+
+    /// A call of the office that calls name now.
+    fn call<T>(&mut self, call: impl FnOnce(&mut Unit) -> Result<T, Refusal>) -> Result<T, Refusal> {
+        call(self.station.office_mut(self.office)?)
+    }
+
+    /// An edit or a record.
+    fn edit(&mut self, call: impl FnOnce(&mut Unit) -> Result<(), Refusal>) -> Result<String, Refusal> {
+        self.call(call).map(|()| OK.to_string())
+    }
+
+    fn load(&mut self, path: &[u8], base: &Path) -> Vec<u8> {
+        let Ok(file) = File::open(base.join(OsStr::from_bytes(path))) else {
+            return cannot("open", path);
+        };
+        let mut bytes = Vec::new();
+        if file.take(FILE_MOST).read_to_end(&mut bytes).is_err() {
+            return cannot("read", path);
+        }
+        answered(self.station.load(self.office, &bytes).map(|()| OK.to_string()))
+    }
+
+    fn export(&self, path: &[u8], base: &Path) -> Vec<u8> {
+        let mut buffer = [0; FILE_MOST as usize];
+        let length = match self.held().and_then(|unit| unit.export(&mut buffer)) {
+            Ok(length) => length,
+            Err(refusal) => return answered(Err(refusal)),
+        };
+        let new = base.join(OsStr::from_bytes(&[path, b".new"].concat()));
+        let target = base.join(OsStr::from_bytes(path));
+        let Ok(mut file) = File::create(&new) else {
+            return cannot("write", path);
+        };
+        if file.write_all(&buffer[..length]).is_err() || fs::rename(&new, &target).is_err() {
+            let _ = fs::remove_file(&new);
+            return cannot("write", path);
+        }
+        format!("ok {length}\n").into_bytes()
+    }
+}
+
+const OK: &str = "ok\n";
 
 fn unknown() -> Vec<u8> {
     b"unknown command\n".to_vec()
 }
 
-/// Carries a command out; none if the line is not one.
-fn obey(unit: &mut Unit, line: &[u8], base: &Path) -> Option<Vec<u8>> {
-    if let Some(path) = line.strip_prefix(b"load ") {
-        return path_ok(path).then(|| load(unit, path, base));
-    }
-    if let Some(path) = line.strip_prefix(b"export ") {
-        return path_ok(path).then(|| export(unit, path, base));
-    }
-    let mut words = line.split(|&byte| byte == b' ');
-    let command = words.next()?;
-    let numbers: Vec<u64> = words.map(number).collect::<Option<_>>()?;
-    let done = match (command, numbers[..].as_ref()) {
-        (b"show", []) => {
-            let listing = listing(unit.show(), unit.district().segments.len());
-            return Some(listing.into_bytes());
-        }
-        (b"page", []) => {
-            let mut buffer = [0; page::LONGEST];
-            return Some(match unit.page(&mut buffer) {
-                Ok(length) => buffer[..length].to_vec(),
-                Err(refusal) => refused(refusal),
-            });
-        }
-        (b"points", &[code, degree, extent, seal]) => {
-            return Some(match survey::points(code, degree, extent, seal) {
-                Ok(points) => format!("points {points}\n").into_bytes(),
-                Err(refusal) => refused(refusal),
-            });
-        }
-        (b"why", &[i, j]) => {
-            return Some(match unit.why(i, j) {
-                Ok(reason) => format!("{reason}\n").into_bytes(),
-                Err(refusal) => refused(refusal),
-            });
-        }
-        (b"roughness", []) => {
-            return Some(match unit.roughness() {
-                Ok(Roughness { points, marker }) => format!("points {points} marker {marker}\n").into_bytes(),
-                Err(refusal) => refused(refusal),
-            });
-        }
-        (b"bar", &[i, j]) => unit.bar(i, j),
-        (b"unbar", &[i, j]) => unit.unbar(i, j),
-        (b"limit", &[r, v]) => unit.set_limit(r, v),
-        (b"rating", &[i, k, v]) => unit.set_rating(i, k, v),
-        (b"leader", &[i, leader]) => unit.set_leader(i, leader),
-        (b"index", &[bits]) => unit.index(u32::try_from(bits).ok()?),
-        (b"marker", &[bits]) => unit.marker(u32::try_from(bits).ok()?),
-        (b"lost", []) => unit.lost(),
-        _ => return None,
-    };
-    Some(ok_or_refused(done))
+/// An answer, or its refusal.
+fn answered(answer: Result<String, Refusal>) -> Vec<u8> {
+    answer.unwrap_or_else(|refusal| format!("refused {}\n", refusal.number())).into_bytes()
 }
 
-fn ok_or_refused(done: Result<(), Refusal>) -> Vec<u8> {
-    match done {
-        Ok(()) => b"ok\n".to_vec(),
-        Err(refusal) => refused(refusal),
-    }
+fn shown(unit: &Unit) -> String {
+    listing(unit.show(), unit.district().segments.len())
 }
 
-fn refused(refusal: Refusal) -> Vec<u8> {
-    format!("refused {}\n", refusal.number()).into_bytes()
+fn page(unit: &Unit) -> Result<String, Refusal> {
+    let mut buffer = [0; page::LONGEST];
+    let length = unit.page(&mut buffer)?;
+    Ok(String::from_utf8_lossy(&buffer[..length]).into_owned())
+}
+
+fn roughness(Roughness { points, marker }: Roughness) -> String {
+    format!("points {points} marker {marker}\n")
 }
 
 fn number(word: &[u8]) -> Option<u64> {
@@ -166,33 +224,4 @@ fn path_ok(path: &[u8]) -> bool {
 
 fn cannot(what: &str, path: &[u8]) -> Vec<u8> {
     [b"cannot ", what.as_bytes(), b" ", path, b"\n"].concat()
-}
-
-fn load(unit: &mut Unit, path: &[u8], base: &Path) -> Vec<u8> {
-    let Ok(file) = File::open(base.join(OsStr::from_bytes(path))) else {
-        return cannot("open", path);
-    };
-    let mut bytes = Vec::new();
-    if file.take(FILE_MOST).read_to_end(&mut bytes).is_err() {
-        return cannot("read", path);
-    }
-    ok_or_refused(unit.load(&bytes))
-}
-
-fn export(unit: &Unit, path: &[u8], base: &Path) -> Vec<u8> {
-    let mut buffer = [0; FILE_MOST as usize];
-    let length = match unit.export(&mut buffer) {
-        Ok(length) => length,
-        Err(refusal) => return refused(refusal),
-    };
-    let new = base.join(OsStr::from_bytes(&[path, b".new"].concat()));
-    let target = base.join(OsStr::from_bytes(path));
-    let Ok(mut file) = File::create(&new) else {
-        return cannot("write", path);
-    };
-    if file.write_all(&buffer[..length]).is_err() || fs::rename(&new, &target).is_err() {
-        let _ = fs::remove_file(&new);
-        return cannot("write", path);
-    }
-    format!("ok {length}\n").into_bytes()
 }

@@ -1,12 +1,13 @@
 //! Makes lists of calls at random.
 
-use crate::calls::{encode, Call};
+use crate::calls::{encode, encode_by, Call};
 use crate::district::{District, LIMIT_MOST, RATING_MOST};
 use crate::file;
 use crate::make;
 use crate::meter;
 use crate::page;
 use crate::random::Random;
+use crate::station::Station;
 
 /// A frame for `vectors`: a list of calls, now and then cut short or noise.
 pub fn any_list(random: &mut Random) -> Vec<u8> {
@@ -15,14 +16,87 @@ pub fn any_list(random: &mut Random) -> Vec<u8> {
         return random.bytes(length);
     }
     let count = random.size(0, 40);
+    if random.chance(50) {
+        let calls = by_both(random, count);
+        return cut(random, encode_by(&calls));
+    }
     let mut calls = list(random, count, true);
     if random.chance(20) {
         let count = random.size(1, 200);
         calls.extend(records(random, count));
     }
-    let mut bytes = encode(&calls);
+    let bytes = encode(&calls);
+    cut(random, bytes)
+}
+
+/// Now and then the bytes are cut short.
+fn cut(random: &mut Random, mut bytes: Vec<u8>) -> Vec<u8> {
     if random.chance(10) {
         bytes.truncate(random.size(0, bytes.len()));
+    }
+    bytes
+}
+
+/// A list of so many calls by both offices over small districts. Loads bring the
+/// tables that are held, the same with one value changed, others, or no segments;
+/// now and then a call names an office that there is not.
+pub fn by_both(random: &mut Random, count: usize) -> Vec<(u32, Call)> {
+    let mut station = Station::fresh();
+    // Most often one office makes most of the calls.
+    let busy = *random.pick(&[1, 2]);
+    let share = *random.pick(&[50, 50, 75, 90]);
+    (0..count)
+        .map(|at| {
+            let office = match random.below(40) {
+                0 => *random.pick(&NO_OFFICES),
+                _ if random.chance(share) => busy,
+                _ => 3 - busy,
+            };
+            let held = station.office(office.into()).map_or_else(|_| District::fresh(), |unit| unit.district().clone());
+            let call = match random.below(100) {
+                0..=79 if at < 2 => Call::Load(shared_file(random, &held)),
+                0..=14 => Call::Load(shared_file(random, &held)),
+                // An office without segments has limits, which other tables take away.
+                15..=59 if held.segments.is_empty() => {
+                    Call::SetLimit(number(random, held.limits.len()), new_limit(random, 100))
+                }
+                15..=24 => set_leader(random, held.segments.len()),
+                25..=34 => records(random, 1)[0].clone(),
+                _ => call(random, &held, true),
+            };
+            // The generator follows what is held, so that most calls are sound.
+            let _ = call.make(office, &mut station);
+            (office, call)
+        })
+        .collect()
+}
+
+/// Numbers that are no office, some of which are one in their low bytes.
+pub const NO_OFFICES: [u32; 8] = [0, 3, 4, 255, 257, 65_538, 0x8000_0001, u32::MAX];
+
+/// A file for an office of a unit that holds these tables.
+pub fn shared_file(random: &mut Random, held: &District) -> Vec<u8> {
+    let segments = if random.chance(25) { 0 } else { random.size(1, 5) };
+    let mut made = match random.below(20) {
+        0..=10 => make::resettled(random, held, segments),
+        11..=16 => {
+            let tables = make::retabled(random, held);
+            make::resettled(random, &tables, segments)
+        }
+        _ => {
+            let shape = make::small_shape(random, 5, 4);
+            make::district(random, shape)
+        }
+    };
+    if random.chance(30) {
+        make::set_leaders(random, &mut made);
+    }
+    let mut bytes = if random.chance(10) { file::encode_led(&made) } else { file::encode(&made) };
+    // Behind other tables something may be wrong as well.
+    match random.below(20) {
+        0 => bytes.push(0),
+        1 => bytes.truncate(bytes.len() - random.size(1, 4)),
+        _ => {}
     }
     bytes
 }

@@ -298,6 +298,55 @@ fn segments(random: &mut Random, shape: Shape, family: Family, greatest: &[u8]) 
     made
 }
 
+/// A district with the same shared tables and other segments and limits.
+pub fn resettled(random: &mut Random, tables: &District, count: usize) -> District {
+    let shape = Shape {
+        segments: count,
+        strategies: tables.strategies.len(),
+        years: tables.years,
+        distress_types: tables.greatest.len(),
+        pavement_types: tables.types.len(),
+        resources: tables.limits.len(),
+    };
+    let segments = segments(random, shape, Family::Mixed, &tables.greatest);
+    let mut made = District { segments, ..tables.clone() };
+    set_limits(random, &mut made);
+    made
+}
+
+/// A district without segments whose shared tables are these but for one value,
+/// or with one strategy, pavement type or resource more or less.
+pub fn retabled(random: &mut Random, tables: &District) -> District {
+    let mut made = District { segments: Vec::new(), ..tables.clone() };
+    let k = random.size(0, tables.greatest.len() - 1);
+    let cell = random.size(0, tables.greatest.len() * tables.years - 1);
+    let resource = random.size(0, tables.limits.len() - 1);
+    let strategy = random.size(0, tables.strategies.len() - 1);
+    let strategy = &mut made.strategies[strategy];
+    let pavement = random.size(0, tables.types.len() - 1);
+    let pavement = &mut made.types[pavement];
+    // One more, or one less at the end of the range.
+    let next = |value: u32, most: u32| if value < most { value + 1 } else { value - 1 };
+    match random.below(9) {
+        0 => made.greatest[k] = next(made.greatest[k].into(), RATING_MOST.into()) as u8,
+        1 => strategy.requirements[resource] = next(strategy.requirements[resource], REQUIREMENT_MOST),
+        2 => strategy.gains[k] = if strategy.gains[k] < GAIN_MOST { strategy.gains[k] + 1 } else { 0 },
+        3 => strategy.survival[cell] = next(strategy.survival[cell].into(), 100) as u8,
+        4 => pavement.overall = next(pavement.overall.into(), OVERALL_MOST.into()) as u16,
+        5 => pavement.minimum[cell] = next(pavement.minimum[cell].into(), RATING_MOST.into()) as u8,
+        6 if made.strategies.len() == MOST_STRATEGIES => made.strategies.truncate(MOST_STRATEGIES - 1),
+        6 => made.strategies.push(made.strategies[0].clone()),
+        7 if made.types.len() == MOST_PAVEMENT_TYPES => made.types.truncate(MOST_PAVEMENT_TYPES - 1),
+        7 => made.types.push(made.types[0].clone()),
+        _ => {
+            let count = next(made.limits.len() as u32, MOST_RESOURCES as u32) as usize;
+            made.limits.resize(count, 0);
+            made.strategies.iter_mut().for_each(|strategy| strategy.requirements.resize(count, 1_000));
+        }
+    }
+    made
+}
+
 /// Sets limits by what the best candidates would use: most often a fraction
 /// of it, so that not everything fits; also none, exactly enough, and plenty.
 pub fn set_limits(random: &mut Random, district: &mut District) {
@@ -927,10 +976,49 @@ fn record_line(record: &Call) -> String {
     }
 }
 
+/// Both offices: loads with equal tables and with others, edits, records and
+/// questions, and lines that say which office later ones name.
+fn sharing_script(random: &mut Random) -> Script {
+    let shape = small_shape(random, 5, 4);
+    let tables = district(random, shape);
+    let mut files = vec![("d0.bin".to_string(), file::encode(&tables))];
+    for at in 1..random.size(4, 8) {
+        files.push((format!("d{at}.bin"), lists::shared_file(random, &tables)));
+    }
+    let most = [5, shape.strategies, 0, shape.distress_types, 0, shape.resources];
+    let mut text = Vec::new();
+    for _ in 0..random.size(10, 60) {
+        let line = match random.below(100) {
+            0..=24 => format!("office {}", random.pick(&["1", "2", "2", "01"])).into_bytes(),
+            25 | 26 => format!("office {}", numeral(random, 2)).into_bytes(),
+            27 => {
+                let wrong = ["0", "3", "257", "65537", "4294967297", "4294967298", "18446744073709551615"];
+                format!("office {}", random.pick(&wrong)).into_bytes()
+            }
+            28 => random
+                .pick(&["office", "office ", "office 1 2", "offices 1", "Office 2", "office x"])
+                .as_bytes()
+                .to_vec(),
+            29..=44 => format!("load {}", random.pick(&files).0).into_bytes(),
+            45..=54 => b"show".to_vec(),
+            55..=59 => b"page".to_vec(),
+            60..=64 => b"roughness".to_vec(),
+            _ => script_line(random, &files, most),
+        };
+        text.extend(line);
+        text.push(b'\n');
+    }
+    for office in ["1", "2"] {
+        text.extend(format!("office {office}\nshow\npage\nexport last{office}.bin\nroughness\n").into_bytes());
+    }
+    Script { text, files, folders: vec!["folder".to_string()] }
+}
+
 pub fn script(random: &mut Random) -> Script {
     match random.below(100) {
-        0..=34 => return asking_script(random),
-        35..=54 => return metering_script(random),
+        0..=29 => return sharing_script(random),
+        30..=54 => return asking_script(random),
+        55..=69 => return metering_script(random),
         _ => {}
     }
     let mut files = Vec::new();
@@ -1109,6 +1197,8 @@ fn odd_line(random: &mut Random) -> Vec<u8> {
                 b"leader 1 -1",
                 b"Leader 1 0",
                 b"leaders 1 0",
+                b"office",
+                b"office 18446744073709551616",
                 b"lost 0",
                 b"lost ",
                 b"roughness 1",

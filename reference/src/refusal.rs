@@ -32,6 +32,10 @@ pub enum Refusal {
     Leader = 14,
     /// Turning down a file in which a leader is set.
     LeaderSet = 15,
+    /// No such office.
+    Office = 16,
+    /// Shared tables that differ from those held while the other office has segments.
+    SharedTables = 17,
 }
 
 impl Refusal {

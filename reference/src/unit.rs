@@ -1,5 +1,5 @@
-//! The planning unit: one district and its plan, a roughness meter beside them,
-//! and the calls.
+//! What one office of the planning unit holds: its district and plan, a roughness
+//! meter beside them, and the calls on these. `station` has both offices.
 
 use crate::ceiling;
 use crate::district::*;
@@ -64,6 +64,12 @@ impl Unit {
         self.district = file::decode(bytes)?;
         self.replan();
         Ok(())
+    }
+
+    /// Puts this district in place of the one held.
+    pub fn hold(&mut self, district: District) {
+        self.district = district;
+        self.replan();
     }
 
     pub fn bar(&mut self, segment: u64, strategy: u64) -> Result<(), Refusal> {

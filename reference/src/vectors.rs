@@ -3,9 +3,10 @@
 //! What each comes to is worked out by `calls::worked`, and another
 //! implementation is run on the same frames.
 
-use crate::calls::{encode, Call};
+use crate::calls::{encode, encode_by, Call};
 use crate::district::*;
 use crate::make::{self, Shape, WIDEST};
+use crate::offices::{self, bare, changed, north, south};
 use crate::random::Random;
 use crate::unit::{plan, Plan};
 use crate::{example, file, frames, leaders, lists, page};
@@ -53,6 +54,15 @@ fn scripts() -> Vec<Vec<u8>> {
     led_files(&mut cases);
     set_leaders(&mut cases);
     led_readings(&mut cases);
+    two_offices(&mut cases);
+    no_offices(&mut cases);
+    kinds_that_are_no_calls(&mut cases);
+    other_tables(&mut cases);
+    other_tables_and_more(&mut cases);
+    what_is_not_shared(&mut cases);
+    tables_for_both(&mut cases);
+    windows_of_both(&mut cases);
+    lists_by_both(&mut cases);
     cases.scripts
 }
 
@@ -63,6 +73,19 @@ struct Cases {
 impl Cases {
     fn list(&mut self, calls: &[Call]) {
         self.scripts.push(encode(calls));
+    }
+
+    /// Calls that each name an office.
+    fn by(&mut self, calls: &[(u32, Call)]) {
+        self.scripts.push(encode_by(calls));
+    }
+
+    /// The same calls, and then what each office shows.
+    fn by_and_shown(&mut self, calls: &[(u32, Call)]) {
+        self.by(calls);
+        for office in [1, 2] {
+            self.by(&[calls, &[(office, Call::Show)]].concat());
+        }
     }
 
     fn file(&mut self, bytes: Vec<u8>) {
@@ -91,14 +114,14 @@ fn beginnings(cases: &mut Cases) {
     let more = encode(&[load(&two_of_each()), Call::SetLimit(1, 10)]);
     cases.list(&[]);
     // Cut within the first call, within its file, within the second call.
-    for (bytes, length) in [(&whole, 12), (&whole, 13), (&whole, whole.len() - 1), (&more, more.len() - 1)] {
+    for (bytes, length) in [(&whole, 16), (&whole, 17), (&whole, whole.len() - 1), (&more, more.len() - 1)] {
         cases.scripts.push(bytes[..length].to_vec());
     }
     // A file that claims more bytes than follow, and far more.
-    cases.scripts.push([&whole[..], &[0, 1, 0, 0, 0, 0, 0, 0, 0, 0, 0, 0, 0]].concat());
-    cases.scripts.push([&whole[..], &[0, 255, 255, 255, 255, 0, 0, 0, 0, 0, 0, 0, 0, 9]].concat());
+    cases.scripts.push([&whole[..], &[0, 1, 0, 0, 0, 1, 0, 0, 0, 0, 0, 0, 0, 0, 0, 0, 0]].concat());
+    cases.scripts.push([&whole[..], &[0, 1, 0, 0, 0, 255, 255, 255, 255, 0, 0, 0, 0, 0, 0, 0, 0, 9]].concat());
     for kind in [6, 7, 8, 9, 10, 11, 12, 13, 14, 128, 255] {
-        cases.scripts.push([&whole[..], &[kind, 9, 9, 9, 9, 9, 9, 9, 9, 9, 9, 9, 9]].concat());
+        cases.scripts.push([&whole[..], &[kind, 1, 0, 0, 0], &[9; 12]].concat());
     }
     cases.list(&[Call::Show]);
     cases.list(&[Call::Export(ROOM)]);
@@ -779,7 +802,7 @@ fn set_leaders(cases: &mut Cases) {
     cases.list(&[one.clone(), load(&chain), Call::SetLeader(3, 1), Call::Roughness]);
     cases.list(&[one, load(&chain), Call::SetLeader(3, 3), Call::Roughness]);
     // A kind of call that there is not.
-    cases.scripts.push([&encode(&[load(&chain)])[..], &[15, 3, 0, 0, 0, 1, 0, 0, 0, 0, 0, 0, 0]].concat());
+    cases.scripts.push([&encode(&[load(&chain)])[..], &[15, 1, 0, 0, 0, 3, 0, 0, 0, 1, 0, 0, 0, 0, 0, 0, 0]].concat());
     for (seed, count) in [(710, 60), (711, 120), (712, 240)] {
         let mut calls = lists::list(&mut Random::new(seed), count, true);
         cases.list(&calls);
@@ -793,6 +816,277 @@ fn led_readings(cases: &mut Cases) {
     // Phase 1: the shares of followers that have gone count no more.
     let gone = small(&[2], &[(&[14_371], 19, 100)], &[(8, 1, 0), (1, 1, 0), (1, 1, 0), (6, 1, 0)]);
     cases.district(&led(gone, &[0, 0, 2, 0]));
+}
+
+/// Each office has its own segments, limits, bars, leaders and programme: what one does leaves the other.
+fn two_offices(cases: &mut Cases) {
+    cases.by(&[(2, Call::Show)]);
+    cases.by(&[(2, load(&north()))]);
+    cases.by(&[(2, load(&north())), (1, Call::Show)]);
+    cases.by(&[(1, load(&north())), (2, Call::Show)]);
+    let both = [(1, load(&north())), (2, load(&south()))];
+    let edits = [
+        Call::Bar(1, 2),
+        Call::SetLimit(1, 20),
+        Call::SetRating(2, 1, 45),
+        Call::SetLeader(2, 1),
+        Call::Unbar(1, 2),
+        Call::SetLimit(2, 0),
+    ];
+    cases.by_and_shown(&both);
+    for edit in &edits {
+        for office in [1, 2] {
+            cases.by_and_shown(&[&both[..], &[(office, edit.clone())]].concat());
+        }
+    }
+    // Segment 3 is there in the second office alone, and its limit of resource 2 allows less.
+    for call in [Call::Bar(3, 1), Call::Why(3, 1), Call::SetRating(3, 1, 0), Call::SetLeader(3, 2), Call::Page(486)] {
+        for office in [1, 2] {
+            cases.by(&[&both[..], &[(office, call.clone())]].concat());
+        }
+    }
+    for district in [north(), south()] {
+        let length = file::encode(&district).len() as u32;
+        for (office, room) in [(1, length - 1), (1, length), (2, length - 1), (2, length)] {
+            cases.by(&[&both[..], &[(office, Call::Export(room))]].concat());
+        }
+    }
+    // All edits of one behind those of the other, and one by one in turn.
+    let by = |office: u32| edits.iter().map(move |edit| (office, edit.clone())).collect::<Vec<_>>();
+    cases.by_and_shown(&[&both[..], &by(1), &by(2)].concat());
+    cases.by_and_shown(&[&both[..], &by(2), &by(1)[..3]].concat());
+    let turns: Vec<(u32, Call)> = by(1).into_iter().zip(by(2)).flat_map(|(one, other)| [one, other]).collect();
+    for count in 1..=turns.len() {
+        cases.by(&[&both[..], &turns[..count]].concat());
+    }
+    // A fresh office has a resource and no segment, whatever the other one holds: its limits and a load by it.
+    for call in [Call::SetLimit(1, 5), Call::SetLimit(2, 5), Call::SetLimit(3, 5), Call::Bar(1, 1), Call::Page(243)] {
+        cases.by_and_shown(&[(1, load(&north())), (2, call)]);
+    }
+}
+
+/// One call of each kind that is accepted behind the loads of both offices, and ones that are refused there.
+fn calls_of_each_kind() -> Vec<Call> {
+    vec![
+        load(&north()),
+        Call::Export(ROOM),
+        Call::Bar(1, 1),
+        Call::Unbar(1, 1),
+        Call::SetLimit(1, 9),
+        Call::SetRating(1, 1, 9),
+        Call::SetLeader(2, 1),
+        Call::Show,
+        Call::Page(page::LONGEST as u32),
+        Call::Why(1, 1),
+        Call::Index(lists::reading(1_024)),
+        Call::Marker(7),
+        Call::Lost,
+        Call::Roughness,
+        Call::Load(Vec::new()),
+        Call::Load([&file::encode(&north())[..], &[0]].concat()),
+        load(&changed(north(), |d| d.greatest[1] += 1)),
+        Call::Export(1),
+        Call::Bar(9, 9),
+        Call::Unbar(1, 9),
+        Call::SetLimit(9, 9),
+        Call::SetLimit(1, LIMIT_MOST + 1),
+        Call::SetRating(1, 1, 51),
+        Call::SetLeader(1, 1),
+        Call::Page(1),
+        Call::Why(9, 1),
+        Call::Index(u32::MAX),
+    ]
+}
+
+/// Refusal 16, before any other, and nothing is changed.
+fn no_offices(cases: &mut Cases) {
+    let both = [(1, load(&north())), (2, load(&south())), (1, Call::Index(0))];
+    for call in calls_of_each_kind() {
+        cases.by(&[(0, call.clone())]);
+        for office in [3, 257, 65_538] {
+            cases.by(&[&both[..], &[(office, call.clone())]].concat());
+        }
+        // Then what one of them shows, and whether the other has a reading.
+        let after = [&both[..], &[(3, call.clone()), (0, call)]].concat();
+        cases.by(&[&after[..], &[(1, Call::Show)]].concat());
+        cases.by(&[&after[..], &[(2, Call::Roughness)]].concat());
+    }
+    for office in [3, 4, 5, 128, 255, 256, 258, 512, 65_536, 65_537, 0x8000_0001, 0x8000_0002, 0xffff_ff01, u32::MAX] {
+        cases.by(&[(office, Call::Show)]);
+        cases.by(&[&both[..], &[(office, Call::Bar(1, 1))]].concat());
+    }
+}
+
+/// Points, naming an office, and kinds that there are not: a show of the office that stands there.
+fn kinds_that_are_no_calls(cases: &mut Cases) {
+    let both = encode_by(&[(1, load(&north())), (2, load(&south()))]);
+    for kind in [7, 15, 16, 127, 255] {
+        for office in [1, 2, 0, 3, 255] {
+            let head = [kind, office, 0, 0, 0, 2, 0, 0, 0, 0, 0, 0, 0, 0, 0, 0, 0];
+            cases.scripts.push([&both[..], &head].concat());
+            // It says nothing of the next call's office.
+            for next in [1, 2] {
+                cases.scripts.push([&both[..], &head, &encode_by(&[(next, Call::Show)])].concat());
+            }
+        }
+    }
+    // The office's number has four bytes, the lowest first.
+    for office in [[1, 1, 0, 0], [2, 0, 1, 0], [1, 0, 0, 1], [0, 1, 0, 0], [0, 0, 0, 1], [0, 0, 0, 2]] {
+        cases.scripts.push([&both[..], &[6], &office, &[0; 12]].concat());
+    }
+}
+
+/// Refusal 17, for one value in each of the shared tables and each count; and where it is not due.
+fn other_tables(cases: &mut Cases) {
+    for change in offices::changes() {
+        let [other_north, other_south] = [changed(north(), change), changed(south(), change)];
+        // The other office has segments, whether it is the first or the second.
+        cases.by(&[(1, load(&north())), (2, load(&other_south))]);
+        cases.by(&[(2, load(&bare(south()))), (2, load(&south())), (1, load(&bare(other_north.clone())))]);
+        // It has none: none loaded, or a file without any. Then both hold the new tables.
+        cases.by(&[(1, load(&bare(north()))), (2, load(&other_south))]);
+        cases.by(&[(1, load(&north())), (1, load(&other_north)), (2, load(&south()))]);
+        cases.by(&[(2, load(&south())), (2, load(&other_south)), (1, load(&other_north))]);
+    }
+    // Own segments do not stand in the way, nor what the other one had before.
+    let gain: offices::Change = |d| d.strategies[0].gains[0] += 1;
+    let [moved_north, moved_south] = [changed(north(), gain), changed(south(), gain)];
+    cases.by(&[(1, load(&north())), (2, load(&south())), (1, load(&bare(north()))), (2, load(&moved_south))]);
+    cases.by(&[(1, load(&north())), (2, load(&south())), (2, load(&bare(north()))), (2, load(&moved_south))]);
+    cases.by(&[(2, load(&moved_south)), (2, load(&bare(moved_south.clone()))), (1, load(&north()))]);
+    cases.by(&[(2, load(&south())), (1, Call::SetLimit(1, 5)), (1, Call::Index(0)), (2, load(&moved_south))]);
+    // Refused, it changes nothing: neither office, nor the tables held.
+    let refused = [(1, load(&north())), (2, load(&south())), (2, load(&moved_south))];
+    cases.by_and_shown(&refused);
+    cases.by(&[&refused[..], &[(1, load(&north()))]].concat());
+    cases.by(&[&refused[..], &[(1, load(&moved_north))]].concat());
+    cases.by(&[&refused[..], &[(2, load(&north()))]].concat());
+    cases.by_and_shown(&[&refused[..], &[(2, Call::Bar(1, 1)), (1, Call::SetLimit(1, 20))]].concat());
+    // The tables of a fresh unit are held as well.
+    cases.by(&[(1, load(&one_of_each())), (2, load(&District::fresh()))]);
+    cases.by(&[(1, load(&District::fresh())), (2, load(&District::fresh()))]);
+    cases.by(&[(1, load(&one_of_each())), (2, load(&one_of_each())), (1, load(&card()))]);
+}
+
+/// All file checks come before 17.
+fn other_tables_and_more(cases: &mut Cases) {
+    let moved = file::encode(&changed(south(), |d| d.strategies[0].gains[0] += 1));
+    let starts = make::record_starts(&moved);
+    let first = [(1, load(&north()))];
+    let mut files =
+        vec![[&moved[..], &[0]].concat(), moved[..moved.len() - 1].to_vec(), moved[..moved.len() - 4].to_vec()];
+    for &start in &starts[starts.len() - 4..] {
+        files.push(with(&moved, start + 2, 9));
+        files.push(with(&moved, start, moved[start] + 1));
+        files.push(moved[..start + 2].to_vec());
+    }
+    // Values of the last segment: its pavement type, its bars, a rating, its leader.
+    let last = starts[starts.len() - 2] + 4;
+    for (at, byte) in [(0, 3), (8, 4), (10, 51), (12, 3)] {
+        files.push(with(&moved, last + at, byte));
+    }
+    for bytes in files {
+        cases.by(&[&first[..], &[(2, Call::Load(bytes.clone()))]].concat());
+        // Refused for itself, a file changes no tables where it could.
+        let calls = [(2, Call::Load(bytes)), (1, load(&south())), (2, load(&north()))];
+        for count in 1..=3 {
+            cases.by(&calls[..count]);
+        }
+    }
+}
+
+/// The number of segments, limits, all values of segments and the form of the file are no shared tables.
+fn what_is_not_shared(cases: &mut Cases) {
+    let alone: Vec<offices::Change> = vec![
+        |d| d.limits[0] = 0,
+        |d| d.limits[1] = LIMIT_MOST,
+        |d| d.segments.clear(),
+        |d| d.segments.truncate(1),
+        |d| d.segments[0].pavement = 2,
+        |d| d.segments[0].traffic = 200,
+        |d| d.segments[1].environment = 150,
+        |d| d.segments[0].length = 300,
+        |d| d.segments[1].width = 12,
+        |d| d.segments[0].bars = 2,
+        |d| d.segments[1].ratings[1] = 39,
+        |d| d.segments[1].leader = 1,
+    ];
+    for change in alone {
+        cases.by_and_shown(&[(1, load(&north())), (2, load(&changed(north(), change)))]);
+        cases.by(&[(2, load(&changed(north(), change))), (1, load(&north()))]);
+    }
+    cases.by(&[(1, load(&north())), (2, Call::Load(file::encode_led(&north())))]);
+    cases.by(&[(1, Call::Load(file::encode_led(&south()))), (2, load(&north()))]);
+    // What edits have made of the other's district is not shared either.
+    for edit in [Call::SetLimit(1, 1), Call::SetRating(1, 1, 1), Call::Bar(1, 1), Call::SetLeader(2, 1)] {
+        cases.by_and_shown(&[(1, load(&north())), (1, edit), (2, load(&north()))]);
+    }
+    // A load with equal tables leaves limits and edits of the other.
+    let edits = [(1, Call::SetLimit(1, 20)), (1, Call::Bar(1, 1)), (1, Call::SetLeader(2, 1))];
+    cases.by_and_shown(
+        &[&[(1, load(&north()))], &edits[..], &[(2, load(&south())), (2, load(&bare(south())))]].concat(),
+    );
+}
+
+/// A load of other tables gives them to the other office too: as many limits as there are resources now, all of
+/// them 0, and the tables in its file.
+fn tables_for_both(cases: &mut Cases) {
+    let changes = offices::changes();
+    for change in [changes[0], changes[23], changes[24]] {
+        let other = changed(north(), change);
+        let before = [(2, Call::SetLimit(1, 5)), (1, load(&north())), (2, Call::SetLimit(2, 7)), (1, load(&other))];
+        for resource in 1..=4 {
+            cases.by(&[&before[..], &[(2, Call::SetLimit(resource, 9))]].concat());
+        }
+        let length = file::encode(&bare(other.clone())).len() as u32;
+        for room in [length - 1, length] {
+            cases.by(&[&before[..], &[(2, Call::Export(room))]].concat());
+        }
+        cases.by(&[&before[..], &[(2, Call::Bar(1, 1))]].concat());
+        cases.by(&[&before[..], &[(2, Call::Show)]].concat());
+        cases.by(&[&before[..], &[(2, load(&other)), (2, Call::SetLimit(1, 20))]].concat());
+    }
+}
+
+/// Each office has its own window; loads leave both.
+fn windows_of_both(cases: &mut Cases) {
+    let one = Call::Index(lists::reading(1_024));
+    let moved = changed(north(), |d| d.strategies[0].gains[0] += 1);
+    let between = [
+        vec![],
+        vec![(1, load(&north()))],
+        vec![(2, load(&south()))],
+        vec![(1, load(&north())), (2, load(&south()))],
+        vec![(1, load(&north())), (1, load(&moved))],
+        vec![(2, load(&north())), (2, load(&moved)), (1, load(&moved))],
+        vec![(1, load(&north())), (2, load(&moved))],
+        vec![(1, Call::Marker(1))],
+        vec![(2, Call::Marker(2))],
+        vec![(1, Call::Lost), (2, Call::Lost)],
+        vec![(2, Call::Index(u32::MAX))],
+        vec![(3, Call::Marker(3))],
+        vec![(0, Call::Marker(3)), (3, Call::Index(0))],
+    ];
+    for calls in between {
+        for (reader, asker) in [(1, 1), (1, 2), (2, 1), (2, 2)] {
+            cases.by(&[&[(reader, one.clone())], &calls[..], &[(asker, Call::Roughness)]].concat());
+        }
+    }
+    // More than are kept in one; one in the other.
+    let mut many: Vec<(u32, Call)> = (0..70).map(|at| (1, Call::Index(lists::reading(100 * at)))).collect();
+    many.push((2, Call::Roughness));
+    cases.by(&many);
+    many.extend([(2, one), (1, Call::Marker(0)), (2, Call::Roughness)]);
+    cases.by(&many);
+    many.push((1, Call::Roughness));
+    cases.by(&many);
+}
+
+/// Many calls by both, and what each shows behind them.
+fn lists_by_both(cases: &mut Cases) {
+    for (seed, count) in [(720, 20), (721, 40), (722, 60), (723, 80), (724, 120), (725, 160), (726, 200)] {
+        cases.by_and_shown(&lists::by_both(&mut Random::new(seed), count));
+    }
 }
 
 // ---- districts
@@ -841,7 +1135,7 @@ fn dearest() -> District {
     district
 }
 
-fn card() -> District {
+pub fn card() -> District {
     let mut card = plain(&[130], &[(5, &[1_000]), (15, &[3_000])], &[(1, 5), (2, 15)]);
     card.years = 2;
     card.greatest = vec![20];
@@ -853,7 +1147,7 @@ fn card() -> District {
 }
 
 /// Two of each count, with sizes and requirements that differ.
-fn two_of_each() -> District {
+pub fn two_of_each() -> District {
     let strategy = |requirements: [u32; 2], gains: [i8; 2], percent: u8| Strategy {
         requirements: requirements.to_vec(),
         gains: gains.to_vec(),

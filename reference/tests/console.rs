@@ -100,6 +100,30 @@ fn records() {
     assert_eq!(answers("records", input), expected);
 }
 
+/// The office that later lines name, any number at all; what is refused for one
+/// that there is not, what is said before that, and what makes no call.
+#[test]
+fn offices() {
+    let nothing = "benefit 0\nceiling 0\nsteps 0 0 0\n";
+    let input = b"load card.bin\noffice 2\nshow\nlimit 1 7\noffice 1\nshow\noffice 02\nload card.bin\nlimit 1 60\nbar 2 1\nshow\n\
+        index 0\nroughness\noffice 1\nshow\nroughness\n";
+    let expected = format!(
+        "ok\nok\n{nothing}ok\nok\n{CARD_LISTING}ok\nok\nok\nok\n1 2\n2 0\nbenefit 5250000\nceiling 5250000\nsteps 0 0 0\n\
+         ok\npoints 50 marker 0\nok\n{CARD_LISTING}refused 13\n"
+    );
+    assert_eq!(answers("offices", input), expected);
+    for number in ["0", "3", "257", "4294967297", "4294967298", "18446744073709551615"] {
+        let input = format!(
+            "office {number}\nload card.bin\nexport out\nbar 9 9\nunbar 1 1\nlimit 9 9\nrating 1 1 1\nleader 1 1\nshow\npage\n\
+             why 1 1\nindex 1\nmarker 1\nlost\nroughness\nload none\nload .\npoints 6 3 1 0\nindex 4294967296\nbar 1\n# x\n\
+             office 1\nload out\nshow\n"
+        );
+        let said = "cannot open none\ncannot read .\npoints 7\nunknown command\nunknown command\n";
+        let expected = format!("ok\n{}{said}ok\ncannot open out\n{nothing}", "refused 16\n".repeat(14));
+        assert_eq!(answers("no-office", input.as_bytes()), expected);
+    }
+}
+
 #[test]
 fn refusals_and_failures() {
     let folder = folder("failures");
@@ -196,6 +220,15 @@ fn lines_that_are_no_commands() {
         "leader 1 -1",
         "Leader 1 0",
         "leaders 1 0",
+        "office",
+        "office ",
+        "office 1 2",
+        "office  1",
+        "office x",
+        "office -1",
+        "office 18446744073709551616",
+        "Office 1",
+        "offices 1",
         "lost 1",
         "lost ",
         " lost",

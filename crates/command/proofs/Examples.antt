@@ -7,8 +7,9 @@ use Rattle.base.specs.Text.{text}
 use Rattle.rules.specs.declared.Edit.the-variants.{Bar, Unbar, SetLimit, SetRating, SetLeader}
 use Rattle.rules.specs.declared.Sent.the-variants.{Index, Marker, Lost}
 use Rattle.command.specs.declared.Command.{Command}
-use Rattle.command.specs.declared.Command.the-variants.{Nothing, Unknown, Load, Export, Alter, Show, Points, Page, Why, Send, Roughness}
-use Rattle.command.specs.Reading.{same, isSpace, isOf, every, wordOf, restOf, numberFrom, numberIn, firstNumber, afterNumber, withNumber, arguments, placed, pathOf, isPath, row, rows, taken, meant, called, isComment, commandIn}
+use Rattle.command.specs.declared.Command.the-variants.{Nothing, Unknown, Load, Export, Alter, Show, Points, Page, Why, Send, Roughness, Office}
+use Rattle.base.specs.Same.{same}
+use Rattle.command.specs.Reading.{isSpace, isOf, every, wordOf, restOf, numberFrom, numberIn, firstNumber, afterNumber, withNumber, arguments, placed, pathOf, isPath, row, rows, taken, meant, called, isComment, commandIn}
 
 pub lines : List (List ℕ)
 unfolding text
@@ -18,6 +19,7 @@ lines =
     ∷ text "index 4294967296" ∷ text "marker 18446744073709551615" ∷ text "index" ∷ text "marker 1 2" ∷ text "index -1" ∷ text "lost 1" ∷ text "lost "
     ∷ text "roughness 1" ∷ text "roughnes" ∷ text "roughness9"
     ∷ text "leader 3 1" ∷ text "leader 3 0" ∷ text "leader 3" ∷ text "leader 3 1 0" ∷ text "leaders 3 1" ∷ text "leade 3 1"
+    ∷ text "office 2" ∷ text "office 18446744073709551615" ∷ text "office 18446744073709551616" ∷ text "office" ∷ text "office 1 2" ∷ text "offices 1"
     ∷ text "limit 1 18446744073709551615" ∷ text "limit 1 18446744073709551616" ∷ text "limit 1 000000000000000000001" ∷ text "limit 1 -1"
     ∷ text "" ∷ text " \t\r" ∷ text "# bar 1 2" ∷ text " # bar 1 2" ∷ (35 ∷ replicate 600 32) ∷ replicate 513 32 ∷ replicate 512 32
     ∷ text "bar 1  2" ∷ text "bar  1 2" ∷ text " bar 1 2" ∷ text "bar 1 2 " ∷ text "bar" ∷ text "bar 1" ∷ text "bar 1 2 3" ∷ text "bar1 2" ∷ text "barn 1 2" ∷ text "Bar 1 2" ∷ text "ba 1 2"
@@ -31,6 +33,7 @@ readings =
     ∷ Send (Index 1083598848) ∷ Send (Marker 4294967295) ∷ Send Lost ∷ Roughness ∷ Unknown ∷ Unknown
     ∷ Unknown ∷ Unknown ∷ Unknown ∷ Unknown ∷ Unknown ∷ Unknown ∷ Unknown ∷ Unknown
     ∷ Alter (SetLeader 3 1) ∷ Alter (SetLeader 3 0) ∷ Unknown ∷ Unknown ∷ Unknown ∷ Unknown
+    ∷ Office 2 ∷ Office 18446744073709551615 ∷ Unknown ∷ Unknown ∷ Unknown ∷ Unknown
     ∷ Alter (SetLimit 1 18446744073709551615) ∷ Unknown ∷ Unknown ∷ Unknown
     ∷ Nothing ∷ Nothing ∷ Nothing ∷ Unknown ∷ Nothing ∷ Unknown ∷ Nothing
     ∷ Unknown ∷ Unknown ∷ Unknown ∷ Unknown ∷ Unknown ∷ Unknown ∷ Unknown ∷ Unknown ∷ Unknown ∷ Unknown ∷ Unknown

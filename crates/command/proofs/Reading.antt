@@ -1,39 +1,25 @@
 -- Laws of the reading of a line: one byte more, one number more.
 use Prim.Native.Nat.{ℕ, zero, suc, _+_, _-_, _*_, _%_, _^_, _≤_, _<_}
-use mathlib.Core.Bool.{Bool, true, false, _&&_, and-false}
+use mathlib.Core.Bool.{Bool, true, false, _&&_}
 use mathlib.Core.List.{List, [], _∷_, _++_, append-nil, append-assoc}
 use mathlib.Core.Option.{Option, none, some}
 use mathlib.Core.Path.{_≡_, refl, sym, ap, _∙_, fun-ext}
 use native.Mathlib.Nat.{mod-eq-of-lt}
-use native.Mathlib.Numerals.{add-one}
 use native.Mathlib.Omega.{arith}
 use lib.Dec.{leb, ltb, eqb}
 use lib.ListN.{length, getD, take, drop, set, replicate, length-append, length-drop}
-use lib.Seq.{drop-cons, drop-drop, drop-set-lt, getD-drop, take-at, drop-at}
+use lib.Seq.{drop-drop, drop-set-lt, getD-drop, take-at, drop-at}
 use borrow.Author.Tests.{lt-ltb, le-ltb, le-leb, lt-leb, eq-eqb, ne-eqb, leb-true, leb-false, ltb-true}
 use Rattle.base.specs.Choice.{pick, only}
 use Rattle.base.proofs.Choice.{and-both}
-use Rattle.command.specs.Reading.{same, isOf, every, wordOf, restOf, numberIn, numberFrom, firstNumber, afterNumber, withNumber, arguments, at, placed, pathOf, sendOf, countOf}
+use Rattle.base.proofs.Same.{drop-next}
+use Rattle.command.specs.Reading.{isOf, every, wordOf, restOf, numberIn, numberFrom, firstNumber, afterNumber, withNumber, arguments, at, placed, pathOf, sendOf, countOf}
 use Rattle.rules.specs.declared.Sent.{Sent}
 use Rattle.command.specs.declared.Command.the-variants.{Send, Unknown}
 use Rattle.command.specs.declared.Kind.{Kind}
 use Rattle.command.specs.declared.Row.{Row}
 
-drop-next : (bs : List ℕ) (i : ℕ) → i < length bs → drop i bs ≡ getD bs i 0 ∷ drop (i + 1) bs
-drop-next bs i h = rw (add-one) (drop-cons bs i 0 h)
-
 -- ---- bytes
-
-pub same-next : (xs bs : List ℕ) (i : ℕ) → i < length xs → i < length bs → same (drop i xs) (drop i bs) ≡ (eqb (getD xs i 0) (getD bs i 0) && same (drop (i + 1) xs) (drop (i + 1) bs))
-unfolding same
-same-next xs bs i h k = rw (drop-next xs i h, drop-next bs i k)
-
-pub same-unlike : (xs bs : List ℕ) → ¬ (length xs ≡ length bs) → same xs bs ≡ false
-unfolding same
-same-unlike [] [] h = absurd (h refl)
-same-unlike [] (b ∷ bs) h = refl
-same-unlike (x ∷ xs) [] h = refl
-same-unlike (x ∷ xs) (b ∷ bs) h = rw (same-unlike xs bs (λ e. h (ap suc e))) (and-false (eqb x b))
 
 pub every-next : (kind : Kind) (bs : List ℕ) (i : ℕ) → i < length bs → every kind (drop i bs) ≡ (isOf kind (getD bs i 0) && every kind (drop (i + 1) bs))
 unfolding every

@@ -1,13 +1,14 @@
 -- A line of the panel as a command, for any bytes at all.
 use Prim.Native.Nat.{ℕ, zero, suc, _+_, _-_, _*_, _^_}
 use Prim.Native.String.{String}
-use mathlib.Core.Bool.{Bool, true, false, not, _&&_, _||_}
+use mathlib.Core.Bool.{Bool, true, not, _&&_, _||_}
 use mathlib.Core.List.{List, [], _∷_, _++_}
 use mathlib.Core.Option.{Option, none, some}
 use lib.Dec.{ltb, eqb}
 use lib.ListN.{length, getD, take, drop, replicate}
 use Rattle.base.specs.Choice.{pick, only}
 use Rattle.base.specs.Over.{between}
+use Rattle.base.specs.Same.{same}
 use Rattle.base.specs.Text.{text}
 use Rattle.rules.specs.declared.Edit.the-variants.{Bar, Unbar, SetLimit, SetRating, SetLeader}
 use Rattle.rules.specs.declared.Sent.{Sent}
@@ -26,13 +27,6 @@ use Rattle.command.specs.declared.Takes.{Takes}
 use Rattle.command.specs.declared.Takes.the-variants.{Numbers, Path}
 
 -- ---- bytes
-
--- the same bytes, as many of them
-unfoldable pub same : List ℕ → List ℕ → Bool
-same [] [] = true
-same [] (b ∷ bs) = false
-same (x ∷ xs) [] = false
-same (x ∷ xs) (b ∷ bs) = eqb x b && same xs bs
 
 -- a blank, a tab or a carriage return
 unfoldable pub isSpace : ℕ → Bool
@@ -128,6 +122,7 @@ rows =
     ∷ row "lost" Name.Lost (Numbers 0)
     ∷ row "roughness" Name.Roughness (Numbers 0)
     ∷ row "leader" Name.Leader (Numbers 2)
+    ∷ row "office" Name.Office (Numbers 1)
     ∷ []
 
 -- a record of the meter with these bits; a float has 32, and a number that has more is no command
@@ -151,6 +146,7 @@ made Name.Marker v = sendOf (v 0) (Marker (v 0))
 made Name.Lost v = Command.Send Lost
 made Name.Roughness v = Command.Roughness
 made Name.Leader v = Command.Alter (SetLeader (v 0) (v 1))
+made Name.Office v = Command.Office (v 0)
 
 -- the command of the first of some rows, where there is one
 unfoldable pub firstMade : List Row → (ℕ → ℕ) → Command

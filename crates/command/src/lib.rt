@@ -3,7 +3,8 @@ ghost use mathlib.Core.Path.{_≡_};
 ghost use mathlib.Core.List.{_∷_};
 ghost use Prim.Native.Nat.{_+_, _≤_, _<_};
 ghost use lib.ListN.{length, drop};
-ghost use Rattle.command.specs.Reading.{same as Reading·same, every as Reading·every, isSpace, isOf, wordOf, numberIn, firstNumber, afterNumber, arguments, at, placed, pathOf, isPath, rows, sendOf, made, numbered as Reading·numbered, taken, meant, called as Reading·called, isComment, commandIn, readNumber, numbersOf, countOf};
+ghost use Rattle.base.specs.Same.{same as Same·same};
+ghost use Rattle.command.specs.Reading.{every as Reading·every, isSpace, isOf, wordOf, numberIn, firstNumber, afterNumber, arguments, at, placed, pathOf, isPath, rows, sendOf, made, numbered as Reading·numbered, taken, meant, called as Reading·called, isComment, commandIn, readNumber, numbersOf, countOf};
 use rules::Edit;
 use rules::Sent;
 
@@ -24,6 +25,8 @@ pub enum Command {
     Why(usize, usize),
     Send(Sent),
     Roughness,
+    // Calls of later lines name that office.
+    Office(usize),
 }
 
 pub enum Name {
@@ -42,6 +45,7 @@ pub enum Name {
     Lost,
     Roughness,
     Leader,
+    Office,
 }
 
 // What a word takes: so many numbers, or a path.
@@ -53,7 +57,7 @@ pub enum Takes {
 // A word, with blanks behind it up to 9 bytes; what it names; and what it takes.
 pub struct Row(pub [u8; 9], pub Name, pub Takes);
 
-const WORDS: usize = 15;
+const WORDS: usize = 16;
 
 const ROWS: [Row; WORDS] = [
     Row(*b"load     ", Name::Load, Takes::Path),
@@ -71,6 +75,7 @@ const ROWS: [Row; WORDS] = [
     Row(*b"lost     ", Name::Lost, Takes::Numbers(0)),
     Row(*b"roughness", Name::Roughness, Takes::Numbers(0)),
     Row(*b"leader   ", Name::Leader, Takes::Numbers(2)),
+    Row(*b"office   ", Name::Office, Takes::Numbers(1)),
 ];
 
 pub enum Kind {
@@ -92,7 +97,7 @@ pub struct Arguments {
 // ---- bytes
 
 fn same(a: &[u8], b: &[u8]) -> bool
-    ensures { λ r. ⌜ r ≡ Reading·same (now (a .entry)) (now (b .entry)) ⌝ }
+    ensures { λ r. ⌜ r ≡ Same·same (now (a .entry)) (now (b .entry)) ⌝ }
 {
     if a.len() != b.len() {
         return false;
@@ -279,7 +284,7 @@ fn nth(n: usize) -> Row
 }
 
 fn same_word(a: &[u8], b: &[u8]) -> bool
-    ensures { λ r. ⌜ r ≡ Reading·same (wordOf (now (a .entry))) (wordOf (now (b .entry))) ⌝ }
+    ensures { λ r. ⌜ r ≡ Same·same (wordOf (now (a .entry))) (wordOf (now (b .entry))) ⌝ }
 {
     let m = word_length(a);
     let n = word_length(b);
@@ -320,6 +325,7 @@ fn make(name: Name, numbers: [usize; 4]) -> Command
         Name::Lost => Command::Send(Sent::Lost),
         Name::Roughness => Command::Roughness,
         Name::Leader => Command::Alter(Edit::SetLeader(a, b)),
+        Name::Office => Command::Office(a),
     }
 }
 

@@ -35,7 +35,7 @@ accepting-same d (suc n) = refl
 abbrev next : District → Call → District
 next d c = accepting (refusalOf d c) (altered d c) d
 
-unit-next : (d : District) (c : Call) → outcomeOf (unitOf d) c .unit ≡ unitOf (next d c)
+pub unit-next : (d : District) (c : Call) → outcomeOf (unitOf d) c .unit ≡ unitOf (next d c)
 unfolding outcomeOf refusalOf altered unitOf answered alterOf loadOf
 unit-next d (Load file) = accepting-unit d (refusalOf d (Load file)) (altered d (Load file))
 unit-next d (Alter e) = accepting-unit d (refusalOf d (Alter e)) (altered d (Alter e))

@@ -61,7 +61,7 @@ unless-passes : (t : Bool) (n rest : ℕ) → 1 ≤ n → unless t n rest ≡ 0 
 unless-passes true n rest h e = (refl, e)
 unless-passes false n rest h e = absurd (omega arith)
 
-one-to : (x count n rest : ℕ) → 1 ≤ n → oneTo x count n rest ≡ 0 → (1 ≤ x) × (x ≤ count) × (rest ≡ 0)
+pub one-to : (x count n rest : ℕ) → 1 ≤ n → oneTo x count n rest ≡ 0 → (1 ≤ x) × (x ≤ count) × (rest ≡ 0)
 one-to x count n rest h e =
     let u = unless-passes (leb 1 x && leb x count) n rest h e in
     let b = and-both (leb 1 x) (leb x count) (u .0) in

@@ -6,8 +6,7 @@ use native.Mathlib.Numerals.{add-one}
 use native.Mathlib.Omega.{arith}
 use lib.ListN.{length, take, drop, getD, set, length-append, drop-of-length-le}
 use lib.Seq.{take-all, take-at, take-suc-set, drop-cons, length-take-le}
-use Rattle.rules.specs.Offices.{Held}
-use Rattle.panel.specs.Console.{LineLeads}
+use Rattle.panel.specs.Console.{State, LineLeads}
 use Rattle.panel.specs.Lines.{keptBytes, keeping, Feeds, end, answer, keep}
 
 -- ---- of a line
@@ -25,22 +24,22 @@ module _ (buffer : List ℕ) (n b : ℕ) where
 
 -- ---- of the input
 
-pub fed-all : {h : Held} {line : List ℕ} (bytes : List ℕ) (i : ℕ) → length bytes ≤ i → Feeds h line (drop i bytes) h line
+pub fed-all : {s : State} {line : List ℕ} (bytes : List ℕ) (i : ℕ) → length bytes ≤ i → Feeds s line (drop i bytes) s line
 fed-all bytes i over = rw (drop-of-length-le bytes over) end
 
-module _ (bytes : List ℕ) (i : ℕ) (more : i < length bytes) {h k : Held} {line last : List ℕ} where
+module _ (bytes : List ℕ) (i : ℕ) (more : i < length bytes) {s u : State} {line last : List ℕ} where
   -- a line feed
   pub fed-line :
-      getD bytes i 0 ≡ 10 → {v : Held} {said front : List ℕ} → LineLeads h line v said → front ≡ []
-      → Feeds v front (drop (i + 1) bytes) k last → Feeds h line (drop i bytes) k last
+      getD bytes i 0 ≡ 10 → {t : State} {said front : List ℕ} → LineLeads s line t said → front ≡ []
+      → Feeds t front (drop (i + 1) bytes) u last → Feeds s line (drop i bytes) u last
   fed-line e l none f = rw (drop-cons bytes i 0 more, e) (answer l (rw (none, add-one i) at f))
 
   -- any other byte
   pub fed-byte :
       ¬ (getD bytes i 0 ≡ 10) → {front : List ℕ} → front ≡ keeping line (getD bytes i 0)
-      → Feeds h front (drop (i + 1) bytes) k last → Feeds h line (drop i bytes) k last
+      → Feeds s front (drop (i + 1) bytes) u last → Feeds s line (drop i bytes) u last
   fed-byte e kept f = rw (drop-cons bytes i 0 more) (keep e (rw (kept, add-one i) at f))
 
--- what the bytes ahead lead to from k, all the bytes lead to from h
-abbrev pub Ahead : Held → List ℕ → List ℕ → List ℕ → List ℕ → Held → Type 0
-Ahead h line bytes front ahead k = (l : Held) (last : List ℕ) → Feeds k front ahead l last → Feeds h line bytes l last
+-- what the bytes ahead lead to from t, all the bytes lead to from s
+abbrev pub Ahead : State → List ℕ → List ℕ → List ℕ → List ℕ → State → Type 0
+Ahead s line bytes front ahead t = (u : State) (last : List ℕ) → Feeds t front ahead u last → Feeds s line bytes u last

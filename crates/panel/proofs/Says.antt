@@ -1,32 +1,43 @@
--- How long an exported file and a complaint are at most; and from what a command says to what is put.
+-- How long an exported file and a complaint are at most; and from what a command says to what is claimed of a line.
 use Prim.Native.Nat.{ℕ, _+_, _≤_}
 use mathlib.Core.Bool.{Bool, true, false}
 use mathlib.Core.List.{List, _++_}
-use mathlib.Core.Path.{_≡_, refl, sym, ap, _∙_}
+use mathlib.Core.Path.{_≡_, refl, sym, ap, subst, _∙_}
 use native.Mathlib.Omega.{arith}
 use lib.Dec.{leb}
 use lib.ListN.{length, length-append}
 use borrow.Author.Tests.{leb-true}
-use Rattle.base.specs.Text.{text}
-use Rattle.listing.specs.Listing.{failed}
-use Rattle.rules.specs.Answers.{bufferTooShort, unless, answerOf}
-use Rattle.rules.specs.Calls.{Export, exportRefusal, exported, exportOf}
+use Rattle.base.specs.Text.{text, Put}
+use Rattle.listing.specs.Listing.{refusal, done, failed}
+use Rattle.rules.specs.Answers.{noSuchOffice, bufferTooShort, unless, answerOf}
+use Rattle.rules.specs.Calls.{exportRefusal, exported, exportOf}
 use Rattle.rules.specs.File.{encode}
-use Rattle.rules.specs.declared.Answer.{Answer}
+use Rattle.rules.specs.Lists.{ExportTo, outcomeOf}
+use Rattle.rules.specs.Offices.{Held, OfficeCall, Plan, officeOutcome}
+use Rattle.rules.specs.Stations.{Which, Both, own, numberOf, callOf, bringsTables, StationOutcome, stationOutcome}
 use Rattle.rules.specs.declared.Answer.the-variants.{Accepted}
-use Rattle.rules.specs.declared.Sent.{Sent}
 use Rattle.rules.specs.declared.Unit.{Unit}
 use Rattle.command.proofs.Reading.{path-fits}
 use Rattle.command.specs.Reading.{pathOf, commandIn}
 use Rattle.command.specs.declared.Command.{Command}
 use Rattle.command.specs.declared.Command.the-variants as Command
-use Rattle.rules.specs.Offices.{Held}
-use Rattle.office.specs.Kept.{Keeps}
 use Rattle.office.specs.declared.Office.{Office}
-use Rattle.panel.specs.Console.{said, after, Says, Puts, besideHeard, LineLeads, other, Beside, Tells, Turns}
+use Rattle.station.proofs.Numbers.{office-named, nobody-named, of-unit}
+use Rattle.station.proofs.Questions.{told-nobody, told-named}
+use Rattle.station.proofs.Replies.{refused-not}
+use Rattle.station.specs.Kept.{isOffice, officeIn, KeepsBoth, ReportsBoth}
+use Rattle.station.specs.declared.Station.{Station}
+use Rattle.station.specs.declared.StationReply.{StationReply}
+use Rattle.panel.specs.Console as Console
+use Rattle.panel.specs.Console.{State, stateOf, outcome, called, printedFor, printed, said, after, LineLeads, KeepsState, Says, Tells, Turns}
 use Rattle.panel.specs.Lines.{Keeping, Leads}
-use Rattle.panel.specs.declared.Said.{Said}
+use Rattle.panel.specs.declared.Console.{Console}
 use Rattle.panel.specs.declared.Turn.{Turn}
+
+-- ---- lengths
+
+pub answer-of : {a b : StationOutcome} → a ≡ b → a .answer ≡ b .answer
+answer-of e = ap (λ (o : StationOutcome). o .answer) e
 
 -- an export that is accepted has room
 accepted-fits : (size room n : ℕ) → answerOf (unless (leb size room) bufferTooShort 0) size ≡ Accepted n → n ≤ room
@@ -37,11 +48,18 @@ accepted-fits size room n e = go (leb size room) refl e
     go true l e =
         let same : size ≡ n = cc in
         omega (arith, leb-true size room l)
-    go false l e = let z : _≡_ {A = ℕ} 0 1 = cc in absurd (omega arith)
+    go false l e = refused-not e
 
-pub export-fits : (u : Unit) (old : List ℕ) (answer : Answer) (new : List ℕ) (n : ℕ) → record { answer = answer; buffer = new } ≡ exportOf u old → answer ≡ Accepted n → n ≤ length old
-unfolding exportOf exported exportRefusal
-export-fits u old answer new n e a = accepted-fits (length (encode (u .district))) (length old) n (sym (ap (λ (x : Export). x .answer) e) ∙ a)
+pub export-fits : (b : Both Held) (n : ℕ) (buffer : List ℕ) (m : ℕ) → stationOutcome b (callOf n (Plan (ExportTo buffer))) .answer ≡ Accepted m → m ≤ length buffer
+unfolding bringsTables officeOutcome outcomeOf exportOf exported exportRefusal
+export-fits b n buffer m e = go (isOffice n) refl
+  where
+    go : (t : Bool) → isOffice n ≡ t → m ≤ length buffer
+    go true is =
+        let o = office-named n is in
+        let alone = told-named b n (Plan (ExportTo buffer)) (λ d. refl) (o .which) (o .number) _ _ refl in
+        accepted-fits (length (encode (own (o .which) b .unit .district))) (length buffer) m (sym (answer-of alone) ∙ e)
+    go false is = refused-not (sym (answer-of (told-nobody b n (Plan (ExportTo buffer)) is)) ∙ e)
 
 pub failed-length : (what path : List ℕ) → length (failed what path) ≡ length what + length path + 1
 unfolding failed text
@@ -51,39 +69,64 @@ failed-length what path = omega (arith, length-append what (path ++ text "\n"), 
 pub path-short : (line path : List ℕ) (most : ℕ) → path ≡ pathOf line → length line ≤ most → length path ≤ most
 path-short line path most e h = omega (arith, ap length e, path-fits line)
 
--- ---- what is put
+-- ---- what is printed of an office's unit
 
-pub puts : {R : Unit → List ℕ → Type 0} {v : Unit} {bs old new : List ℕ} {r : Said} → Says v bs old new r → R v bs → Puts R old new r
-puts {bs = bs} s h = record { bytes = bs; leads = rw (s .unit) h; put = s .put }
+module _ (print : Unit → List ℕ) (s : Station) (b : Both Held) (n : ℕ) (k : KeepsBoth s b) where
+  pub printed-own :
+      (o : Office) → ((w : Which) → n ≡ numberOf w → o ≡ officeIn w s) → isOffice n ≡ true → print (o .unit) ≡ printed print (stateOf b n)
+  printed-own o is e = of-unit print (λ w. printedFor w print b) s n o is e b k (λ w. refl)
 
--- ---- and in an office
+  pub printed-none : isOffice n ≡ false → refusal noSuchOffice ≡ printed print (stateOf b n)
+  printed-none e = rw (nobody-named n e)
 
-pub turns : {R : Held → List ℕ → Type 0} {k : Held} {bs old new : List ℕ} {r : Turn} → Tells k bs old new r → R k bs → Turns R old new r
-turns {k = k} {bs = bs} t l = record { held = k; bytes = bs; leads = l; tells = t }
+-- ---- what is told
 
--- the unit's part put back
-pub turns-beside :
-    {R : Unit → List ℕ → Type 0} {S : Held → List ℕ → Type 0} {o : Office} {h : Held} {s : Said} {old new : List ℕ} {r : Turn}
-    → Keeps o h → Beside o s r → ((v : Unit) (bs : List ℕ) → R v bs → S (besideHeard h v) bs) → Puts R old new s → Turns S old new r
-turns-beside {h = h} {s = s} k b f p =
-    record {
-      held = besideHeard h (s .unit);
-      bytes = p .bytes;
-      leads = f (s .unit) (p .bytes) (p .leads);
-      tells = record { keeps = record { unit = b .unit; window = rw (b .window) (k .window) }; put = rw (b .length) (p .put) };
-    }
+-- nothing changes
+pub stays :
+    {c : Console} {b : Both Held} {bs old new : List ℕ} {n : ℕ} → KeepsBoth (c .station) b → Put bs old new n
+    → Tells (stateOf b (c .office)) bs old new (record { console = c; length = n })
+stays k p = record { keeps = record { station = k; office = refl }; put = p }
 
--- of a line that is neither for a file nor for the meter
+pub tells : {c : Console} {s : State} {bs old new : List ℕ} {r : Turn} → Says c bs old new r → KeepsState c s → Tells s bs old new r
+tells p k = record { keeps = rw (p .console) k; put = p .put }
+
+-- the reply to a call
+pub replied :
+    {n : ℕ} {b : Both Held} {call : OfficeCall} {reply : StationReply} {old new : List ℕ} {r : Turn}
+    → ReportsBoth b (callOf n call) reply
+    → Says (record { station = reply .station; office = n }) (done (reply .answer)) old new r
+    → Tells (called (stateOf b n) call) (done (outcome (stateOf b n) call .answer)) old new r
+replied p q = tells (rw (p .answer) at q) record { station = p .station; office = refl }
+
+-- ---- where a line leads
+
+pub turns : {R : State → List ℕ → Type 0} {s : State} {bs old new : List ℕ} {r : Turn} → Tells s bs old new r → R s bs → Turns R old new r
+turns {s = s} {bs = bs} t l = record { state = s; bytes = bs; leads = l; tells = t }
+
+-- from what both hold to what the console keeps
+of-state :
+    {c : Console} {s : State} (P : State → Type 0) → KeepsState c s → ((b : Both Held) → KeepsBoth (c .station) b → P (stateOf b (c .office))) → P s
+of-state {s = s} P k f = rw (k .office) at (f (s .held) (k .station))
+
+-- a command with a file
+pub turns-file :
+    (R : State → List ℕ → State → List ℕ → Type 0) {c : Console} {s : State} {line path old new : List ℕ} {r : Turn} → KeepsState c s
+    → path ≡ pathOf line → ((t : State) (bs : List ℕ) → R s (pathOf line) t bs → LineLeads s line t bs)
+    → ((b : Both Held) → KeepsBoth (c .station) b → Turns (R (stateOf b (c .office)) path) old new r) → Turns (LineLeads s line) old new r
+turns-file R {s = s} {path = path} {old = old} {new = new} {r = r} k e f p =
+    let t = of-state (λ s. Turns (R s path) old new r) k p in
+    let leads = subst (λ (x : List ℕ). R s x (t .state) (t .bytes)) e (t .leads) in
+    record { state = t .state; bytes = t .bytes; leads = f (t .state) (t .bytes) leads; tells = t .tells }
+
+-- any other
 pub turns-other :
-    {o : Office} {h : Held} {u : Unit} {command : Command} {line old new : List ℕ} {s : Said} {r : Turn}
-    → Keeps o h → Beside o s r → u ≡ h .unit → command ≡ commandIn line
+    {c : Console} {s : State} {command : Command} {line old new : List ℕ} {r : Turn} → KeepsState c s → command ≡ commandIn line
     → ¬ (command ≡ Command.Load) → ¬ (command ≡ Command.Export)
-    → ((sent : Sent) → ¬ (command ≡ Command.Send sent)) → ¬ (command ≡ Command.Roughness)
-    → Says (after u command) (said u command) old new s → Turns (LineLeads h line) old new r
-turns-other {h = h} {line = line} k b unit e l x m a s =
-    turns-beside {R = λ v bs. LineLeads h line (besideHeard h v) bs} k b
-    (λ v bs leads. leads)
-    (puts (rw (unit, e) at s) (other (λ i. l (e ∙ i)) (λ i. x (e ∙ i)) (λ sent i. m sent (e ∙ i)) (λ i. a (e ∙ i))))
+    → ((b : Both Held) → KeepsBoth (c .station) b → Tells (after (stateOf b (c .office)) command) (said (stateOf b (c .office)) command) old new r)
+    → Turns (LineLeads s line) old new r
+turns-other {command = command} {old = old} {new = new} {r = r} k e l x p =
+    turns (rw e at (of-state (λ s. Tells (after s command) (said s command) old new r) k p))
+    (Console.other (λ i. l (e ∙ i)) (λ i. x (e ∙ i)))
 
-pub turned : {h : Held} {line old new : List ℕ} {r : Turn} → Turns (LineLeads h line) old new r → Keeping (Leads h line) (r .office)
-turned t = record { held = t .held; keeps = t .tells .keeps; is = record { bytes = t .bytes; leads = t .leads } }
+pub turned : {s : State} {line old new : List ℕ} {r : Turn} → Turns (LineLeads s line) old new r → Keeping (Leads s line) (r .console)
+turned t = record { state = t .state; keeps = t .tells .keeps; is = record { bytes = t .bytes; leads = t .leads } }

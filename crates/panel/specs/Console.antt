@@ -1,117 +1,137 @@
 -- What the console answers to a line, and what is held after it.
 use Prim.Native.Nat.{ℕ}
 use mathlib.Core.List.{List, []}
+use mathlib.Core.Option.{Option, none, some}
 use mathlib.Core.Path.{_≡_}
 use lib.ListN.{length}
 use Rattle.base.specs.Text.{text, Put}
-use Rattle.rules.specs.Calls.{loadOf, alterOf, exportOf, whyOf}
+use Rattle.rules.specs.Answers.{noSuchOffice}
 use Rattle.rules.specs.File.{longestFile}
-use Rattle.rules.specs.Meter.{roughnessOf}
+use Rattle.rules.specs.Lists as Lists
+use Rattle.rules.specs.Lists.{ExportTo}
 use Rattle.rules.specs.Offices as Offices
-use Rattle.rules.specs.Offices.{Held, officeOutcome}
+use Rattle.rules.specs.Offices.{Held, OfficeCall, Plan}
+use Rattle.rules.specs.Stations.{Which, Both, own, officeOf, freshBoth, callOf, StationOutcome, stationOutcome}
 use Rattle.rules.specs.Survey.{surveyOf}
-use Rattle.rules.specs.declared.Sent.{Sent}
+use Rattle.rules.specs.declared.Answer.the-variants.{Accepted}
 use Rattle.rules.specs.declared.Unit.{Unit}
 use Rattle.command.specs.Reading.{pathOf, commandIn}
 use Rattle.command.specs.declared.Command.{Command}
-use Rattle.command.specs.declared.Command.the-variants.{Nothing, Unknown, Load, Export, Alter, Show, Points, Page, Why, Send, Roughness}
-use Rattle.listing.specs.Listing.{done, shown, valued, explained, told, failed}
-use Rattle.office.specs.Kept.{Keeps}
-use Rattle.office.specs.declared.Office.{Office}
+use Rattle.command.specs.declared.Command.the-variants.{Nothing, Unknown, Load, Export, Alter, Show, Points, Page, Why, Send, Roughness, Office}
+use Rattle.listing.specs.Listing.{shown, refusal, done, valued, explained, told, failed}
 use Rattle.pages.specs.Printed.{pageHeld, longestPage}
-use Rattle.panel.specs.declared.Said.{Said}
+use Rattle.station.specs.Kept.{KeepsBoth}
+use Rattle.station.specs.Questions.{whyFor, roughnessFor}
+use Rattle.panel.specs.declared.Console.{Console}
 use Rattle.panel.specs.declared.Turn.{Turn}
 
 -- an answer has at most as many bytes as the longest page
 abbrev pub longestAnswer : ℕ
 longestAnswer = longestPage
 
--- ---- the unit's commands without a file; a load and an export have theirs below, and so have the meter's commands
+-- what the console goes by: what both offices hold, and the number of the office that calls name
+pub record State : Type 0 where
+  pub held : Both Held
+  pub office : ℕ
 
-unfoldable pub said : Unit → Command → List ℕ
-said u Nothing = []
-said u Unknown = text "unknown command\n"
-said u Load = []
-said u Export = []
-said u (Alter e) = done (alterOf u e .answer)
-said u Show = shown u
-said u (Points c d e s) = valued (text "points ") (surveyOf c d e s)
-said u Page = pageHeld u
-said u (Why i j) = explained (whyOf u i j)
-said u (Send s) = []
-said u Roughness = []
+abbrev pub stateOf : Both Held → ℕ → State
+stateOf b n = record { held = b; office = n }
 
-unfoldable pub after : Unit → Command → Unit
-after u Nothing = u
-after u Unknown = u
-after u Load = u
-after u Export = u
-after u (Alter e) = alterOf u e .unit
-after u Show = u
-after u (Points c d e s) = u
-after u Page = u
-after u (Why i j) = u
-after u (Send s) = u
-after u Roughness = u
+-- before the first line
+abbrev pub start : State
+start = stateOf freshBoth 1
 
--- the unit v, and bs over the front of a buffer that held `old` and then holds `new`
-pub record Says (v : Unit) (bs old new : List ℕ) (r : Said) : Type 0 where
-  pub unit : r .unit ≡ v
-  pub put : Put bs old new (r .length)
+-- what a call of the office that is named does, and what the console goes by then
+abbrev pub outcome : State → OfficeCall → StationOutcome
+outcome s c = stationOutcome (s .held) (callOf (s .office) c)
 
--- ---- the unit's commands with a file: what the file held, and whether one could be written, no contract can tell
+abbrev pub called : State → OfficeCall → State
+called s c = stateOf (outcome s c .held) (s .office)
 
--- a load leads from u to v and says bs: the answer to the bytes that were read, or that none were
-pub data Loads (u : Unit) (path : List ℕ) : Unit → List ℕ → Type 0 where
-  read : (file : List ℕ) → Loads u path (loadOf u file .unit) (done (loadOf u file .answer))
-  unopened : Loads u path u (failed (text "cannot open ") path)
-  unread : Loads u path u (failed (text "cannot read ") path)
+-- ---- commands without a file; a load and an export have theirs below
 
--- an export leaves the unit as it is; every file of a district has room in the longest
-pub data Exports (u : Unit) (path : List ℕ) : Unit → List ℕ → Type 0 where
-  written : (buffer : List ℕ) → length buffer ≡ longestFile → Exports u path u (valued (text "ok ") (exportOf u buffer .answer))
-  unwritten : Exports u path u (failed (text "cannot write ") path)
+-- of an office what is printed of its unit
+abbrev pub printedFor : Option Which → (Unit → List ℕ) → Both Held → List ℕ
+printedFor none print b = refusal noSuchOffice
+printedFor (some w) print b = print (own w b .unit)
 
--- the bytes that one of these says with the unit after, over the front of a buffer
-pub record Puts (R : Unit → List ℕ → Type 0) (old new : List ℕ) (r : Said) : Type 0 where
-  pub bytes : List ℕ
-  pub leads : R (r .unit) bytes
-  pub put : Put bytes old new (r .length)
+abbrev pub printed : (Unit → List ℕ) → State → List ℕ
+printed print s = printedFor (officeOf (s .office)) print (s .held)
+
+-- the points of a survey are no office's
+unfoldable pub said : State → Command → List ℕ
+said s Nothing = []
+said s Unknown = text "unknown command\n"
+said s Load = []
+said s Export = []
+said s (Alter e) = done (outcome s (Plan (Lists.Alter e)) .answer)
+said s Show = printed shown s
+said s (Points c d e x) = valued (text "points ") (surveyOf c d e x)
+said s Page = printed pageHeld s
+said s (Why i j) = explained (whyFor (officeOf (s .office)) (s .held) i j)
+said s (Send x) = done (outcome s (Offices.Send x) .answer)
+said s Roughness = told (roughnessFor (officeOf (s .office)) (s .held))
+said s (Office n) = text "ok\n"
+
+-- any number can be named; a call then tells whether an office has it
+unfoldable pub after : State → Command → State
+after s Nothing = s
+after s Unknown = s
+after s Load = s
+after s Export = s
+after s (Alter e) = called s (Plan (Lists.Alter e))
+after s Show = s
+after s (Points c d e x) = s
+after s Page = s
+after s (Why i j) = s
+after s (Send x) = called s (Offices.Send x)
+after s Roughness = s
+after s (Office n) = stateOf (s .held) n
+
+-- ---- commands with a file: what the file held, and whether one could be written, no contract can tell
+
+-- a load leads from s to another state and says some bytes: the answer to the bytes that were read, or that none were
+pub data Loads (s : State) (path : List ℕ) : State → List ℕ → Type 0 where
+  read : (file : List ℕ) → Loads s path (called s (Plan (Lists.Load file))) (done (outcome s (Plan (Lists.Load file)) .answer))
+  unopened : Loads s path s (failed (text "cannot open ") path)
+  unread : Loads s path s (failed (text "cannot read ") path)
+
+-- an export leaves all as it is; every file of a district has room in the longest, and none is made where the call is refused
+pub data Exports (s : State) (path : List ℕ) : State → List ℕ → Type 0 where
+  written : (buffer : List ℕ) → length buffer ≡ longestFile → Exports s path s (valued (text "ok ") (outcome s (Plan (ExportTo buffer)) .answer))
+  unwritten :
+      (buffer : List ℕ) (n : ℕ) → length buffer ≡ longestFile → outcome s (Plan (ExportTo buffer)) .answer ≡ Accepted n
+      → Exports s path s (failed (text "cannot write ") path)
 
 -- ---- lines
 
--- another unit beside what was heard
-abbrev pub besideHeard : Held → Unit → Held
-besideHeard h u = record { unit = u; heard = h .heard }
-
--- a line leads from what is held to what is held then, and says bs
-pub data LineLeads (h : Held) (line : List ℕ) : Held → List ℕ → Type 0 where
-  load : {v : Unit} {bs : List ℕ} → commandIn line ≡ Load → Loads (h .unit) (pathOf line) v bs → LineLeads h line (besideHeard h v) bs
-  export : {v : Unit} {bs : List ℕ} → commandIn line ≡ Export → Exports (h .unit) (pathOf line) v bs → LineLeads h line (besideHeard h v) bs
-  send :
-      {s : Sent} → commandIn line ≡ Send s
-      → LineLeads h line (officeOutcome h (Offices.Send s) .held) (done (officeOutcome h (Offices.Send s) .answer))
-  ask : commandIn line ≡ Roughness → LineLeads h line h (told (roughnessOf (h .heard)))
+-- a line leads from s to another state, and says some bytes
+pub data LineLeads (s : State) (line : List ℕ) : State → List ℕ → Type 0 where
+  load : {t : State} {bs : List ℕ} → commandIn line ≡ Load → Loads s (pathOf line) t bs → LineLeads s line t bs
+  export : {t : State} {bs : List ℕ} → commandIn line ≡ Export → Exports s (pathOf line) t bs → LineLeads s line t bs
   other :
-      ¬ (commandIn line ≡ Load) → ¬ (commandIn line ≡ Export) → ((s : Sent) → ¬ (commandIn line ≡ Send s)) → ¬ (commandIn line ≡ Roughness)
-      → LineLeads h line (besideHeard h (after (h .unit) (commandIn line))) (said (h .unit) (commandIn line))
+      ¬ (commandIn line ≡ Load) → ¬ (commandIn line ≡ Export)
+      → LineLeads s line (after s (commandIn line)) (said s (commandIn line))
 
--- ---- and in an office
+-- ---- and in the console
 
--- the unit that a command leaves stands beside the window that o has
-pub record Beside (o : Office) (s : Said) (r : Turn) : Type 0 where
-  pub unit : r .office .unit ≡ s .unit
-  pub window : r .office .window ≡ o .window
-  pub length : r .length ≡ s .length
+pub record KeepsState (c : Console) (s : State) : Type 0 where
+  pub station : KeepsBoth (c .station) (s .held)
+  pub office : c .office ≡ s .office
 
--- the office keeps h, and bs stands over the front of a buffer
-pub record Tells (h : Held) (bs old new : List ℕ) (r : Turn) : Type 0 where
-  pub keeps : Keeps (r .office) h
+-- the console c, and bs over the front of a buffer that held `old` and then holds `new`
+pub record Says (c : Console) (bs old new : List ℕ) (r : Turn) : Type 0 where
+  pub console : r .console ≡ c
   pub put : Put bs old new (r .length)
 
--- with one that R leads to, and the bytes that it says
-pub record Turns (R : Held → List ℕ → Type 0) (old new : List ℕ) (r : Turn) : Type 0 where
-  pub held : Held
+-- a console that keeps s
+pub record Tells (s : State) (bs old new : List ℕ) (r : Turn) : Type 0 where
+  pub keeps : KeepsState (r .console) s
+  pub put : Put bs old new (r .length)
+
+-- one that R leads to, with the bytes that it says
+pub record Turns (R : State → List ℕ → Type 0) (old new : List ℕ) (r : Turn) : Type 0 where
+  pub state : State
   pub bytes : List ℕ
-  pub leads : R held bytes
-  pub tells : Tells held bytes old new r
+  pub leads : R state bytes
+  pub tells : Tells state bytes old new r

@@ -1,202 +1,221 @@
-// A console over one office, fresh at its start: each line of standard input is a command, answered on standard output.
-// The end of the input ends it.
+// A console over two offices on one unit, fresh at its start: each line of standard input is a command, answered on
+// standard output. The end of the input ends it.
 mod files;
 
 ghost use Prim.Native.Nat.{_≤_};
 ghost use mathlib.Core.Path.{_≡_};
 ghost use lib.ListN.{length, take};
-ghost use Rattle.listing.specs.Listing.{done, told, failed as Listing·failed};
-ghost use Rattle.rules.specs.Meter.{roughnessOf};
-ghost use Rattle.rules.specs.Offices.{Held, Send, officeOutcome};
-ghost use Rattle.office.specs.Kept.{Keeps};
-ghost use Rattle.panel.specs.Console.{longestAnswer, said, after, Says, Puts, Loads, Exports, Beside, Tells, LineLeads, Turns};
+ghost use Rattle.base.specs.Text.{Put};
+ghost use Rattle.listing.specs.Listing.{shown, done, failed as Listing·failed};
+ghost use Rattle.pages.specs.Printed.{pageHeld};
+ghost use Rattle.rules.specs.Offices.{Held};
+ghost use Rattle.rules.specs.Stations.{Both};
+ghost use Rattle.station.specs.Kept.{KeepsBoth};
+ghost use Rattle.panel.specs.Console.{longestAnswer, State, start as Console·start, stateOf, printed, said, after, Loads, Exports, LineLeads, KeepsState, Says, Tells, Turns};
 ghost use Rattle.panel.specs.Lines.{keptBytes, ByCalls, Answered, Grows, Fed};
 use command::Command;
 use libc::STDIN_FILENO;
 use libc::STDOUT_FILENO;
-use office::Office;
 use rules::Answer;
-use rules::Reply;
-use rules::Sent;
-use rules::Unit;
 use rules::records::LONGEST_FILE;
+use rules::refusals::NO_SUCH_OFFICE;
+use station::Station;
+use station::StationReply;
 
 // Of a line so many bytes are kept: enough to know that it is too long.
 const KEPT: usize = command::LONGEST_LINE + 1;
 
-// The unit after a command, and how many bytes the answer has.
-pub struct Said {
-    pub unit: Unit,
-    pub length: usize,
+// The offices, and the number of the one that calls name.
+pub struct Console {
+    pub station: Station,
+    pub office: usize,
 }
 
-// The office after some input, and how many bytes an answer has, or a line that has not ended.
+// The console after some input, and how many bytes an answer has, or a line that has not ended.
 pub struct Turn {
-    pub office: Office,
+    pub console: Console,
     pub length: usize,
 }
 
-// ---- the unit's commands without a file
+// Before the first line.
+fn start() -> Console
+    ensures { λ r. ⌜ KeepsState r Console·start ⌝ }
+{
+    let station = station::fresh();
+    Console { station, office: 1 }
+}
 
-fn conclude(reply: Reply, out: &mut [u8]) -> Said
+// ---- commands without a file
+
+// What a call of office n replied.
+fn conclude(n: usize, reply: StationReply, out: &mut [u8]) -> Turn
     requires { ⌜ longestAnswer ≤ length (now out) ⌝ }
-    ensures { λ r. ⌜ Says (reply .unit) (done (reply .answer)) (now (out .entry)) (now (out .exit)) r ⌝ }
+    ensures { λ r. ⌜ Says (record { station = reply .station; office = n }) (done (reply .answer)) (now (out .entry)) (now (out .exit)) r ⌝ }
 {
     let answer = reply.answer;
-    let unit = reply.unit;
+    let station = reply.station;
     let length = listing::put_done(out, answer);
-    Said { unit, length }
-}
-
-fn silent(u: Unit) -> Said
-    ensures { λ r. ⌜ (r .unit ≡ u) × (r .length ≡ 0) ⌝ }
-{
-    Said { unit: u, length: 0 }
-}
-
-fn obey(u: Unit, command: Command, out: &mut [u8]) -> Said
-    requires { ⌜ longestAnswer ≤ length (now out) ⌝ }
-    ensures { λ r. ⌜ Says (after u command) (said u command) (now (out .entry)) (now (out .exit)) r ⌝ }
-{
-    match command {
-        Command::Alter(e) => conclude(unit::alter(u, e), out),
-        Command::Show => Said {
-            unit: u,
-            length: listing::put_shown(out, u),
-        },
-        Command::Page => Said {
-            unit: u,
-            length: pages::put_page(out, u),
-        },
-        Command::Points(c, d, e, s) => Said {
-            unit: u,
-            length: listing::put_valued(out, b"points ", survey::survey_points(c, d, e, s)),
-        },
-        Command::Why(i, j) => Said {
-            unit: u,
-            length: listing::put_why(out, unit::why(u, i, j)),
-        },
-        Command::Unknown => Said {
-            unit: u,
-            length: listing::put(out, b"unknown command\n"),
-        },
-        Command::Nothing => silent(u),
-        Command::Load => silent(u),
-        Command::Export => silent(u),
-        Command::Send(_) => silent(u),
-        Command::Roughness => silent(u),
+    Turn {
+        console: Console { station, office: n },
+        length,
     }
 }
 
-// ---- the unit's commands with a file
-
-fn failed(u: Unit, what: &[u8], path: &[u8], out: &mut [u8]) -> Said
-    requires { ⌜ (length (now what) ≤ 13) × (length (now path) ≤ keptBytes) × (longestAnswer ≤ length (now out)) ⌝ }
-    ensures { λ r. ⌜ Says u (Listing·failed (now (what .entry)) (now (path .entry))) (now (out .entry)) (now (out .exit)) r ⌝ }
+// The programme of office n.
+fn show(s: Station, n: usize, out: &mut [u8]) -> usize
+    requires { ⌜ longestAnswer ≤ length (now out) ⌝ }
+    ensures { λ r. ⌜ ((b : Both Held) → KeepsBoth s b → Put (printed shown (stateOf b n)) (now (out .entry)) (now (out .exit)) r) ⌝ }
 {
-    Said {
-        unit: u,
+    if station::is_office(n) {
+        let o = station::own(s, n);
+        return listing::put_shown(out, o.unit);
+    }
+    listing::put_refusal(out, NO_SUCH_OFFICE)
+}
+
+// The page of office n.
+fn page(s: Station, n: usize, out: &mut [u8]) -> usize
+    requires { ⌜ longestAnswer ≤ length (now out) ⌝ }
+    ensures { λ r. ⌜ ((b : Both Held) → KeepsBoth s b → Put (printed pageHeld (stateOf b n)) (now (out .entry)) (now (out .exit)) r) ⌝ }
+{
+    if station::is_office(n) {
+        let o = station::own(s, n);
+        return pages::put_page(out, o.unit);
+    }
+    listing::put_refusal(out, NO_SUCH_OFFICE)
+}
+
+fn silent(c: Console) -> Turn
+    ensures { λ r. ⌜ r ≡ record { console = c; length = 0 } ⌝ }
+{
+    Turn {
+        console: c,
+        length: 0,
+    }
+}
+
+fn obey(c: Console, command: Command, out: &mut [u8]) -> Turn
+    requires { ⌜ longestAnswer ≤ length (now out) ⌝ }
+    ensures { λ r. ⌜ ((b : Both Held) → KeepsBoth (c .station) b → Tells (after (stateOf b (c .office)) command) (said (stateOf b (c .office)) command) (now (out .entry)) (now (out .exit)) r) ⌝ }
+{
+    let s = c.station;
+    let n = c.office;
+    match command {
+        Command::Alter(e) => conclude(n, station::alter(s, n, e), out),
+        Command::Send(sent) => conclude(n, station::send(s, n, sent), out),
+        Command::Office(m) => Turn {
+            console: Console {
+                station: s,
+                office: m,
+            },
+            length: listing::put(out, b"ok\n"),
+        },
+        Command::Show => Turn {
+            console: c,
+            length: show(s, n, out),
+        },
+        Command::Page => Turn {
+            console: c,
+            length: page(s, n, out),
+        },
+        Command::Why(i, j) => Turn {
+            console: c,
+            length: listing::put_why(out, station::why(s, n, i, j)),
+        },
+        Command::Roughness => Turn {
+            console: c,
+            length: listing::put_roughness(out, station::roughness(s, n)),
+        },
+        Command::Points(code, degree, extent, seal) => Turn {
+            console: c,
+            length: listing::put_valued(
+                out,
+                b"points ",
+                survey::survey_points(code, degree, extent, seal),
+            ),
+        },
+        Command::Unknown => Turn {
+            console: c,
+            length: listing::put(out, b"unknown command\n"),
+        },
+        Command::Nothing => silent(c),
+        Command::Load => silent(c),
+        Command::Export => silent(c),
+    }
+}
+
+// ---- commands with a file
+
+fn failed(c: Console, what: &[u8], path: &[u8], out: &mut [u8]) -> Turn
+    requires { ⌜ (length (now what) ≤ 13) × (length (now path) ≤ keptBytes) × (longestAnswer ≤ length (now out)) ⌝ }
+    ensures { λ r. ⌜ Says c (Listing·failed (now (what .entry)) (now (path .entry))) (now (out .entry)) (now (out .exit)) r ⌝ }
+{
+    Turn {
+        console: c,
         length: listing::put_failed(out, what, path),
     }
 }
 
-fn load(u: Unit, path: &[u8], out: &mut [u8]) -> Said
+fn load(c: Console, path: &[u8], out: &mut [u8]) -> Turn
     requires { ⌜ (length (now path) ≤ keptBytes) × (longestAnswer ≤ length (now out)) ⌝ }
-    ensures { λ r. ⌜ Puts (Loads u (now (path .entry))) (now (out .entry)) (now (out .exit)) r ⌝ }
+    ensures { λ r. ⌜ ((b : Both Held) → KeepsBoth (c .station) b → Turns (Loads (stateOf b (c .office)) (now (path .entry))) (now (out .entry)) (now (out .exit)) r) ⌝ }
 {
     let fd = os::open_read(path);
     if fd < 0 {
-        return failed(u, b"cannot open ", path, out);
+        return failed(c, b"cannot open ", path, out);
     }
     let mut file = io::buffer();
     let got = files::read_all(fd, &mut file);
     libc::close(fd);
     if got.failed {
-        return failed(u, b"cannot read ", path, out);
+        return failed(c, b"cannot read ", path, out);
     }
-    let n = got.count;
-    conclude(unit::load(u, &file[..n]), out)
+    let count = got.count;
+    let n = c.office;
+    conclude(n, station::load(c.station, n, &file[..count]), out)
 }
 
-fn export(u: Unit, path: &[u8], out: &mut [u8]) -> Said
-    requires { ⌜ (length (now path) ≤ keptBytes) × (longestAnswer ≤ length (now out)) ⌝ }
-    ensures { λ r. ⌜ Puts (Exports u (now (path .entry))) (now (out .entry)) (now (out .exit)) r ⌝ }
+fn export(c: Console, path: &[u8], out: &mut [u8]) -> Turn
+    requires { ⌜ (length (now path) ≤ keptBytes) × (longestAnswer ≤ length (now out)) × ByCalls c ⌝ }
+    ensures { λ r. ⌜ ((b : Both Held) → KeepsBoth (c .station) b → Turns (Exports (stateOf b (c .office)) (now (path .entry))) (now (out .entry)) (now (out .exit)) r) ⌝ }
 {
     let mut file = [0u8; LONGEST_FILE];
-    let answer = unit::export(u, &mut file);
+    let answer = station::export(c.station, c.office, &mut file);
     if let Answer::Accepted(n) = answer {
         if !files::save(path, &file[..n]) {
-            return failed(u, b"cannot write ", path, out);
+            return failed(c, b"cannot write ", path, out);
         }
     }
-    Said {
-        unit: u,
-        length: listing::put_valued(out, b"ok ", answer),
-    }
-}
-
-// ---- the meter's commands
-
-fn send(o: Office, s: Sent, out: &mut [u8]) -> Turn
-    requires { ⌜ longestAnswer ≤ length (now out) ⌝ }
-    ensures { λ r. ⌜ ((h : Held) → Keeps o h → Tells (officeOutcome h (Send s) .held) (done (officeOutcome h (Send s) .answer)) (now (out .entry)) (now (out .exit)) r) ⌝ }
-{
-    let reply = office::send(o, s);
-    let answer = reply.answer;
-    let office = reply.office;
-    let length = listing::put_done(out, answer);
-    Turn { office, length }
-}
-
-fn ask(o: Office, out: &mut [u8]) -> Turn
-    requires { ⌜ longestAnswer ≤ length (now out) ⌝ }
-    ensures { λ r. ⌜ ((h : Held) → Keeps o h → Tells h (told (roughnessOf (h .heard))) (now (out .entry)) (now (out .exit)) r) ⌝ }
-{
     Turn {
-        office: o,
-        length: listing::put_roughness(out, office::roughness(o)),
+        console: c,
+        length: listing::put_valued(out, b"ok ", answer),
     }
 }
 
 // ---- lines
 
-// The unit that a command leaves, beside the same window.
-fn beside(o: Office, said: Said) -> Turn
-    ensures { λ r. ⌜ Beside o said r ⌝ }
-{
-    let unit = said.unit;
-    let window = o.window;
-    Turn {
-        office: Office { unit, window },
-        length: said.length,
-    }
-}
-
-fn respond(o: Office, line: &[u8], out: &mut [u8]) -> Turn
-    requires { ⌜ (length (now line) ≤ keptBytes) × (longestAnswer ≤ length (now out)) ⌝ }
-    ensures { λ r. ⌜ ((h : Held) → Keeps o h → Turns (LineLeads h (now (line .entry))) (now (out .entry)) (now (out .exit)) r) ⌝ }
+fn respond(c: Console, line: &[u8], out: &mut [u8]) -> Turn
+    requires { ⌜ (length (now line) ≤ keptBytes) × (longestAnswer ≤ length (now out)) × ByCalls c ⌝ }
+    ensures { λ r. ⌜ ((s : State) → KeepsState c s → Turns (LineLeads s (now (line .entry))) (now (out .entry)) (now (out .exit)) r) ⌝ }
 {
     let command = command::parse(line);
-    let u = o.unit;
     match command {
-        Command::Load => beside(o, load(u, command::path(line), out)),
-        Command::Export => beside(o, export(u, command::path(line), out)),
-        Command::Send(s) => send(o, s, out),
-        Command::Roughness => ask(o, out),
-        _ => beside(o, obey(u, command, out)),
+        Command::Load => load(c, command::path(line), out),
+        Command::Export => export(c, command::path(line), out),
+        _ => obey(c, command, out),
     }
 }
 
 // The answer to a line goes to standard output.
-fn answer(o: Office, line: &[u8]) -> Office
-    requires { ⌜ (length (now line) ≤ keptBytes) × ByCalls o ⌝ }
-    ensures { λ r. ⌜ Answered o (now (line .entry)) r ⌝ }
+fn answer(c: Console, line: &[u8]) -> Console
+    requires { ⌜ (length (now line) ≤ keptBytes) × ByCalls c ⌝ }
+    ensures { λ r. ⌜ Answered c (now (line .entry)) r ⌝ }
 {
     let mut out = [0u8; pages::LONGEST_PAGE];
-    let turn = respond(o, line, &mut out);
+    let turn = respond(c, line, &mut out);
     let n = turn.length;
     io::write_all(STDOUT_FILENO, &out[..n]);
-    turn.office
+    turn.console
 }
 
 // A byte goes to the line, unless as many are kept as tell that it is too long.
@@ -212,28 +231,28 @@ fn keep(line: &mut [u8], kept: usize, byte: u8) -> usize
 }
 
 // What was read goes to the line, and each line that ends is answered.
-fn feed(o: Office, line: &mut [u8], kept: usize, bytes: &[u8]) -> Turn
-    requires { ⌜ (kept ≤ length (now line)) × (length (now line) ≡ keptBytes) × ByCalls o ⌝ }
-    ensures { λ r. ⌜ Fed o (take kept (now (line .entry))) (now (bytes .entry)) (now (line .exit)) r ⌝ }
+fn feed(c: Console, line: &mut [u8], kept: usize, bytes: &[u8]) -> Turn
+    requires { ⌜ (kept ≤ length (now line)) × (length (now line) ≡ keptBytes) × ByCalls c ⌝ }
+    ensures { λ r. ⌜ Fed c (take kept (now (line .entry))) (now (bytes .entry)) (now (line .exit)) r ⌝ }
 {
-    let mut office = o;
+    let mut console = c;
     let mut length = kept;
     let mut i = 0;
     while i < bytes.len() {
         if bytes[i] == 10 {
-            let next = answer(office, &line[..length]);
-            office = next;
+            let next = answer(console, &line[..length]);
+            console = next;
             length = 0;
         } else {
             length = keep(line, length, bytes[i]);
         }
         i += 1;
     }
-    Turn { office, length }
+    Turn { console, length }
 }
 
 fn main() {
-    let mut office = office::fresh();
+    let mut console = start();
     let mut line = [0u8; KEPT];
     let mut length: usize = 0;
     let mut turns = u64::MAX;
@@ -244,13 +263,13 @@ fn main() {
         if n == 0 {
             break;
         }
-        let turn = feed(office, &mut line, length, &bytes[..n]);
-        let next = turn.office;
-        office = next;
+        let turn = feed(console, &mut line, length, &bytes[..n]);
+        let next = turn.console;
+        console = next;
         length = turn.length;
         turns -= 1;
     }
     if length > 0 {
-        answer(office, &line[..length]);
+        answer(console, &line[..length]);
     }
 }

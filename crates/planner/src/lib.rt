@@ -87,7 +87,7 @@ fn programme_of(d: &District) -> Programme
 }
 
 // No strategy for any segment.
-fn no_programme() -> Programme
+pub fn no_programme() -> Programme
     ensures { λ r. ⌜ r ≡ noProgramme ⌝ }
 {
     Programme {

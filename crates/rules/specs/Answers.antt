@@ -60,6 +60,13 @@ leaderNotBelow = 14
 abbrev pub leaderSet : ℕ
 leaderSet = 15
 
+-- of request 10: a number that is no office's; shared tables that differ from those held, while the other office has segments
+abbrev pub noSuchOffice : ℕ
+noSuchOffice = 16
+
+abbrev pub tablesInUse : ℕ
+tablesInUse = 17
+
 -- ---- how one comes about
 
 -- refusal n where the test fails, else what the later tests say

@@ -7,10 +7,13 @@
 -- Segments i, strategies j, years t, distress types k, pavement types y and resources r are numbered from 1, here and in all the rules.
 -- Strategy 0 is nothing. Records, and the numbers of a record, are counted from 0 (Format, File).
 use Prim.Native.Nat.{ℕ, _+_, _-_, _*_}
-use mathlib.Core.Bool.{Bool}
-use mathlib.Core.List.{List}
+use mathlib.Core.Bool.{Bool, _||_}
+use mathlib.Core.List.{List, [], _∷_}
 use lib.ListN.{getD, set, replicate}
 use lib.IntN.{ℤ}
+use Rattle.base.specs.Choice.{pick}
+use Rattle.base.specs.Over.{between}
+use Rattle.base.specs.Same.{same}
 use Rattle.base.specs.Bytes.{signed}
 use Rattle.base.specs.Bits.{isSet, setBit, clearBit}
 
@@ -231,3 +234,22 @@ withLeader d i leader = set d (leaderPlace i) leader
 -- ---- what a fresh unit holds: no segment, one of everything else, greatest rating 1, and 0 in every other place
 unfoldable pub freshDistrict : District
 freshDistrict = set (set (set (set (set (set (replicate districtPlaces 0) 1 1) 2 1) 3 1) 4 1) 5 1) (greatestPlace 1) 1
+
+-- ---- document 02, request 10: what two offices share, the counts other than N, the greatest ratings, the strategies and the pavement types
+
+-- by place: the counts behind N, and all from the first greatest rating to the last pavement type
+unfoldable pub isShared : ℕ → Bool
+isShared place = between 1 (countPlaces - 1) place || between greatestAt (segmentsAt - 1) place
+
+-- of the numbers from a place on, those that are shared, and 0 for each other
+unfoldable pub sharedFrom : ℕ → List ℕ → List ℕ
+sharedFrom place [] = []
+sharedFrom place (x ∷ xs) = pick (isShared place) x 0 ∷ sharedFrom (place + 1) xs
+
+-- the shared tables alone: a district without a segment, whose limits are 0
+unfoldable pub sharedTables : District → District
+sharedTables d = sharedFrom 0 d
+
+-- no shared number differs
+unfoldable pub sameTables : District → District → Bool
+sameTables d e = same (sharedTables d) (sharedTables e)

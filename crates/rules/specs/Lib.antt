@@ -15,7 +15,9 @@ pub mod Calls
 pub mod Conversions
 pub mod Lists
 pub mod Offices
+pub mod Stations
 pub mod Demands
+pub mod StationDemands
 pub mod Writer
 pub mod Results
 pub mod Written
@@ -28,3 +30,4 @@ pub mod Metered
 pub mod Feasibility
 pub mod Leaders
 pub mod Converted
+pub mod TwoOffices

@@ -34,3 +34,9 @@ pub const LEADER_NOT_BELOW: usize = 14;
 
 // Of request 9: a leader is set in a file that is to have none.
 pub const LEADER_SET: usize = 15;
+
+// Of request 10: a number that is no office's; shared tables that differ from those held, while the other office has
+// segments.
+pub const NO_SUCH_OFFICE: usize = 16;
+
+pub const TABLES_IN_USE: usize = 17;

@@ -16,7 +16,7 @@ use rules::Unit;
 use rules::Why;
 
 // A unit that holds the district, with programme and ceiling worked out afresh.
-fn hold(d: District) -> Unit
+pub fn hold(d: District) -> Unit
     ensures { λ r. ⌜ r ≡ unitOf d ⌝ }
 {
     let programme = planner::plan(d);

@@ -7,15 +7,17 @@
 //! answers stay in the work folder. With `--turned FILE` the stored cases of `up`
 //! and `down` in that file are run as well, in front of the others.
 
-use reference::console;
+use reference::calls::Call;
+use reference::console::Console;
 use reference::district::{District, Segment};
 use reference::listing;
 use reference::make;
 use reference::options::Given;
 use reference::random::Random;
+use reference::station::{same_tables, Station};
 use reference::tables::Tables;
 use reference::turn::{self, Way};
-use reference::unit::{plan, Plan, Unit};
+use reference::unit::{plan, Plan};
 use reference::{calls, example, file, frames, lists, page, rating};
 use std::collections::BTreeMap;
 use std::fs;
@@ -353,18 +355,19 @@ impl Run {
 
     fn expected_answers(&mut self, text: &[u8], folder: &Path) -> Vec<u8> {
         let tally = self.tally(Kind::Panel);
-        let mut unit = Unit::fresh();
+        let mut console = Console::fresh();
         let mut answers = Vec::new();
         let lines = text.strip_suffix(b"\n").unwrap_or(text).split(|&byte| byte == b'\n');
         for line in lines {
-            let Some(answer) = console::answer(&mut unit, line, folder) else {
+            let Some(answer) = console.answer(line, folder) else {
                 tally.see("passed over");
                 continue;
             };
-            if line == b"show" {
+            let held = console.held();
+            if let (b"show", Ok(unit)) = (line, held) {
                 tally.see("show");
                 features(tally, unit.district(), unit.show());
-            } else if line == b"page" {
+            } else if let (b"page", Ok(unit)) = (line, held) {
                 page_features(tally, unit.district(), unit.show());
             } else {
                 let text = String::from_utf8_lossy(&answer);
@@ -461,11 +464,41 @@ fn leader_in_front(bytes: &[u8]) -> bool {
 /// What `vectors` prints for a list of calls.
 fn worked(tally: &mut Tally, list: &[u8]) -> Vec<u8> {
     let printed = calls::worked(list);
-    let count = calls::decode(list).len();
-    tally.see_if("no call", count == 0);
-    tally.see_if("20 calls or more", count >= 20);
+    let calls = calls::decode(list);
+    tally.see_if("no call", calls.is_empty());
+    tally.see_if("20 calls or more", calls.len() >= 20);
     tally.see(if printed.starts_with("refused") { printed.trim_end() } else { "planned" });
+    office_features(tally, &calls);
     printed.into_bytes()
+}
+
+/// Notes what a list has that concerns both offices: who shows, what loads did to
+/// the tables, and 17 anywhere in it.
+fn office_features(tally: &mut Tally, calls: &[(u32, Call)]) {
+    tally.see_if("both offices", [1, 2].iter().all(|&office| calls.iter().any(|call| call.0 == office)));
+    let mut station = Station::fresh();
+    let mut seen = [false; 4];
+    for (office, call) in calls {
+        let before = station.clone();
+        let refusal = call.make(*office, &mut station).err().map_or(0, |refusal| refusal.number());
+        seen[0] |= refusal == 16;
+        seen[1] |= refusal == 17;
+        if let (Call::Load(_), 0) = (call, refusal) {
+            let held =
+                |station: &Station, office: u32| station.office(office.into()).map(|unit| unit.district().clone());
+            let (Ok(old), Ok(new), Ok(other)) =
+                (held(&before, *office), held(&station, *office), held(&before, 3 - office))
+            else {
+                continue;
+            };
+            let same = same_tables(&old, &new);
+            seen[2] |= !same && other.limits.iter().any(|&limit| limit > 0);
+            seen[3] |= same && !other.segments.is_empty();
+        }
+    }
+    let features =
+        ["16 among them", "17 among them", "tables changed, limits lost", "equal tables, both with segments"];
+    features.iter().zip(seen).for_each(|(feature, seen)| tally.see_if(feature, seen));
 }
 
 /// Notes what a district and its plan have that is worth having tested.

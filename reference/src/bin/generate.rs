@@ -4,7 +4,7 @@ use reference::district::District;
 use reference::make::{self, Shape};
 use reference::options::Given;
 use reference::random::Random;
-use reference::{example, file, frames, leaders, reasons, vectors};
+use reference::{example, file, frames, leaders, offices, reasons, vectors};
 use std::fs;
 use std::io::{self, BufWriter, Write};
 use std::path::Path;
@@ -17,6 +17,7 @@ const USAGE: &str = "usage:
   generate series  --seed S --out DIR             districts that grow in N, in S and in R
   generate example                                the report's example problem, to standard output
   generate leaders --out DIR                      the files with leaders that are stored, for the console
+  generate offices --out DIR                      the files of two offices that are stored, for the console
   generate reasons --out DIR                      the districts whose reasons are stored, for the console
   generate vectors                                the stored lists of calls as frames, to standard output
   generate walls   --out DIR                      the districts whose pages are stored, for the console
@@ -46,6 +47,7 @@ fn run(arguments: &[String]) -> Result<(), String> {
         "walls" => named(encoded(vectors::walls()), Path::new(given.needed("out")?)),
         "reasons" => named(encoded(reasons::districts()), Path::new(given.needed("out")?)),
         "leaders" => named(leaders::files(), Path::new(given.needed("out")?)),
+        "offices" => named(offices::files(), Path::new(given.needed("out")?)),
         "vectors" => io::stdout().write_all(&vectors::frames()),
         _ => return Err(format!("unknown argument {what}")),
     }

@@ -5,8 +5,8 @@ use native.Mathlib.Omega.{arith}
 use lib.ListN.{length, getD, drop, drop-of-length-le}
 use borrow.Author.Needs.{needs}
 use borrow.Author.Tests.{eq-eqb, ne-eqb}
-use Rattle.command.specs.Reading.{same}
-use Rattle.command.proofs.Reading.{same-next, same-unlike}
+use Rattle.base.specs.Same.{same}
+use Rattle.base.proofs.Same.{same-next, same-unlike}
 use Rattle.command.proofs.same.Statement.{statement}
 use Rattle.command.proofs.same.Tie as tie
 

@@ -6,17 +6,22 @@ use lib.ListN.{length}
 use lib.Seq.{length-take-le}
 use Prim.Native.Nat.{_≤_}
 use Rattle.base.specs.Text.{text}
-use Rattle.rules.specs.Calls.{Export}
+use Rattle.rules.specs.Stations.{stationAfter}
 use Rattle.panel.specs.Console.{written, unwritten}
-use Rattle.panel.proofs.Says.{export-fits, puts}
+use Rattle.panel.proofs.Says.{answer-of, export-fits, stays, tells, turns}
 use borrow.Author.Needs.{needs}
 use Rattle.panel.proofs.export.Statement.{statement}
 use Rattle.panel.proofs.export.Tie as tie
 
-fits : (c : tie.After-known-told) → c .before .answer .given .0 .0 ≤ length (c .before .before .before .before .export .last .1 .0)
+-- the answer is the call's, from what the calls so far lead to
+fits : (c : tie.After-known-told) → c .before .answer .given .0 .0 ≤ length (c .before .before .before .before .export .last .1 .1 .0)
 fits c =
     let e = c .before .before .before .before .export in
-    omega (arith, export-fits (c .before .before .before .before .before .before .before .before .args .u) _ (e .result) (e .last .1 .0) (c .before .answer .given .0 .0) (e .ensures) (c .before .answer .given .1), e .kept .1 .0)
+    let s = c .before .before .before .before .before .before .before .before in
+    let known = s .pre .2 in
+    let n = c .before .answer .given .0 .0 in
+    let same = answer-of (e .ensures (stationAfter (known .calls)) (known .keeps)) in
+    omega (arith, export-fits (stationAfter (known .calls)) (s .args .c .office) _ n (same ∙ c .before .answer .given .1), e .kept .1 .1 .0)
 
 array-share-prefix-file : tie.Need-array-share-prefix-file
 array-share-prefix-file c = fits c
@@ -26,7 +31,10 @@ slice-aggregate-save c = sym (length-take-le _ _ (fits (c .before)))
 
 returns : tie.Need-returns
 unfolding text
-returns c = puts (c .before .before .failed .ensures) unwritten
+returns c =
+    λ b k. let m = c .before .before .before .before .before .before .before .before .before in
+    let same = answer-of (m .before .before .before .export .ensures b k) in
+    turns (tells (c .before .before .failed .ensures) record { station = k; office = refl }) (unwritten _ _ refl (same ∙ m .answer .given .1))
 
 -- after the match the answer is what it was
 same : (c : tie.At-match-came) → c .match .answer ≡ c .before .before .export .result
@@ -35,9 +43,9 @@ same c = ⊎-elim (λ w. w .6 ∙ sym (w .1 .given .1)) (λ w. w .2) (c .match .
 returns-2 : tie.Need-returns-2
 unfolding text
 returns-2 c =
-    let m = c .before .before .before .before .before in
-    puts (record { unit = refl; put = c .before .before .put-valued .ensures })
-    (rw (same m ∙ ap (λ (x : Export). x .answer) (m .before .before .export .ensures)) (written _ refl))
+    λ b k. let m = c .before .before .before .before .before in
+    let e = answer-of (m .before .before .export .ensures b k) in
+    turns (stays k (rw (same m ∙ sym e) at (c .before .before .put-valued .ensures))) (written _ refl)
 
 pub export-spec : {M : Type 1} → statement M
 export-spec =

@@ -5,8 +5,7 @@ use mathlib.Core.Logic.{⊎-elim}
 use mathlib.Core.Path.{_≡_, refl, sym, ap, _∙_}
 use lib.ListN.{length, take, drop, getD}
 use lib.Seq.{length-take-le}
-use Rattle.rules.specs.Offices.{Held}
-use Rattle.office.specs.Kept.{Keeps}
+use Rattle.panel.specs.Console.{State, KeepsState}
 use Rattle.panel.specs.Lines.{ByCalls, Keeping, keeping}
 use Rattle.panel.proofs.Feeds.{fed-all, fed-line, fed-byte, Ahead}
 use borrow.Author.Needs.{needs}
@@ -14,15 +13,15 @@ use Rattle.panel.proofs.feed.Statement.{statement}
 use Rattle.panel.proofs.feed.Tie as tie
 
 abbrev Inv-loop : tie.InvT-loop
-Inv-loop line₀ kept bytes office₀ n₀ i₀ line office n i =
-    (i ≤ length bytes) × (n ≤ length line) × (length line ≡ length line₀) × ByCalls office
-    × ((h : Held) → Keeps office₀ h → Keeping (Ahead h (take n₀ line₀) bytes (take n line) (drop i bytes)) office)
+Inv-loop line₀ kept bytes console₀ n₀ i₀ line console n i =
+    (i ≤ length bytes) × (n ≤ length line) × (length line ≡ length line₀) × ByCalls console
+    × ((s : State) → KeepsState console₀ s → Keeping (Ahead s (take n₀ line₀) bytes (take n line) (drop i bytes)) console)
 
 abbrev μ-loop : tie.MeasureT-loop
-μ-loop line₀ kept bytes office₀ n₀ i₀ line office n i = length bytes - i
+μ-loop line₀ kept bytes console₀ n₀ i₀ line console n i = length bytes - i
 
 loop-holds : tie.Need-loop-holds Inv-loop μ-loop
-loop-holds c = (omega arith, omega (arith, c .before .before .pre .0), refl, c .before .before .pre .2, λ h k. record { held = h; keeps = k; is = λ l last f. f })
+loop-holds c = (omega arith, omega (arith, c .before .before .pre .0), refl, c .before .before .pre .2, λ s k. record { state = s; keeps = k; is = λ u last f. f })
 
 slice-reshare-prefix-answer : tie.Need-slice-reshare-prefix-answer Inv-loop μ-loop
 slice-reshare-prefix-answer c = c .before .before .before .loop .inv .1
@@ -49,11 +48,11 @@ loop-again c =
       omega (arith, w .5),
       e ∙ l .inv .2,
       rw (w .4) (a .reached),
-      λ h k.
-          let q = l .inv .4 h k in
-          let p = a .led (q .held) (q .keeps) in
+      λ s k.
+          let q = l .inv .4 s k in
+          let p = a .led (q .state) (q .keeps) in
           let none = ap (λ (n : ℕ). take n (c .if1 .line)) (w .5) in
-          record { held = p .held; keeps = rw (w .4) (p .keeps); is = λ v last f. q .is v last (fed-line bytes (l .i) more (w .0 .taken) (p .is .leads) none f) },
+          record { state = p .state; keeps = rw (w .4) (p .keeps); is = λ u last f. q .is u last (fed-line bytes (l .i) more (w .0 .taken) (p .is .leads) none f) },
     ))
     (λ w.
     let e : length (c .if1 .line) ≡ length (w .3 .last .0) = ap length (w .6) in
@@ -63,9 +62,9 @@ loop-again c =
       omega (arith, w .8, k .within),
       e ∙ w .3 .kept .0 ∙ l .inv .2,
       rw (w .7) (l .inv .3),
-      λ h k.
-          let q = l .inv .4 h k in
-          record { held = q .held; keeps = rw (w .7) (q .keeps); is = λ v last f. q .is v last (fed-byte bytes (l .i) more (w .0 .left) front f) },
+      λ s k.
+          let q = l .inv .4 s k in
+          record { state = q .state; keeps = rw (w .7) (q .keeps); is = λ u last f. q .is u last (fed-byte bytes (l .i) more (w .0 .left) front f) },
     ))
     (c .if1 .came)
 
@@ -77,7 +76,7 @@ returns c =
     let l = c .before .loop in
     record {
       within = l .inv .1;
-      fed = λ h k. let q = l .inv .4 h k in record { held = q .held; keeps = q .keeps; is = q .is _ _ (fed-all _ (l .i) (omega arith)) };
+      fed = λ s k. let q = l .inv .4 s k in record { state = q .state; keeps = q .keeps; is = q .is _ _ (fed-all _ (l .i) (omega arith)) };
       reached = l .inv .3;
     }
 

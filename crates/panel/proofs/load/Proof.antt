@@ -1,21 +1,22 @@
 -- `panel::load` meets its contract.
+use mathlib.Core.Path.{refl}
 use Rattle.base.specs.Text.{text}
 use Rattle.panel.specs.Console.{read, unopened, unread}
-use Rattle.panel.proofs.Says.{puts}
+use Rattle.panel.proofs.Says.{tells, replied, turns}
 use borrow.Author.Needs.{needs}
 use Rattle.panel.proofs.load.Statement.{statement}
 use Rattle.panel.proofs.load.Tie as tie
 
 returns : tie.Need-returns
 unfolding text
-returns c = puts (c .before .before .failed .ensures) unopened
+returns c = λ b k. turns (tells (c .before .before .failed .ensures) record { station = k; office = refl }) unopened
 
 returns-2 : tie.Need-returns-2
 unfolding text
-returns-2 c = puts (c .before .before .failed2 .ensures) unread
+returns-2 c = λ b k. turns (tells (c .before .before .failed2 .ensures) record { station = k; office = refl }) unread
 
 returns-3 : tie.Need-returns-3
-returns-3 c = puts (c .before .before .conclude .ensures) (rw (c .before .before .before .before .load .ensures) (read _))
+returns-3 c = λ b k. turns (replied (c .before .before .before .before .load .ensures .reports b k) (c .before .before .conclude .ensures)) (read _)
 
 pub load-spec : {M : Type 1} → statement M
 load-spec =

@@ -2,53 +2,58 @@
 use mathlib.Core.Path.{refl}
 use Rattle.base.specs.Text.{text}
 use Rattle.panel.specs.Console.{said, after}
+use Rattle.panel.proofs.Says.{stays, replied}
 use borrow.Author.Needs.{needs}
 use Rattle.panel.proofs.obey.Statement.{statement}
 use Rattle.panel.proofs.obey.Tie as tie
 
 returns : tie.Need-returns
 unfolding said after
-returns c = rw (c .before .before .before .before .before .before .command .given .1) (rw (c .before .before .before .before .alter .ensures) at (c .before .before .conclude .ensures))
+returns c = λ b k. rw (c .before .before .before .before .before .before .command .given .1) (replied (c .before .before .before .before .alter .ensures .reports b k) (c .before .before .conclude .ensures))
 
 returns-2 : tie.Need-returns-2
 unfolding said after
-returns-2 c = rw (c .before .before .before .before .enum-told .given .1) record { unit = refl; put = c .before .before .put-shown .ensures }
+returns-2 c = λ b k. rw (c .before .before .before .before .before .before .command2 .given .1) (replied (c .before .before .before .before .send .ensures .reports b k) (c .before .before .conclude2 .ensures))
 
 returns-3 : tie.Need-returns-3
-unfolding said after
-returns-3 c = rw (c .before .before .before .before .enum-told2 .given .1) record { unit = refl; put = c .before .before .put-page .ensures }
+unfolding said after text
+returns-3 c = λ b k. rw (c .before .before .before .before .before .before .command3 .given .1) record { keeps = record { station = k; office = refl }; put = c .before .before .put .ensures }
 
 returns-4 : tie.Need-returns-4
-unfolding said after text
-returns-4 c = rw (c .before .before .before .before .before .before .before .command2 .given .1) record { unit = refl; put = rw (c .before .before .before .survey-points .ensures) at (c .before .before .put-valued .ensures) }
+unfolding said after
+returns-4 c = λ b k. rw (c .before .before .before .before .enum-told .given .1) (stays k (c .before .before .show .ensures b k))
 
 returns-5 : tie.Need-returns-5
 unfolding said after
-returns-5 c = rw (c .before .before .before .before .before .before .command3 .given .1) record { unit = refl; put = rw (c .before .before .before .why .ensures) at (c .before .before .put-why .ensures) }
+returns-5 c = λ b k. rw (c .before .before .before .before .enum-told2 .given .1) (stays k (c .before .before .page .ensures b k))
 
 returns-6 : tie.Need-returns-6
-unfolding said after text
-returns-6 c = rw (c .before .before .before .before .before .enum-told3 .given .1) record { unit = refl; put = c .before .before .put .ensures }
+unfolding said after
+returns-6 c = λ b k. rw (c .before .before .before .before .before .before .command4 .given .1) (stays k (rw (c .before .before .before .why .ensures .0 b k) at (c .before .before .put-why .ensures)))
 
 returns-7 : tie.Need-returns-7
 unfolding said after
-returns-7 c = rw (c .before .enum-told4 .given .1, c .silent .ensures .1) record { unit = c .silent .ensures .0; put = record { count = refl; bytes = refl } }
+returns-7 c = λ b k. rw (c .before .before .before .before .before .enum-told3 .given .1) (stays k (rw (c .before .before .before .roughness .ensures .0 b k) at (c .before .before .put-roughness .ensures)))
 
 returns-8 : tie.Need-returns-8
-unfolding said after
-returns-8 c = rw (c .before .enum-told5 .given .1, c .silent2 .ensures .1) record { unit = c .silent2 .ensures .0; put = record { count = refl; bytes = refl } }
+unfolding said after text
+returns-8 c = λ b k. rw (c .before .before .before .before .before .before .before .command5 .given .1) (stays k (rw (c .before .before .before .survey-points .ensures) at (c .before .before .put-valued .ensures)))
 
 returns-9 : tie.Need-returns-9
-unfolding said after
-returns-9 c = rw (c .before .enum-told6 .given .1, c .silent3 .ensures .1) record { unit = c .silent3 .ensures .0; put = record { count = refl; bytes = refl } }
+unfolding said after text
+returns-9 c = λ b k. rw (c .before .before .before .before .before .enum-told4 .given .1) (stays k (c .before .before .put2 .ensures))
 
 returns-10 : tie.Need-returns-10
 unfolding said after
-returns-10 c = rw (c .before .enum-told7 .given .1, c .silent4 .ensures .1) record { unit = c .silent4 .ensures .0; put = record { count = refl; bytes = refl } }
+returns-10 c = λ b k. rw (c .before .enum-told5 .given .1, c .silent .ensures) (stays k record { count = refl; bytes = refl })
 
 returns-11 : tie.Need-returns-11
 unfolding said after
-returns-11 c = rw (c .before .enum-told8 .given .1, c .silent5 .ensures .1) record { unit = c .silent5 .ensures .0; put = record { count = refl; bytes = refl } }
+returns-11 c = λ b k. rw (c .before .enum-told6 .given .1, c .silent2 .ensures) (stays k record { count = refl; bytes = refl })
+
+returns-12 : tie.Need-returns-12
+unfolding said after
+returns-12 c = λ b k. rw (c .before .enum-told7 .given .1, c .silent3 .ensures) (stays k record { count = refl; bytes = refl })
 
 pub obey-spec : {M : Type 1} → statement M
 obey-spec =
@@ -59,20 +64,25 @@ obey-spec =
     (λ c κs. search needs)
     (λ c. search needs)
     (λ c κs. search needs)
-    (λ c. search needs)
-    (λ c κs. search needs)
-    (λ c. search needs)
-    (λ c. search needs)
-    (λ c κs. search needs)
-    (λ c κs. search needs)
-    (λ c. search needs)
-    (λ c κs. search needs)
     (λ c κs. search needs)
     (λ c. search needs)
     (λ c. search needs)
     (λ c κs. search needs)
     (λ c. search needs)
     (λ c κs. search needs)
+    (λ c. search needs)
+    (λ c κs. search needs)
+    (λ c. search needs)
+    (λ c κs. search needs)
+    (λ c κs. search needs)
+    (λ c. search needs)
+    (λ c κs. search needs)
+    (λ c κs. search needs)
+    (λ c. search needs)
+    (λ c. search needs)
+    (λ c κs. search needs)
+    (λ c κs. search needs)
+    (λ c. search needs)
     (λ c. search needs)
     (λ c κs. search needs)
     (λ c. search needs)
@@ -93,8 +103,12 @@ obey-spec =
     returns-5
     (λ c. search needs)
     returns-6
+    (λ c. search needs)
     returns-7
+    (λ c. search needs)
     returns-8
+    (λ c. search needs)
     returns-9
     returns-10
-    returns-11)
+    returns-11
+    returns-12)

@@ -1,18 +1,17 @@
 -- `script::asked` meets its contract.
-use mathlib.Core.Path.{sym, _∙_}
 use borrow.Author.Needs.{needs}
-use Rattle.rules.specs.Calls.{whyOf}
-use Rattle.script.proofs.Calls.{answer-because, answer-refused}
+use Rattle.station.specs.Questions.{whyAnswer}
+use Rattle.script.proofs.Calls.{answered-replies}
 use Rattle.script.proofs.asked.Statement.{statement}
 use Rattle.script.proofs.asked.Tie as tie
 
 returns : tie.Need-returns
-unfolding whyOf
-returns c = answer-because _ _ (sym (c .enum-told .given .1) ∙ c .before .before .why .ensures)
+unfolding whyAnswer
+returns c = answered-replies (c .answered .ensures) (rw (c .before .enum-told .given .1) at (c .before .before .before .why .ensures .1))
 
 returns-2 : tie.Need-returns-2
-unfolding whyOf
-returns-2 c = answer-refused _ _ _ (sym (c .before .why2 .given .1) ∙ c .before .before .before .why .ensures)
+unfolding whyAnswer
+returns-2 c = answered-replies (c .answered2 .ensures) (rw (c .before .before .why2 .given .1) at (c .before .before .before .before .why .ensures .1))
 
 pub asked-spec : {M : Type 1} → statement M
-asked-spec = tie.close (tie.spec (λ c κs. search needs) (λ c. search needs) (λ c. search needs) returns returns-2)
+asked-spec = tie.close (tie.spec (λ c κs. search needs) (λ c. search needs) (λ c κs. search needs) (λ c. search needs) (λ c κs. search needs) returns returns-2)

@@ -1,0 +1,16 @@
+pub mod Calls
+pub mod EveryStationAnswer
+pub mod LeavingOut
+pub mod Lists
+pub mod Heard
+pub mod Districts
+pub mod Shared
+pub mod InRange
+pub mod Files
+pub mod Reached
+pub mod TablesAgree
+pub mod Reloads
+pub mod EveryStationFile
+pub mod NoSegments
+pub mod EveryStation
+pub mod EachOffice
