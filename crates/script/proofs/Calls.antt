@@ -5,9 +5,9 @@ use mathlib.Core.List.{List, _∷_}
 use native.Mathlib.Nat.{min-le-right}
 use native.Mathlib.Omega.{arith}
 use lib.ListN.{length, take, replicate, length-replicate}
-use Rattle.rules.specs.Lists.{Show}
+use Rattle.rules.specs.Lists.{Call, Show}
 use Rattle.rules.specs.Offices.{Plan}
-use Rattle.rules.specs.Stations.{StationCall}
+use Rattle.rules.specs.Stations.{callOf}
 use Rattle.rules.specs.declared.Answer.{Answer}
 use Rattle.rules.specs.declared.Edit.{Edit}
 use Rattle.rules.specs.declared.Sent.{Sent}
@@ -38,9 +38,9 @@ shown-else Command.Unknown n file l x a p w s r = refl
 shown-else (Command.Office office) n file l x a p w s r = refl
 
 -- the reply of a call that leaves the station as it is
-pub answered-replies : {s : Station} {c : StationCall} {answer : Answer} {bytes : List ℕ} {r : StationReply} → r ≡ record { answer = answer; station = s }
-    → Lends s c answer bytes → RepliesTo s c r
-answered-replies {s} {c} {answer} {bytes} e lends = rw e (lent-replies s c answer bytes lends)
+pub answered-replies : {s : Station} {n : ℕ} {c : Call} {answer : Answer} {bytes : List ℕ} {r : StationReply} → r ≡ record { answer = answer; station = s }
+    → Lends s n c answer bytes → RepliesTo s (callOf n (Plan c)) r
+answered-replies {s} {n} {c} {answer} {bytes} e lends = rw e (lent-replies s n c answer bytes lends)
 
 -- ---- zeros
 

@@ -13,8 +13,9 @@ use Rattle.rules.specs.declared.Unit.{Unit}
 use Rattle.office.specs.Kept.{Keeps}
 use Rattle.office.specs.declared.Office.{Office}
 use Rattle.stations.proofs.Calls.{number-named}
-use Rattle.station.specs.Kept.{isSome, isOffice, officeIn, KeepsBoth}
+use Rattle.station.specs.Kept.{isSome, isOffice, officeIn, KeepsBoth, unitsIn}
 use Rattle.station.specs.declared.Station.{Station}
+use Rattle.station.proofs.Units.{unit-in}
 
 pub record Named (n : ℕ) : Type 0 where
   pub which : Which
@@ -64,7 +65,12 @@ pub for-second : (P : Which → Type 0) (n : ℕ) → ¬ (n ≡ 1) → P Second 
 for-second P n unlike p First f = absurd (unlike f)
 for-second P n unlike p Second f = p
 
--- the office that the code takes keeps what office w holds
+-- the office that the code takes has office w's unit, and keeps what office w holds
+pub unit-named :
+    (s : Station) (n : ℕ) (o : Office) → ((w : Which) → n ≡ numberOf w → o ≡ officeIn w s)
+    → (w : Which) → n ≡ numberOf w → o .unit ≡ own w (unitsIn s) .unit
+unit-named s n o is w named = ap (λ (p : Office). p .unit) (is w named) ∙ unit-in w s
+
 pub keeps-named :
     (s : Station) (n : ℕ) (o : Office) → ((w : Which) → n ≡ numberOf w → o ≡ officeIn w s)
     → (w : Which) → n ≡ numberOf w → (b : Both Held) → KeepsBoth s b → Keeps o (own w b)

@@ -10,19 +10,21 @@ use Rattle.rules.specs.Calls.{Export, explained, whyOf}
 use Rattle.rules.specs.Lists.{Call, Show, AskWhy, lentTo, written, outcomeOf}
 use Rattle.rules.specs.Meter.{pointsUnless, roughnessOf}
 use Rattle.rules.specs.Offices.{Held, OfficeCall, Plan, AskRoughness, lentBytes, planned, officeOutcome}
-use Rattle.rules.specs.Stations.{Which, Both, own, numberOf, officeOf, callOf, bringsTables, stationOutcome}
+use Rattle.rules.specs.Stations.{Which, First, Second, Both, own, numberOf, officeOf, callOf, bringsTables, stationOutcome}
 use Rattle.rules.specs.declared.Answer.{Answer}
 use Rattle.rules.specs.declared.Answer.the-variants.{Refused}
 use Rattle.rules.specs.declared.Reason.{Reason}
 use Rattle.rules.specs.declared.Roughness.{Roughness}
+use Rattle.rules.specs.declared.Unit.{Unit}
 use Rattle.rules.specs.declared.Why.{Why}
 use Rattle.stations.proofs.Calls.{outcome-nobody}
 use Rattle.stations.proofs.EveryStationAnswer.{both-stay}
-use Rattle.station.specs.Kept.{isOffice, KeepsBoth, Lends}
+use Rattle.station.specs.Kept.{isOffice, KeepsBoth, RepliesTo, unitsIn, Lends}
 use Rattle.station.specs.Questions.{shownFor, whyFor, roughnessFor, whyAnswer, roughnessAnswer}
 use Rattle.station.specs.declared.Shown.{Shown}
 use Rattle.station.specs.declared.Station.{Station}
 use Rattle.station.proofs.Numbers.{office-named, nobody-named, named-some}
+use Rattle.station.proofs.Replies.{stays-replies}
 
 module _ (b : Both Held) (n : ℕ) (c : OfficeCall) where
   -- to none
@@ -90,17 +92,29 @@ module _ (b : Both Held) (n : ℕ) where
 -- what is told says what is answered
 
 module _ (s : Station) (n : ℕ) where
-  abbrev Tells : {A : Type 0} → A → (Both Held → A) → Type 0
-  Tells r f = (b : Both Held) → KeepsBoth s b → r ≡ f b
-
-  pub show-settled : (r : Shown) → Tells r (shownFor (officeOf n)) → Tells r (shownFor (officeOf n)) × Lends s (callOf n (Plan Show)) (r .answer) []
-  show-settled r tells = (tells, λ b keeps. rw (tells b keeps) (show-told b n))
+  pub show-settled :
+      (r : Shown) → r ≡ shownFor (officeOf n) (unitsIn s) → (r ≡ shownFor (officeOf n) (unitsIn s)) × Lends s n Show (r .answer) []
+  show-settled r tells = (tells, rw tells (show-told (unitsIn s) n))
 
   pub why-settled :
-      (i j : ℕ) (r : Why) → Tells r (λ b. whyFor (officeOf n) b i j)
-      → Tells r (λ b. whyFor (officeOf n) b i j) × Lends s (callOf n (Plan (AskWhy i j))) (whyAnswer r) []
-  why-settled i j r tells = (tells, λ b keeps. rw (tells b keeps) (why-told b n i j))
+      (i j : ℕ) (r : Why) → r ≡ whyFor (officeOf n) (unitsIn s) i j
+      → (r ≡ whyFor (officeOf n) (unitsIn s) i j) × Lends s n (AskWhy i j) (whyAnswer r) []
+  why-settled i j r tells = (tells, rw tells (why-told (unitsIn s) n i j))
 
-  pub roughness-settled :
-      (r : Roughness) → Tells r (roughnessFor (officeOf n)) → Tells r (roughnessFor (officeOf n)) × Lends s (callOf n AskRoughness) (roughnessAnswer r) []
-  roughness-settled r tells = (tells, λ b keeps. rw (tells b keeps) (roughness-told b n))
+  abbrev Rough : Roughness → Type 0
+  Rough r = (b : Both Held) → KeepsBoth s b → r ≡ roughnessFor (officeOf n) b
+
+  pub roughness-settled : (r : Roughness) → Rough r → Rough r × RepliesTo s (callOf n AskRoughness) (record { answer = roughnessAnswer r; station = s })
+  roughness-settled r tells =
+      (tells, stays-replies s (callOf n AskRoughness) (roughnessAnswer r) [] (λ b keeps. rw (tells b keeps) (roughness-told b n)))
+
+-- why, from what both hold
+pub why-kept :
+    (s : Station) (b : Both Held) → KeepsBoth s b → (n i j : ℕ) → whyFor (officeOf n) (unitsIn s) i j ≡ whyFor (officeOf n) b i j
+unfolding whyFor
+why-kept s b keeps n i j = go (officeOf n)
+  where
+    go : (o : Option Which) → whyFor o (unitsIn s) i j ≡ whyFor o b i j
+    go none = refl
+    go (some First) = ap (λ (u : Unit). whyOf u i j) (keeps First .unit)
+    go (some Second) = ap (λ (u : Unit). whyOf u i j) (keeps Second .unit)

@@ -5,10 +5,13 @@ use mathlib.Core.Bool.{Bool, true, false}
 use mathlib.Core.List.{List}
 use mathlib.Core.Option.{Option, none, some}
 use Rattle.rules.specs.Answers.{noSuchOffice}
-use Rattle.rules.specs.Offices.{Held}
-use Rattle.rules.specs.Stations.{Which, First, Second, other, Both, own, numberOf, officeOf, StationCall, bringsTables, stationOutcome}
+use Rattle.rules.specs.Lists.{Call}
+use Rattle.rules.specs.Meter.{silence}
+use Rattle.rules.specs.Offices.{Held, Plan, Send}
+use Rattle.rules.specs.Stations.{Which, First, Second, other, Both, own, numberOf, officeOf, StationCall, callOf, stationOutcome}
 use Rattle.rules.specs.declared.Answer.{Answer}
 use Rattle.rules.specs.declared.Answer.the-variants.{Refused}
+use Rattle.rules.specs.declared.Sent.{Sent}
 use Rattle.office.specs.Kept.{Keeps}
 use Rattle.office.specs.declared.Office.{Office}
 use Rattle.station.specs.declared.Station.{Station}
@@ -41,17 +44,28 @@ pub record ReportsBoth (b : Both Held) (c : StationCall) (r : StationReply) : Ty
 abbrev pub RepliesTo : Station → StationCall → StationReply → Type 0
 RepliesTo s c r = (b : Both Held) → KeepsBoth s b → ReportsBoth b c r
 
--- what is not asked is left as it is, by value: the station, where the call is refused; the other office, unless other shared tables come to it
--- too, and then its window
-pub record MakesBoth (s : Station) (c : StationCall) (r : StationReply) : Type 0 where
-  pub reports : RepliesTo s c r
-  pub refused : (n : ℕ) → r .answer ≡ Refused n → r .station ≡ s
-  pub untouched :
-      (w : Which) → c .office ≡ numberOf w → bringsTables (officeIn w s .unit .district) (c .call) ≡ false
-      → officeIn (other w) (r .station) ≡ officeIn (other w) s
-  pub windows : (w : Which) → c .office ≡ numberOf w → officeIn (other w) (r .station) .window ≡ officeIn (other w) s .window
-  pub nobody : isOffice (c .office) ≡ false → r .answer ≡ Refused noSuchOffice
+-- ---- a call on an office's unit: it sees no window, so this is of a station in any state
 
--- a call that leaves the station as it is: its answer, and the lent bytes as they come back
-abbrev pub Lends : Station → StationCall → Answer → List ℕ → Type 0
-Lends s c answer bytes = (b : Both Held) → KeepsBoth s b → stationOutcome b c ≡ record { answer = answer; held = b; bytes = bytes }
+-- what both hold, but for what their meters sent
+abbrev pub unitsIn : Station → Both Held
+unitsIn s = record { first = record { unit = s .first .unit; heard = silence }; second = record { unit = s .second .unit; heard = silence } }
+
+-- both units as the rules have it, and both windows as they were
+pub record PlansBoth (s : Station) (n : ℕ) (c : Call) (r : StationReply) : Type 0 where
+  pub answer : r .answer ≡ stationOutcome (unitsIn s) (callOf n (Plan c)) .answer
+  pub units : (w : Which) → officeIn w (r .station) .unit ≡ own w (stationOutcome (unitsIn s) (callOf n (Plan c)) .held) .unit
+  pub windows : (w : Which) → officeIn w (r .station) .window ≡ officeIn w s .window
+
+-- where it leaves both units as they are: its answer, and the lent bytes as they come back
+abbrev pub Lends : Station → ℕ → Call → Answer → List ℕ → Type 0
+Lends s n c answer bytes = stationOutcome (unitsIn s) (callOf n (Plan c)) ≡ record { answer = answer; held = unitsIn s; bytes = bytes }
+
+-- ---- a record of an office's meter
+
+-- what is not asked is left as it is, by value: the station, where the record is refused; both units; the other office
+pub record SendsBoth (s : Station) (n : ℕ) (sent : Sent) (r : StationReply) : Type 0 where
+  pub reports : RepliesTo s (callOf n (Send sent)) r
+  pub refused : (m : ℕ) → r .answer ≡ Refused m → r .station ≡ s
+  pub units : (w : Which) → officeIn w (r .station) .unit ≡ officeIn w s .unit
+  pub untouched : (w : Which) → n ≡ numberOf w → officeIn (other w) (r .station) ≡ officeIn (other w) s
+  pub nobody : isOffice n ≡ false → r .answer ≡ Refused noSuchOffice

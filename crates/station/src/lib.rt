@@ -1,19 +1,17 @@
 // A station: two offices on one unit, which share tables. Every call names its office by number and settles every number
 // by itself; one office's call leaves the other's part as it is, but for a load that changes the shared tables.
-ghost use mathlib.Core.Bool.{false};
 ghost use mathlib.Core.List.{List, []};
 ghost use mathlib.Core.Path.{_≡_};
 ghost use Prim.Native.Nat.{ℕ};
 ghost use Rattle.rules.specs.Calls.{loadRefusal, districtIn, unitOf};
-ghost use Rattle.rules.specs.District.{District as District·District, sharedTables};
+ghost use Rattle.rules.specs.District.{sharedTables};
 ghost use Rattle.rules.specs.Lists.{Load, Alter, ExportTo, PageTo, Show, AskWhy};
-ghost use Rattle.rules.specs.Offices.{Held, OfficeCall, Plan, Send, AskRoughness};
+ghost use Rattle.rules.specs.Offices.{Held, AskRoughness};
 ghost use Rattle.rules.specs.StationDemands.{EveryStationAnswer, EveryStationFile, EveryStation, TablesAgree, LeavingOut};
-ghost use Rattle.rules.specs.Stations.{Which, Both, other, numberOf, officeOf, freshBoth, callOf, bringsTables};
+ghost use Rattle.rules.specs.Stations.{Which, Both, other, numberOf, officeOf, freshBoth, callOf};
 ghost use Rattle.rules.specs.declared.Answer.the-variants.{Accepted, Refused};
-ghost use Rattle.office.specs.Kept.{Makes};
 ghost use Rattle.stations.specs.EachOffice.{EachOffice};
-ghost use Rattle.station.specs.Kept.{isOffice, officeIn, KeepsBoth, MakesBoth, Lends};
+ghost use Rattle.station.specs.Kept.{isOffice, officeIn, KeepsBoth, RepliesTo, unitsIn, PlansBoth, Lends, SendsBoth};
 ghost use Rattle.station.specs.Questions.{shownFor, whyFor, roughnessFor, whyAnswer, roughnessAnswer};
 use office::Office;
 use office::OfficeReply;
@@ -134,7 +132,8 @@ fn accept(s: Station) -> StationReply
 
 // What a call of an office replied, put back beside the other.
 fn put_back(s: Station, n: usize, reply: OfficeReply) -> StationReply
-    ensures { λ r. ⌜ ((w : Which) (c : OfficeCall) → n ≡ numberOf w → ((d : District·District) → bringsTables d c ≡ false) → Makes (officeIn w s) c reply → ((m : ℕ) → reply .answer ≡ Refused m → reply .office ≡ officeIn w s) → MakesBoth s (callOf n c) r) ⌝ }
+    ensures answers { λ r. ⌜ r .answer ≡ reply .answer ⌝ }
+    ensures offices { λ r. ⌜ ((w : Which) → n ≡ numberOf w → (officeIn w (r .station) ≡ reply .office) × (officeIn (other w) (r .station) ≡ officeIn (other w) s)) ⌝ }
 {
     let answer = reply.answer;
     let station = together(n, reply.office, beside(s, n));
@@ -170,7 +169,7 @@ fn with_tables(o: Office, d: District) -> Office
 
 // A load whose file passed all its tests, and loads as `d`.
 fn bring(s: Station, n: usize, d: District) -> StationReply
-    ensures { λ r. ⌜ ((w : Which) (file : List ℕ) → n ≡ numberOf w → loadRefusal file ≡ 0 → districtIn file ≡ d → MakesBoth s (callOf n (Plan (Load file))) r) ⌝ }
+    ensures { λ r. ⌜ ((w : Which) (file : List ℕ) → n ≡ numberOf w → loadRefusal file ≡ 0 → districtIn file ≡ d → PlansBoth s n (Load file) r) ⌝ }
 {
     let o = own(s, n);
     let p = beside(s, n);
@@ -186,7 +185,7 @@ fn bring(s: Station, n: usize, d: District) -> StationReply
 }
 
 pub fn load(s: Station, n: usize, bytes: &[u8]) -> StationReply
-    ensures { λ r. ⌜ MakesBoth s (callOf n (Plan (Load (now (bytes .entry))))) r ⌝ }
+    ensures { λ r. ⌜ PlansBoth s n (Load (now (bytes .entry))) r ⌝ }
 {
     if !is_office(n) {
         return refuse(s, NO_SUCH_OFFICE);
@@ -203,7 +202,7 @@ pub fn load(s: Station, n: usize, bytes: &[u8]) -> StationReply
 // ---- the other calls
 
 pub fn alter(s: Station, n: usize, e: Edit) -> StationReply
-    ensures { λ r. ⌜ MakesBoth s (callOf n (Plan (Alter e))) r ⌝ }
+    ensures { λ r. ⌜ PlansBoth s n (Alter e) r ⌝ }
 {
     if !is_office(n) {
         return refuse(s, NO_SUCH_OFFICE);
@@ -215,7 +214,7 @@ pub fn alter(s: Station, n: usize, e: Edit) -> StationReply
 
 // A record of the office's meter is handed on.
 pub fn send(s: Station, n: usize, sent: Sent) -> StationReply
-    ensures { λ r. ⌜ MakesBoth s (callOf n (Send sent)) r ⌝ }
+    ensures { λ r. ⌜ SendsBoth s n sent r ⌝ }
 {
     if !is_office(n) {
         return refuse(s, NO_SUCH_OFFICE);
@@ -226,7 +225,7 @@ pub fn send(s: Station, n: usize, sent: Sent) -> StationReply
 
 // The file of the office's district, written to the front of the buffer.
 pub fn export(s: Station, n: usize, buffer: &mut [u8]) -> Answer
-    ensures { λ r. ⌜ Lends s (callOf n (Plan (ExportTo (now (buffer .entry))))) r (now (buffer .exit)) ⌝ }
+    ensures { λ r. ⌜ Lends s n (ExportTo (now (buffer .entry))) r (now (buffer .exit)) ⌝ }
 {
     if !is_office(n) {
         return Answer::Refused(NO_SUCH_OFFICE);
@@ -237,7 +236,7 @@ pub fn export(s: Station, n: usize, buffer: &mut [u8]) -> Answer
 
 // The page of the office's district and programme, written to the front of the buffer.
 pub fn page(s: Station, n: usize, buffer: &mut [u8]) -> Answer
-    ensures { λ r. ⌜ Lends s (callOf n (Plan (PageTo (now (buffer .entry))))) r (now (buffer .exit)) ⌝ }
+    ensures { λ r. ⌜ Lends s n (PageTo (now (buffer .entry))) r (now (buffer .exit)) ⌝ }
 {
     if !is_office(n) {
         return Answer::Refused(NO_SUCH_OFFICE);
@@ -248,8 +247,8 @@ pub fn page(s: Station, n: usize, buffer: &mut [u8]) -> Answer
 
 // The programme of the office, with totals, ceiling and counts.
 pub fn show(s: Station, n: usize) -> Shown
-    ensures tells { λ r. ⌜ ((b : Both Held) → KeepsBoth s b → r ≡ shownFor (officeOf n) b) ⌝ }
-    ensures answers { λ r. ⌜ Lends s (callOf n (Plan Show)) (r .answer) [] ⌝ }
+    ensures tells { λ r. ⌜ r ≡ shownFor (officeOf n) (unitsIn s) ⌝ }
+    ensures answers { λ r. ⌜ Lends s n Show (r .answer) [] ⌝ }
 {
     if !is_office(n) {
         return Shown {
@@ -266,8 +265,8 @@ pub fn show(s: Station, n: usize) -> Shown
 
 // Why a segment of the office has, or has not, a strategy.
 pub fn why(s: Station, n: usize, segment: usize, strategy: usize) -> Why
-    ensures tells { λ r. ⌜ ((b : Both Held) → KeepsBoth s b → r ≡ whyFor (officeOf n) b segment strategy) ⌝ }
-    ensures answers { λ r. ⌜ Lends s (callOf n (Plan (AskWhy segment strategy))) (whyAnswer r) [] ⌝ }
+    ensures tells { λ r. ⌜ r ≡ whyFor (officeOf n) (unitsIn s) segment strategy ⌝ }
+    ensures answers { λ r. ⌜ Lends s n (AskWhy segment strategy) (whyAnswer r) [] ⌝ }
 {
     if !is_office(n) {
         return Why::Refused(NO_SUCH_OFFICE);
@@ -279,7 +278,7 @@ pub fn why(s: Station, n: usize, segment: usize, strategy: usize) -> Why
 // The points for the office's window, and the last marker's bits.
 pub fn roughness(s: Station, n: usize) -> Roughness
     ensures tells { λ r. ⌜ ((b : Both Held) → KeepsBoth s b → r ≡ roughnessFor (officeOf n) b) ⌝ }
-    ensures answers { λ r. ⌜ Lends s (callOf n AskRoughness) (roughnessAnswer r) [] ⌝ }
+    ensures answers { λ r. ⌜ RepliesTo s (callOf n AskRoughness) (record { answer = roughnessAnswer r; station = s }) ⌝ }
 {
     if !is_office(n) {
         return Roughness::Refused(NO_SUCH_OFFICE);

@@ -7,6 +7,7 @@ use lib.Seq.{length-take-le}
 use Prim.Native.Nat.{_≤_}
 use Rattle.base.specs.Text.{text}
 use Rattle.rules.specs.Stations.{stationAfter}
+use Rattle.station.proofs.Replies.{lent-outcome}
 use Rattle.panel.specs.Console.{written, unwritten}
 use Rattle.panel.proofs.Says.{answer-of, export-fits, stays, tells, turns}
 use borrow.Author.Needs.{needs}
@@ -20,7 +21,7 @@ fits c =
     let s = c .before .before .before .before .before .before .before .before in
     let known = s .pre .2 in
     let n = c .before .answer .given .0 .0 in
-    let same = answer-of (e .ensures (stationAfter (known .calls)) (known .keeps)) in
+    let same = answer-of (lent-outcome _ _ _ _ _ (e .ensures) (stationAfter (known .calls)) (known .keeps)) in
     omega (arith, export-fits (stationAfter (known .calls)) (s .args .c .office) _ n (same ∙ c .before .answer .given .1), e .kept .1 .1 .0)
 
 array-share-prefix-file : tie.Need-array-share-prefix-file
@@ -33,7 +34,7 @@ returns : tie.Need-returns
 unfolding text
 returns c =
     λ b k. let m = c .before .before .before .before .before .before .before .before .before in
-    let same = answer-of (m .before .before .before .export .ensures b k) in
+    let same = answer-of (lent-outcome _ _ _ _ _ (m .before .before .before .export .ensures) b k) in
     turns (tells (c .before .before .failed .ensures) record { station = k; office = refl }) (unwritten _ _ refl (same ∙ m .answer .given .1))
 
 -- after the match the answer is what it was
@@ -44,7 +45,7 @@ returns-2 : tie.Need-returns-2
 unfolding text
 returns-2 c =
     λ b k. let m = c .before .before .before .before .before in
-    let e = answer-of (m .before .before .export .ensures b k) in
+    let e = answer-of (lent-outcome _ _ _ _ _ (m .before .before .export .ensures) b k) in
     turns (stays k (rw (same m ∙ sym e) at (c .before .before .put-valued .ensures))) (written _ refl)
 
 pub export-spec : {M : Type 1} → statement M

@@ -1,6 +1,8 @@
 -- `panel::obey` meets its contract.
-use mathlib.Core.Path.{refl}
+use mathlib.Core.Path.{refl, _∙_}
 use Rattle.base.specs.Text.{text}
+use Rattle.station.proofs.Questions.{why-kept}
+use Rattle.station.proofs.Replies.{plans-replies}
 use Rattle.panel.specs.Console.{said, after}
 use Rattle.panel.proofs.Says.{stays, replied}
 use borrow.Author.Needs.{needs}
@@ -9,7 +11,7 @@ use Rattle.panel.proofs.obey.Tie as tie
 
 returns : tie.Need-returns
 unfolding said after
-returns c = λ b k. rw (c .before .before .before .before .before .before .command .given .1) (replied (c .before .before .before .before .alter .ensures .reports b k) (c .before .before .conclude .ensures))
+returns c = λ b k. rw (c .before .before .before .before .before .before .command .given .1) (replied (plans-replies _ _ _ _ (c .before .before .before .before .alter .ensures) b k) (c .before .before .conclude .ensures))
 
 returns-2 : tie.Need-returns-2
 unfolding said after
@@ -29,7 +31,7 @@ returns-5 c = λ b k. rw (c .before .before .before .before .enum-told2 .given .
 
 returns-6 : tie.Need-returns-6
 unfolding said after
-returns-6 c = λ b k. rw (c .before .before .before .before .before .before .command4 .given .1) (stays k (rw (c .before .before .before .why .ensures .0 b k) at (c .before .before .put-why .ensures)))
+returns-6 c = λ b k. rw (c .before .before .before .before .before .before .command4 .given .1) (stays k (rw (c .before .before .before .why .ensures .0 ∙ why-kept _ b k _ _ _) at (c .before .before .put-why .ensures)))
 
 returns-7 : tie.Need-returns-7
 unfolding said after

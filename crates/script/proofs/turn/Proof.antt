@@ -3,6 +3,7 @@ use Prim.Native.Nat.{ℕ}
 use mathlib.Core.List.{List, [], _∷_}
 use types.Run.{miss}
 use borrow.Author.Needs.{needs}
+use Rattle.station.proofs.Replies.{plans-replies}
 use Rattle.script.specs.Script.{commanded}
 use Rattle.script.proofs.Calls.{shown-else}
 use Rattle.script.proofs.turn.Statement.{statement}
@@ -10,7 +11,7 @@ use Rattle.script.proofs.turn.Tie as tie
 
 returns : tie.Need-returns
 unfolding commanded
-returns c = rw (c .before .enum-told .given .1) (c .load .ensures .reports)
+returns c = rw (c .before .enum-told .given .1) (plans-replies _ _ _ _ (c .load .ensures))
 
 returns-2 : tie.Need-returns-2
 unfolding commanded
@@ -18,7 +19,7 @@ returns-2 c = rw (c .before .enum-told2 .given .1) (c .exported .ensures)
 
 returns-3 : tie.Need-returns-3
 unfolding commanded
-returns-3 c = rw (c .before .before .command .given .1) (c .alter .ensures .reports)
+returns-3 c = rw (c .before .before .command .given .1) (plans-replies _ _ _ _ (c .alter .ensures))
 
 returns-4 : tie.Need-returns-4
 unfolding commanded

@@ -3,10 +3,9 @@ use mathlib.Core.Path.{sym, ap, _∙_}
 use borrow.Author.Needs.{needs}
 use Rattle.rules.specs.Answers.{accepting}
 use Rattle.rules.specs.Lists.{Load}
-use Rattle.rules.specs.Offices.{Plan}
 use Rattle.file.specs.declared.Loaded.{Loaded}
 use Rattle.station.proofs.Numbers.{named-by, nobody-by}
-use Rattle.station.proofs.Replies.{nobody-makes}
+use Rattle.station.proofs.Replies.{nobody-plans}
 use Rattle.station.proofs.Loads.{file-refused}
 use Rattle.station.proofs.load.Statement.{statement}
 use Rattle.station.proofs.load.Tie as tie
@@ -15,7 +14,7 @@ returns : tie.Need-returns
 returns c =
     let a = c .before .before .before .before .args in
     rw (c .refuse .ensures)
-    (nobody-makes (a .s) (a .n) (Plan (Load (a .bytes .now))) (nobody-by (a .n) (c .before .before .is-office .ensures) (c .before .if1 .taken)))
+    (nobody-plans (a .s) (a .n) (Load (a .bytes .now)) (nobody-by (a .n) (c .before .before .is-office .ensures) (c .before .if1 .taken)))
 
 returns-2 : tie.Need-returns-2
 returns-2 c =
