@@ -19,7 +19,7 @@ use Rattle.rules.specs.declared.Unit.{Unit}
 use Rattle.rules.specs.declared.Why.{Why}
 use Rattle.stations.proofs.Calls.{outcome-nobody}
 use Rattle.stations.proofs.EveryStationAnswer.{both-stay}
-use Rattle.station.specs.Kept.{isOffice, KeepsBoth, RepliesTo, unitsIn, Lends}
+use Rattle.station.specs.Kept.{isOffice, KeepsBoth, RepliesTo, unitsIn, Lends, KeepsNamed}
 use Rattle.station.specs.Questions.{shownFor, whyFor, roughnessFor, whyAnswer, roughnessAnswer}
 use Rattle.station.specs.declared.Shown.{Shown}
 use Rattle.station.specs.declared.Station.{Station}
@@ -102,17 +102,17 @@ module _ (s : Station) (n : ℕ) where
   why-settled i j r tells = (tells, rw tells (why-told (unitsIn s) n i j))
 
   abbrev Rough : Roughness → Type 0
-  Rough r = (b : Both Held) → KeepsBoth s b → r ≡ roughnessFor (officeOf n) b
+  Rough r = (b : Both Held) → KeepsNamed s n b → r ≡ roughnessFor (officeOf n) b
 
   pub roughness-settled : (r : Roughness) → Rough r → Rough r × RepliesTo s (callOf n AskRoughness) (record { answer = roughnessAnswer r; station = s })
   roughness-settled r tells =
-      (tells, stays-replies s (callOf n AskRoughness) (roughnessAnswer r) [] (λ b keeps. rw (tells b keeps) (roughness-told b n)))
+      (tells, stays-replies s (callOf n AskRoughness) (roughnessAnswer r) [] (λ b keeps. rw (tells b (λ w _. keeps w)) (roughness-told b n)))
 
 -- why, from what both hold
 pub why-kept :
-    (s : Station) (b : Both Held) → KeepsBoth s b → (n i j : ℕ) → whyFor (officeOf n) (unitsIn s) i j ≡ whyFor (officeOf n) b i j
+    (s : Station) (n i j : ℕ) (r : Why) → r ≡ whyFor (officeOf n) (unitsIn s) i j → (b : Both Held) → KeepsBoth s b → r ≡ whyFor (officeOf n) b i j
 unfolding whyFor
-why-kept s b keeps n i j = go (officeOf n)
+why-kept s n i j r tells b keeps = tells ∙ go (officeOf n)
   where
     go : (o : Option Which) → whyFor o (unitsIn s) i j ≡ whyFor o b i j
     go none = refl

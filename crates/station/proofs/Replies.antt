@@ -21,7 +21,7 @@ use Rattle.office.specs.declared.OfficeReply.{OfficeReply}
 use Rattle.stations.proofs.Calls.{own-part, other-part, outcome-nobody}
 use Rattle.stations.proofs.EveryStationAnswer.{as-alone}
 use Rattle.stations.proofs.Lists.{each}
-use Rattle.station.specs.Kept.{isOffice, officeIn, KeepsBoth, ReportsBoth, RepliesTo, unitsIn, PlansBoth, Lends, SendsBoth}
+use Rattle.station.specs.Kept.{isOffice, officeIn, KeepsBoth, RepliesTo, unitsIn, PlansBoth, Lends, SendsBoth}
 use Rattle.station.specs.declared.Station.{Station}
 use Rattle.station.specs.declared.StationReply.{StationReply}
 use Rattle.station.proofs.Numbers.{nobody-named, named-office, for-named}
@@ -99,7 +99,7 @@ nobody-sends s n sent nobody =
           stays-replies s (callOf n (Send sent)) (Refused noSuchOffice) (lentBytes (Send sent))
           (λ b keeps. outcome-nobody b (callOf n (Send sent)) (nobody-named n nobody));
       refused = λ m e. refl;
-      units = λ w. refl;
+      named = λ w e. absurd (true≢false (sym (named-office n w e) ∙ nobody));
       untouched = λ w e. refl;
       nobody = λ e. refl;
     }
@@ -171,7 +171,9 @@ module _ (s : Station) (n : ℕ) (w : Which) (named : n ≡ numberOf w) where
         record {
           reports = reported f g;
           refused = λ m e. same-station w (r .station) s (f ∙ sent-refused (officeIn w s) sent o sends m (sym a ∙ e)) g;
-          units = each (λ v. officeIn v (r .station) .unit ≡ officeIn v s .unit) w (ap (λ (o : Office). o .unit) f ∙ sends .unit) (ap (λ (o : Office). o .unit) g);
+          named =
+              for-named (λ v. Sends (officeIn v s) sent (record { answer = r .answer; office = officeIn v (r .station) })) n w named
+              (rw (a, f) sends);
           untouched = for-named (λ v. officeIn (other v) (r .station) ≡ officeIn (other v) s) n w named g;
           nobody = λ e. absurd (true≢false (sym (named-office n w named) ∙ e));
         }

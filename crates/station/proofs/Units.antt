@@ -10,7 +10,6 @@ use Rattle.rules.specs.Meter.{silence}
 use Rattle.rules.specs.Offices.{Held, Plan, officeRefusal, officeOutcome}
 use Rattle.rules.specs.Stations.{Which, First, Second, Both, own, callOf, officeOf, bringsTables, refusalBeside, withTables, heldBeside, StationOutcome, beside, concluded, outcomeFor, stationOutcome}
 use Rattle.rules.specs.declared.Unit.{Unit}
-use Rattle.office.specs.Kept.{Keeps}
 use Rattle.office.specs.declared.Office.{Office}
 use Rattle.station.specs.Kept.{officeIn, KeepsBoth, unitsIn}
 use Rattle.station.specs.declared.Station.{Station}
@@ -42,16 +41,16 @@ other-heard :
 other-heard true d p = refl
 other-heard false d p = refl
 
-module _ (b : Both Held) (c : Call) where
-  other-part-heard :
-      (o p : Held) → heldBeside o p (Plan c) ≡ record { unit = heldBeside (mute o) (mute p) (Plan c) .unit; heard = p .heard }
-  unfolding heldBeside officeOutcome
-  other-part-heard o p = other-heard (bringsTables (o .unit .district) (Plan c)) (outcomeOf (o .unit) c .unit .district) p
+beside-heard :
+    (o p : Held) (c : Call) → heldBeside o p (Plan c) ≡ record { unit = heldBeside (mute o) (mute p) (Plan c) .unit; heard = p .heard }
+unfolding heldBeside officeOutcome
+beside-heard o p c = other-heard (bringsTables (o .unit .district) (Plan c)) (outcomeOf (o .unit) c .unit .district) p
 
+module _ (b : Both Held) (c : Call) where
   concluded-heard : (w : Which) (n : ℕ) → concluded n w b (Plan c) ≡ withHeard b (concluded n w (silent b) (Plan c))
   unfolding concluded officeOutcome
-  concluded-heard First zero = ap (λ (p : Held). beside First p (officeOutcome (b .first) (Plan c))) (other-part-heard (b .first) (b .second))
-  concluded-heard Second zero = ap (λ (p : Held). beside Second p (officeOutcome (b .second) (Plan c))) (other-part-heard (b .second) (b .first))
+  concluded-heard First zero = ap (λ (p : Held). beside First p (officeOutcome (b .first) (Plan c))) (beside-heard (b .first) (b .second) c)
+  concluded-heard Second zero = ap (λ (p : Held). beside Second p (officeOutcome (b .second) (Plan c))) (beside-heard (b .second) (b .first) c)
   concluded-heard w (suc n) = refl
 
   by-heard : (w : Which) → outcomeFor (some w) b (Plan c) ≡ withHeard b (outcomeFor (some w) (silent b) (Plan c))

@@ -12,7 +12,7 @@ use Rattle.rules.specs.Stations.{Which, First, Second, other, Both, own, number
 use Rattle.rules.specs.declared.Answer.{Answer}
 use Rattle.rules.specs.declared.Answer.the-variants.{Refused}
 use Rattle.rules.specs.declared.Sent.{Sent}
-use Rattle.office.specs.Kept.{Keeps}
+use Rattle.office.specs.Kept.{Keeps, Sends}
 use Rattle.office.specs.declared.Office.{Office}
 use Rattle.station.specs.declared.Station.{Station}
 use Rattle.station.specs.declared.StationReply.{StationReply}
@@ -60,12 +60,17 @@ pub record PlansBoth (s : Station) (n : ℕ) (c : Call) (r : StationReply) : Typ
 abbrev pub Lends : Station → ℕ → Call → Answer → List ℕ → Type 0
 Lends s n c answer bytes = stationOutcome (unitsIn s) (callOf n (Plan c)) ≡ record { answer = answer; held = unitsIn s; bytes = bytes }
 
--- ---- a record of an office's meter
+-- ---- what an office's meter sent
 
--- what is not asked is left as it is, by value: the station, where the record is refused; both units; the other office
+-- the office that is named, if any, keeps what it holds
+abbrev pub KeepsNamed : Station → ℕ → Both Held → Type 0
+KeepsNamed s n b = (w : Which) → n ≡ numberOf w → Keeps (officeIn w s) (own w b)
+
+-- of the office that is named, whatever the other's window is; and what is not asked is left as it is, by value: the station, where the record is
+-- refused, and the other office
 pub record SendsBoth (s : Station) (n : ℕ) (sent : Sent) (r : StationReply) : Type 0 where
   pub reports : RepliesTo s (callOf n (Send sent)) r
   pub refused : (m : ℕ) → r .answer ≡ Refused m → r .station ≡ s
-  pub units : (w : Which) → officeIn w (r .station) .unit ≡ officeIn w s .unit
+  pub named : (w : Which) → n ≡ numberOf w → Sends (officeIn w s) sent (record { answer = r .answer; office = officeIn w (r .station) })
   pub untouched : (w : Which) → n ≡ numberOf w → officeIn (other w) (r .station) ≡ officeIn (other w) s
   pub nobody : isOffice n ≡ false → r .answer ≡ Refused noSuchOffice

@@ -11,7 +11,7 @@ ghost use Rattle.rules.specs.StationDemands.{EveryStationAnswer, EveryStationFi
 ghost use Rattle.rules.specs.Stations.{Which, Both, other, numberOf, officeOf, freshBoth, callOf};
 ghost use Rattle.rules.specs.declared.Answer.the-variants.{Accepted, Refused};
 ghost use Rattle.stations.specs.EachOffice.{EachOffice};
-ghost use Rattle.station.specs.Kept.{isOffice, officeIn, KeepsBoth, RepliesTo, unitsIn, PlansBoth, Lends, SendsBoth};
+ghost use Rattle.station.specs.Kept.{isOffice, officeIn, KeepsBoth, RepliesTo, unitsIn, PlansBoth, Lends, KeepsNamed, SendsBoth};
 ghost use Rattle.station.specs.Questions.{shownFor, whyFor, roughnessFor, whyAnswer, roughnessAnswer};
 use office::Office;
 use office::OfficeReply;
@@ -277,7 +277,7 @@ pub fn why(s: Station, n: usize, segment: usize, strategy: usize) -> Why
 
 // The points for the office's window, and the last marker's bits.
 pub fn roughness(s: Station, n: usize) -> Roughness
-    ensures tells { λ r. ⌜ ((b : Both Held) → KeepsBoth s b → r ≡ roughnessFor (officeOf n) b) ⌝ }
+    ensures tells { λ r. ⌜ ((b : Both Held) → KeepsNamed s n b → r ≡ roughnessFor (officeOf n) b) ⌝ }
     ensures answers { λ r. ⌜ RepliesTo s (callOf n AskRoughness) (record { answer = roughnessAnswer r; station = s }) ⌝ }
 {
     if !is_office(n) {

@@ -1,5 +1,5 @@
 -- `panel::obey` meets its contract.
-use mathlib.Core.Path.{refl, _∙_}
+use mathlib.Core.Path.{refl}
 use Rattle.base.specs.Text.{text}
 use Rattle.station.proofs.Questions.{why-kept}
 use Rattle.station.proofs.Replies.{plans-replies}
@@ -31,11 +31,13 @@ returns-5 c = λ b k. rw (c .before .before .before .before .enum-told2 .given .
 
 returns-6 : tie.Need-returns-6
 unfolding said after
-returns-6 c = λ b k. rw (c .before .before .before .before .before .before .command4 .given .1) (stays k (rw (c .before .before .before .why .ensures .0 ∙ why-kept _ b k _ _ _) at (c .before .before .put-why .ensures)))
+returns-6 c =
+    λ b k. let told = why-kept _ _ _ _ _ (c .before .before .before .why .ensures .0) b k in
+    rw (c .before .before .before .before .before .before .command4 .given .1) (stays k (rw told at (c .before .before .put-why .ensures)))
 
 returns-7 : tie.Need-returns-7
 unfolding said after
-returns-7 c = λ b k. rw (c .before .before .before .before .before .enum-told3 .given .1) (stays k (rw (c .before .before .before .roughness .ensures .0 b k) at (c .before .before .put-roughness .ensures)))
+returns-7 c = λ b k. rw (c .before .before .before .before .before .enum-told3 .given .1) (stays k (rw (c .before .before .before .roughness .ensures .0 b (λ w _. k w)) at (c .before .before .put-roughness .ensures)))
 
 returns-8 : tie.Need-returns-8
 unfolding said after text

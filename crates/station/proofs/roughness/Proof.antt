@@ -2,7 +2,7 @@
 use borrow.Author.Needs.{needs}
 use Rattle.rules.specs.Stations.{own}
 use Rattle.station.specs.Questions.{roughnessFor}
-use Rattle.station.proofs.Numbers.{named-by, nobody-by, nobody-named, named-some, keeps-named}
+use Rattle.station.proofs.Numbers.{named-by, nobody-by, nobody-named, named-some}
 use Rattle.station.proofs.Questions.{roughness-settled}
 use Rattle.station.proofs.roughness.Statement.{statement}
 use Rattle.station.proofs.roughness.Tie as tie
@@ -22,8 +22,8 @@ returns-2 c =
     let o = named-by (a .n) (taken .before .before .is-office .ensures) (taken .before .if1 .left) in
     roughness-settled (a .s) (a .n) _
     (λ b keeps.
-    let kept = keeps-named (a .s) (a .n) (taken .own .result) (taken .own .ensures) (o .which) (o .number) b keeps in
-    rw (named-some (a .n) (o .which) (o .number)) (c .roughness .ensures (own (o .which) b) kept))
+    rw (named-some (a .n) (o .which) (o .number))
+    (c .roughness .ensures (own (o .which) b) (rw (taken .own .ensures (o .which) (o .number)) (keeps (o .which) (o .number)))))
 
 pub roughness-spec : {M : Type 1} → statement M
 roughness-spec = tie.close (tie.spec (λ c κs. search needs) returns (λ c κs. search needs) (λ c κs. search needs) returns-2)
