@@ -32,7 +32,8 @@ returns-5 c = λ b k. rw (c .before .before .before .before .enum-told2 .given .
 returns-6 : tie.Need-returns-6
 unfolding said after
 returns-6 c =
-    λ b k. let told = why-kept _ _ _ _ _ (c .before .before .before .why .ensures .0) b k in
+    λ b k. let a = c .before .before .before .before .before .before .before .before .before .before .args in
+    let told = why-kept (a .c .station) (a .c .office) _ _ _ (c .before .before .before .why .ensures .0) b k in
     rw (c .before .before .before .before .before .before .command4 .given .1) (stays k (rw told at (c .before .before .put-why .ensures)))
 
 returns-7 : tie.Need-returns-7
