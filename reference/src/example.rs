@@ -206,3 +206,55 @@ pub fn district() -> District {
         .collect();
     District { years: 10, limits, greatest: GREATEST.to_vec(), strategies, types, segments }
 }
+
+/// Highway, county and control section of each segment, as they stand on its card.
+const ROADS: [(&str, &str, &str); 15] = [
+    ("US 79", "MILAM", "0204-05"),
+    ("US 77", "MILAM", "0209-05"),
+    ("US 190", "MILAM", "0815-02"),
+    ("SH 0SR", "MADISON", "0475-04"),
+    ("SH 0SR", "MADISON", "0475-03"),
+    ("FM1696", "WALKER", "1809-02"),
+    ("FM 1791", "WALKER", "1706-01"),
+    ("FM2821", "WALKER", "2805-01"),
+    ("SH 30", "WALKER", "0212-02"),
+    ("SH 36", "BURLESON", "0816-03"),
+    ("US 290", "WASHINGTON", "0114-09"),
+    ("US 79", "MILAM", "0204-08"),
+    ("SH 36", "BURLESON", "0186-02"),
+    ("SH 0SR", "BRAZOS", "0475-02"),
+    ("FM 908", "MILAM", "0858-02"),
+];
+
+/// Names of strategies, three on a card of 24 columns each, and of distress
+/// types, four of 20 columns.
+const NAMES: [(usize, &[&str]); 5] = [
+    (24, &["FOG SEAL", "SEAL COAT", "OGPMS"]),
+    (24, &["THIN OVERLAY", "MODERATE OVERLAY", "HEAVY OVERLAY"]),
+    (24, &["LIGHTDUTY RECONSTRUCTION", "HEAVY DUTY RECONSTR."]),
+    (20, &["RUTTING", "ALLIGATOR CRACKING", "LONGTUD. CRACKING", "TRANSVERSE CRACKING"]),
+    (20, &["FAILURES/MILE", "SERVICEABILITY INDEX"]),
+];
+
+/// The example as a deck, up to the names of its distress types. The report prints
+/// three decimals, which a card does not take.
+pub fn deck() -> Vec<u8> {
+    let mut lines = vec!["TEST PROBLEM FOR THE STATE OF TEXAS".to_string()];
+    // Segments, strategies, years of data, periods, distress and highway types; materials, equipment, manpower.
+    lines.push([15, 8, 20, 10, 6, 2, 4, 8, 8, 0].map(|count| format!("{count:5}")).concat());
+    for ((kind, length, width, _), (road, county, section)) in SEGMENTS.iter().zip(ROADS) {
+        let miles = format!("{}.{:02}", length / 100, length % 100);
+        lines.push(format!(
+            "{miles:>8}{:>8}{kind:4}{:>8}{:>8}{road:8}{county:12}{section:8}{:>8}{:>8}",
+            format!("{width}.00"),
+            "1.00",
+            "1.00",
+            "0.0",
+            "0.0"
+        ));
+    }
+    for (columns, names) in NAMES {
+        lines.push(names.iter().map(|name| format!("{name:columns$}")).collect());
+    }
+    lines.iter().flat_map(|line| format!("{line:80}\n").into_bytes()).collect()
+}

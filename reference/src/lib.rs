@@ -6,6 +6,8 @@
 pub mod calls;
 pub mod ceiling;
 pub mod console;
+pub mod deck;
+pub mod decks;
 pub mod district;
 pub mod example;
 pub mod file;

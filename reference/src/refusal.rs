@@ -36,6 +36,10 @@ pub enum Refusal {
     Office = 16,
     /// Shared tables that differ from those held while the other office has segments.
     SharedTables = 17,
+    /// A field of a card that breaks the rules for fields, or is out of its range.
+    Field = 18,
+    /// A deck that ends too early, or has a line of another length.
+    Card = 19,
 }
 
 impl Refusal {

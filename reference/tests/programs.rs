@@ -52,6 +52,23 @@ fn up_and_down_turn_the_card() {
     }
 }
 
+/// The report's example, what lies far behind it, and an input without any card.
+#[test]
+fn deck_prints_the_example() {
+    let deck = env!("CARGO_BIN_EXE_deck");
+    let example = reference::example::deck();
+    let printed = String::from_utf8(output_of(deck, &[], &example)).unwrap();
+    assert!(printed.starts_with("counts 15 8 10 6 2\n1 453 26 1 100 100\n2 1232 28 1 100 100\n"));
+    assert!(printed.ends_with(
+        "11 902 26 1 100 100\n12 564 26 1 100 100\n13 932 26 1 100 100\n14 667 20 2 100 100\n15 744 20 2 100 100\n"
+    ));
+    assert_eq!(printed.lines().count(), 16);
+    let more = [example, vec![7; 60_000]].concat();
+    assert_eq!(output_of(deck, &[], &more), printed.as_bytes());
+    assert_eq!(output_of(deck, &[], b""), b"refused 19\n");
+    assert_eq!(output_of(deck, &[], &[b' '; 65_536]), b"refused 19\n");
+}
+
 #[test]
 fn panel_answers() {
     let panel = env!("CARGO_BIN_EXE_panel");

@@ -70,9 +70,12 @@ listed-cong (suc n) m k f g h =
         let q : k + suc x ≡ suc k + x = omega arith in
         sym (ap f p) ∙ h (suc x) (omega arith) ∙ ap g q
 
--- the entry at each place
-pub listed-at : (n m k : ℕ) (f : ℕ → ℕ) → k < n → getD (listedFrom n m f) k 0 ≡ f (m + k)
+-- the entry at each place, whatever is read past the end
+pub listed-entry : {A : Type 0} (n m k : ℕ) (f : ℕ → A) (y : A) → k < n → getD (listedFrom n m f) k y ≡ f (m + k)
 unfolding listedFrom
-listed-at zero m k f h = absurd (omega arith)
-listed-at (suc n) m zero f h = let e : m ≡ m + 0 = omega arith in ap f e
-listed-at (suc n) m (suc k) f h = let e : suc m + k ≡ m + suc k = omega arith in listed-at n (suc m) k f (omega arith) ∙ ap f e
+listed-entry zero m k f y h = absurd (omega arith)
+listed-entry (suc n) m zero f y h = let e : m ≡ m + 0 = omega arith in ap f e
+listed-entry (suc n) m (suc k) f y h = let e : suc m + k ≡ m + suc k = omega arith in listed-entry n (suc m) k f y (omega arith) ∙ ap f e
+
+pub listed-at : (n m k : ℕ) (f : ℕ → ℕ) → k < n → getD (listedFrom n m f) k 0 ≡ f (m + k)
+listed-at n m k f h = listed-entry n m k f 0 h

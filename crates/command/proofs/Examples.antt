@@ -3,13 +3,13 @@ use Prim.Native.Nat.{ℕ}
 use mathlib.Core.List.{List, [], _∷_, _++_, map}
 use mathlib.Core.Path.{_≡_, refl}
 use lib.ListN.{replicate}
-use Rattle.base.specs.Text.{text}
+use Rattle.base.specs.Text.{text, upTo, onFrom, valueFrom, held}
 use Rattle.rules.specs.declared.Edit.the-variants.{Bar, Unbar, SetLimit, SetRating, SetLeader}
 use Rattle.rules.specs.declared.Sent.the-variants.{Index, Marker, Lost}
 use Rattle.command.specs.declared.Command.{Command}
 use Rattle.command.specs.declared.Command.the-variants.{Nothing, Unknown, Load, Export, Alter, Show, Points, Page, Why, Send, Roughness, Office}
 use Rattle.base.specs.Same.{same}
-use Rattle.command.specs.Reading.{isSpace, isOf, every, wordOf, restOf, numberFrom, numberIn, firstNumber, afterNumber, withNumber, arguments, placed, pathOf, isPath, row, rows, taken, meant, called, isComment, commandIn}
+use Rattle.command.specs.Reading.{isSpace, isOf, every, numberIn, firstNumber, afterNumber, withNumber, arguments, placed, pathOf, isPath, row, rows, taken, meant, called, isComment, commandIn}
 
 pub lines : List (List ℕ)
 unfolding text
@@ -42,10 +42,10 @@ readings =
     ∷ Load ∷ Unknown ∷ Unknown ∷ Unknown ∷ []
 
 pub lines-read : map commandIn lines ≡ readings
-unfolding lines readings text same isSpace isOf every wordOf restOf numberFrom numberIn firstNumber afterNumber withNumber arguments placed pathOf isPath row rows taken meant called isComment commandIn
+unfolding lines readings text upTo onFrom valueFrom held same isSpace isOf every numberIn firstNumber afterNumber withNumber arguments placed pathOf isPath row rows taken meant called isComment commandIn
 lines-read = refl
 
 -- the path is all that follows the blank
 pub paths-read : map pathOf (text "load a b" ∷ text "export  x " ∷ text "load " ∷ text "load" ∷ text "" ∷ []) ≡ text "a b" ∷ text " x " ∷ [] ∷ [] ∷ [] ∷ []
-unfolding text restOf pathOf
+unfolding text onFrom pathOf
 paths-read = refl

@@ -1,5 +1,5 @@
 -- Laws of the reading of a line: one byte more, one number more.
-use Prim.Native.Nat.{ℕ, zero, suc, _+_, _-_, _*_, _%_, _^_, _≤_, _<_}
+use Prim.Native.Nat.{ℕ, zero, suc, _+_, _%_, _^_, _≤_, _<_}
 use mathlib.Core.Bool.{Bool, true, false, _&&_}
 use mathlib.Core.List.{List, [], _∷_, _++_, append-nil, append-assoc}
 use mathlib.Core.Option.{Option, none, some}
@@ -7,13 +7,14 @@ use mathlib.Core.Path.{_≡_, refl, sym, ap, _∙_, fun-ext}
 use native.Mathlib.Nat.{mod-eq-of-lt}
 use native.Mathlib.Omega.{arith}
 use lib.Dec.{leb, ltb, eqb}
-use lib.ListN.{length, getD, take, drop, set, replicate, length-append, length-drop}
-use lib.Seq.{drop-drop, drop-set-lt, getD-drop, take-at, drop-at}
-use borrow.Author.Tests.{lt-ltb, le-ltb, le-leb, lt-leb, eq-eqb, ne-eqb, leb-true, leb-false, ltb-true}
+use lib.ListN.{length, getD, take, drop, set, replicate, length-drop}
+use lib.Seq.{drop-drop, drop-set-lt, getD-drop}
+use borrow.Author.Tests.{eq-eqb, ne-eqb, leb-true, leb-false, ltb-true}
 use Rattle.base.specs.Choice.{pick, only}
 use Rattle.base.proofs.Choice.{and-both}
 use Rattle.base.proofs.Same.{drop-next}
-use Rattle.command.specs.Reading.{isOf, every, wordOf, restOf, numberIn, numberFrom, firstNumber, afterNumber, withNumber, arguments, at, placed, pathOf, sendOf, countOf}
+use Rattle.base.proofs.Parts.{on-dropped}
+use Rattle.command.specs.Reading.{isOf, every, wordOf, restOf, numberIn, firstNumber, afterNumber, withNumber, arguments, at, placed, pathOf, sendOf, countOf}
 use Rattle.rules.specs.declared.Sent.{Sent}
 use Rattle.command.specs.declared.Command.the-variants.{Send, Unknown}
 use Rattle.command.specs.declared.Kind.{Kind}
@@ -25,51 +26,7 @@ pub every-next : (kind : Kind) (bs : List ℕ) (i : ℕ) → i < length bs → e
 unfolding every
 every-next kind bs i h = rw (drop-next bs i h)
 
-pub word-next : (bs : List ℕ) (i : ℕ) → i < length bs → wordOf (drop i bs) ≡ pick (eqb (getD bs i 0) 32) [] (getD bs i 0 ∷ wordOf (drop (i + 1) bs))
-unfolding wordOf
-word-next bs i h = rw (drop-next bs i h)
-
-word-rest : (bs : List ℕ) → wordOf bs ++ restOf bs ≡ bs
-unfolding wordOf restOf
-word-rest [] = refl
-word-rest (b ∷ bs) = go (word-rest bs) (eqb b 32)
-  where
-    go : wordOf bs ++ restOf bs ≡ bs → (t : Bool) → pick t [] (b ∷ wordOf bs) ++ pick t (b ∷ bs) (restOf bs) ≡ b ∷ bs
-    go e true = refl
-    go e false = ap (λ (l : List ℕ). b ∷ l) e
-
-pub word-taken : (bs : List ℕ) (n : ℕ) → n ≡ length (wordOf bs) → take n bs ≡ wordOf bs
-word-taken bs n e = ap (take n) (sym (word-rest bs)) ∙ take-at (wordOf bs) (restOf bs) n (sym e)
-
-pub word-dropped : (bs : List ℕ) (n : ℕ) → n ≡ length (wordOf bs) → drop n bs ≡ restOf bs
-word-dropped bs n e = ap (drop n) (sym (word-rest bs)) ∙ drop-at (wordOf bs) (restOf bs) n (sym e)
-
--- a slice that holds it is as long
-pub word-size : (bs : List ℕ) (n : ℕ) → n ≡ length (wordOf bs) → n ≡ length (take n bs)
-word-size bs n e = e ∙ sym (ap length (word-taken bs n e))
-
-pub word-fits : (bs : List ℕ) → length (wordOf bs) ≤ length bs
-word-fits bs = omega (arith, ap length (word-rest bs), length-append (wordOf bs) (restOf bs))
-
 -- ---- numbers
-
-module _ (v : ℕ) (w : List ℕ) (i : ℕ) (h : i < length w) where
-  -- the next byte is a digit, and there is room for it
-  pub number-next : 48 ≤ getD w i 0 → getD w i 0 ≤ 57 → v * 10 + (getD w i 0 - 48) < 2 ^ 64 → numberFrom v (drop i w) ≡ numberFrom (v * 10 + (getD w i 0 - 48)) (drop (i + 1) w)
-  unfolding numberFrom
-  number-next l k m = rw (drop-next w i h, le-leb 48 (getD w i 0) l, le-leb (getD w i 0) 57 k, lt-ltb (v * 10 + (getD w i 0 - 48)) (2 ^ 64) m)
-
-  pub number-low : getD w i 0 < 48 → numberFrom v (drop i w) ≡ none
-  unfolding numberFrom
-  number-low l = rw (drop-next w i h, lt-leb 48 (getD w i 0) l)
-
-  pub number-high : 48 ≤ getD w i 0 → 57 < getD w i 0 → numberFrom v (drop i w) ≡ none
-  unfolding numberFrom
-  number-high l k = rw (drop-next w i h, le-leb 48 (getD w i 0) l, lt-leb (getD w i 0) 57 k)
-
-  pub number-over : 48 ≤ getD w i 0 → getD w i 0 ≤ 57 → 2 ^ 64 ≤ v * 10 + (getD w i 0 - 48) → numberFrom v (drop i w) ≡ none
-  unfolding numberFrom
-  number-over l k m = rw (drop-next w i h, le-leb 48 (getD w i 0) l, le-leb (getD w i 0) 57 k, le-ltb (v * 10 + (getD w i 0 - 48)) (2 ^ 64) m)
 
 -- the number after one blank, where there is something
 pub first-none : (bs : List ℕ) → length bs < 1 → firstNumber bs ≡ none
@@ -165,7 +122,7 @@ placed-only false vs = refl
 
 pub path-drop : (line : List ℕ) (n : ℕ) → n ≡ length (wordOf line) → drop (n + 1) line ≡ pathOf line
 unfolding pathOf
-path-drop line n e = sym (drop-drop 1 n line) ∙ ap (drop 1) (word-dropped line n e)
+path-drop line n e = sym (drop-drop 1 n line) ∙ ap (drop 1) (on-dropped 32 line n e)
 
 -- it is no longer than its line
 pub path-fits : (line : List ℕ) → length (pathOf line) ≤ length line

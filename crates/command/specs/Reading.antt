@@ -1,5 +1,5 @@
 -- A line of the panel as a command, for any bytes at all.
-use Prim.Native.Nat.{ℕ, zero, suc, _+_, _-_, _*_, _^_}
+use Prim.Native.Nat.{ℕ, zero, suc, _^_}
 use Prim.Native.String.{String}
 use mathlib.Core.Bool.{Bool, true, not, _&&_, _||_}
 use mathlib.Core.List.{List, [], _∷_, _++_}
@@ -9,7 +9,7 @@ use lib.ListN.{length, getD, take, drop, replicate}
 use Rattle.base.specs.Choice.{pick, only}
 use Rattle.base.specs.Over.{between}
 use Rattle.base.specs.Same.{same}
-use Rattle.base.specs.Text.{text}
+use Rattle.base.specs.Text.{text, upTo, onFrom, valueFrom, held}
 use Rattle.rules.specs.declared.Edit.the-variants.{Bar, Unbar, SetLimit, SetRating, SetLeader}
 use Rattle.rules.specs.declared.Sent.{Sent}
 use Rattle.rules.specs.declared.Sent.the-variants.{Index, Marker, Lost}
@@ -20,8 +20,6 @@ use Rattle.command.specs.declared.Kind.{Kind}
 use Rattle.command.specs.declared.Kind.the-variants.{Space, Named}
 use Rattle.command.specs.declared.Name as Name
 use Rattle.command.specs.declared.Name.{Name}
-use Rattle.command.specs.declared.Number.{Number}
-use Rattle.command.specs.declared.Number.the-variants.{Is, Not}
 use Rattle.command.specs.declared.Row.{Row}
 use Rattle.command.specs.declared.Takes.{Takes}
 use Rattle.command.specs.declared.Takes.the-variants.{Numbers, Path}
@@ -42,24 +40,17 @@ every kind [] = true
 every kind (b ∷ bs) = isOf kind b && every kind bs
 
 -- the bytes before the next blank, and those from it on
-unfoldable pub wordOf : List ℕ → List ℕ
-wordOf [] = []
-wordOf (b ∷ bs) = pick (eqb b 32) [] (b ∷ wordOf bs)
+abbrev pub wordOf : List ℕ → List ℕ
+wordOf bs = upTo 32 bs
 
-unfoldable pub restOf : List ℕ → List ℕ
-restOf [] = []
-restOf (b ∷ bs) = pick (eqb b 32) (b ∷ bs) (restOf bs)
+abbrev pub restOf : List ℕ → List ℕ
+restOf bs = onFrom 32 bs
 
 -- ---- numbers
 
--- what digits stand for after v; nothing for another byte, and nothing beyond 64 bits
-unfoldable pub numberFrom : ℕ → List ℕ → Option ℕ
-numberFrom v [] = some v
-numberFrom v (b ∷ bs) = pick (between 48 57 b && ltb (v * 10 + (b - 48)) (2 ^ 64)) (numberFrom (v * 10 + (b - 48)) bs) none
-
--- a word of one to 20 digits
+-- a word of one to 20 digits, for a number of 64 bits
 unfoldable pub numberIn : List ℕ → Option ℕ
-numberIn word = pick (between 1 20 (length word)) (numberFrom 0 word) none
+numberIn word = pick (between 1 20 (length word)) (held (valueFrom 0 word)) none
 
 -- the number after one blank, and what follows it
 unfoldable pub firstNumber : List ℕ → Option ℕ
@@ -189,10 +180,6 @@ commandIn line =
     (called rows line)))
 
 -- ---- what the answers of the code stand for
-
-unfoldable pub readNumber : Number → Option ℕ
-readNumber (Is v) = some v
-readNumber Not = none
 
 unfoldable pub numbersOf : Arguments → Option (ℕ → ℕ)
 numbersOf a = only (a .fit) (at (a .numbers))

@@ -4,12 +4,17 @@ ghost use mathlib.Core.List.{_∷_};
 ghost use Prim.Native.Nat.{_+_, _≤_, _<_};
 ghost use lib.ListN.{length, drop};
 ghost use Rattle.base.specs.Same.{same as Same·same};
-ghost use Rattle.command.specs.Reading.{every as Reading·every, isSpace, isOf, wordOf, numberIn, firstNumber, afterNumber, arguments, at, placed, pathOf, isPath, rows, sendOf, made, numbered as Reading·numbered, taken, meant, called as Reading·called, isComment, commandIn, readNumber, numbersOf, countOf};
+ghost use Rattle.command.specs.Reading.{every as Reading·every, isSpace, isOf, wordOf, numberIn, firstNumber, afterNumber, arguments, at, placed, pathOf, isPath, rows, sendOf, made, numbered as Reading·numbered, taken, meant, called as Reading·called, isComment, commandIn, numbersOf, countOf};
+ghost use Rattle.text.specs.Numbers.{valueOf};
 use rules::Edit;
 use rules::Sent;
+use text::Number;
 
 // A longer line is no command, unless it is to be passed over.
 pub const LONGEST_LINE: usize = 512;
+
+// It ends a word.
+const BLANK: u8 = 32;
 
 pub enum Command {
     // A line to pass over, and one that is no command.
@@ -83,11 +88,6 @@ pub enum Kind {
     Named,
 }
 
-pub enum Number {
-    Is(usize),
-    Not,
-}
-
 // The numbers, where there are as many as the word takes; 0 behind them.
 pub struct Arguments {
     pub fit: bool,
@@ -146,24 +146,10 @@ fn every(kind: Kind, bytes: &[u8]) -> bool
     true
 }
 
-// How many bytes stand before the next blank.
-fn word_length(bytes: &[u8]) -> usize
-    ensures { λ r. ⌜ r ≡ length (wordOf (now (bytes .entry))) ⌝ }
-{
-    let mut i = 0;
-    while i < bytes.len() {
-        if bytes[i] == 32 {
-            return i;
-        }
-        i += 1;
-    }
-    i
-}
-
 // ---- numbers
 
 fn read_number(word: &[u8]) -> Number
-    ensures { λ r. ⌜ readNumber r ≡ numberIn (now (word .entry)) ⌝ }
+    ensures { λ r. ⌜ valueOf r ≡ numberIn (now (word .entry)) ⌝ }
 {
     if word.len() < 1 {
         return Number::Not;
@@ -171,29 +157,12 @@ fn read_number(word: &[u8]) -> Number
     if 20 < word.len() {
         return Number::Not;
     }
-    let mut value: usize = 0;
-    let mut i = 0;
-    while i < word.len() {
-        let byte = word[i] as usize;
-        if byte < 48 {
-            return Number::Not;
-        }
-        if 57 < byte {
-            return Number::Not;
-        }
-        let digit = byte - 48;
-        if (18446744073709551615 - digit) / 10 < value {
-            return Number::Not;
-        }
-        value = value * 10 + digit;
-        i += 1;
-    }
-    Number::Is(value)
+    text::digits_after(0, word)
 }
 
 // The number after one blank.
 fn first_number(bytes: &[u8]) -> Number
-    ensures { λ r. ⌜ readNumber r ≡ firstNumber (now (bytes .entry)) ⌝ }
+    ensures { λ r. ⌜ valueOf r ≡ firstNumber (now (bytes .entry)) ⌝ }
 {
     if bytes.len() < 1 {
         return Number::Not;
@@ -202,7 +171,7 @@ fn first_number(bytes: &[u8]) -> Number
         return Number::Not;
     }
     let rest = &bytes[1..];
-    let end = word_length(rest);
+    let end = text::find(rest, BLANK);
     read_number(&rest[..end])
 }
 
@@ -214,7 +183,7 @@ fn first_length(bytes: &[u8]) -> usize
     if bytes.len() < 1 {
         return 0;
     }
-    1 + word_length(&bytes[1..])
+    1 + text::find(&bytes[1..], BLANK)
 }
 
 // The numbers from byte `from` to the end, where there are `n`.
@@ -253,7 +222,7 @@ fn read_arguments(line: &[u8], from: usize, n: usize) -> Arguments
 pub fn path(line: &[u8]) -> &[u8]
     ensures { λ r. ⌜ now r ≡ pathOf (now (line .entry)) ⌝ }
 {
-    let end = word_length(line);
+    let end = text::find(line, BLANK);
     if line.len() <= end {
         return &line[end..];
     }
@@ -286,8 +255,8 @@ fn nth(n: usize) -> Row
 fn same_word(a: &[u8], b: &[u8]) -> bool
     ensures { λ r. ⌜ r ≡ Same·same (wordOf (now (a .entry))) (wordOf (now (b .entry))) ⌝ }
 {
-    let m = word_length(a);
-    let n = word_length(b);
+    let m = text::find(a, BLANK);
+    let n = text::find(b, BLANK);
     same(&a[..m], &b[..n])
 }
 
@@ -346,7 +315,7 @@ fn take(takes: Takes, line: &[u8]) -> Arguments
     ensures { λ r. ⌜ numbersOf r ≡ taken takes (now (line .entry)) ⌝ }
 {
     match takes {
-        Takes::Numbers(n) => read_arguments(line, word_length(line), n),
+        Takes::Numbers(n) => read_arguments(line, text::find(line, BLANK), n),
         Takes::Path => Arguments {
             fit: is_path(path(line)),
             numbers: [0; 4],

@@ -11,7 +11,8 @@ use Rattle.rules.specs.Conversions.{upRefusal, upFile, downRefusal, downFile, t
 use Rattle.rules.specs.File.{longestFile}
 use Rattle.rules.specs.declared.Answer.{Answer}
 use Rattle.file.proofs.Refusals.{exported-fits}
-use Rattle.convert.specs.Printed.{fileOrRefusal, upPrinted, downPrinted, Told}
+use Rattle.listing.specs.Listing.{orRefusal}
+use Rattle.convert.specs.Printed.{upPrinted, downPrinted, Told}
 use Rattle.convert.proofs.Loads.{turned-refused}
 use Rattle.convert.proofs.Turns.{up-fits, down-fits}
 
@@ -19,8 +20,8 @@ use Rattle.convert.proofs.Turns.{up-fits, down-fits}
 turned-put :
     (n : ℕ) (new old out last : List ℕ) (answer : Answer) (count : ℕ)
     → (n ≡ 0 → length new ≤ length old) → record { answer = answer; buffer = out } ≡ turnedInto n new old → Told answer out last count
-    → Put (fileOrRefusal n new) old last count
-unfolding fileOrRefusal Told turnedInto
+    → Put (orRefusal n new) old last count
+unfolding orRefusal Told turnedInto
 turned-put zero new old out last answer count room e t =
     let whole = e ∙ sym (exported-fits (length new) bufferTooShort new old (room refl)) in
     let k = rw (ap (λ (x : Export). x .answer) whole) at t in

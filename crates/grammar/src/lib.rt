@@ -1,10 +1,12 @@
 // The grammar of a district's file: its records in order, and for each of their numbers how many bytes and what range
 // it has. Each function computes the rules' definition of nearly the same name (rules/specs/Format.antt).
 ghost use mathlib.Core.Path.{_≡_};
-ghost use Prim.Native.Nat.{_<_, _-_, _^_, min};
+ghost use mathlib.Core.List.{List};
+ghost use Prim.Native.Nat.{ℕ, _<_, _-_, _^_, min};
 ghost use Rattle.base.specs.Choice.{pick};
 ghost use Rattle.rules.specs.Format.{number, absent, inside, slot, slotOf, present, countField, limitField, greatestField, rowsField, strategyField, pavementField, ratingField, leaderField, segmentField, kindField, fieldAt};
-ghost use Rattle.rules.specs.District.{mostDistresses};
+ghost use Rattle.rules.specs.District.{mostDistresses, barsAt, pavementsOf};
+ghost use Rattle.rules.specs.declared.Slot.{Slot as Record};
 use rules::District;
 use rules::Field;
 use rules::Slot;
@@ -97,7 +99,7 @@ const MOST: [usize; places::COUNT_PLACES] = [
     places::MOST_RESOURCES,
 ];
 
-fn count_field(n: usize) -> Field
+pub fn count_field(n: usize) -> Field
     ensures { λ r. ⌜ r ≡ countField n ⌝ }
 {
     if n < places::COUNT_PLACES {
@@ -174,20 +176,27 @@ fn leader_field(s: Slot) -> Field
     number_if(form == LEADER_FORM, 1, 0, nth)
 }
 
-fn segment_field(d: &District, s: Slot, n: usize) -> Field
-    ensures { λ r. ⌜ r ≡ segmentField (now (d .entry)) s n ⌝ }
+// A number of a segment that stands before its bars, where there are so many pavement types.
+pub fn road_field(pavements: usize, n: usize) -> Field
+    ensures { λ r. ⌜ ((d : List ℕ) (s : Slot) → pavementsOf d ≡ pavements → n < barsAt → r ≡ segmentField d s n) ⌝ }
 {
     if n == 0 {
-        return number_of(1, 1, d[places::PAVEMENT_COUNT]);
+        return number_of(1, 1, pavements);
     }
     if n < places::LENGTH {
         return number_of(2, 100, 1000);
     }
-    if n == places::LENGTH {
+    if n < places::WIDTH {
         return number_of(2, 1, 9999);
     }
-    if n == places::WIDTH {
-        return number_of(1, 1, 200);
+    number_of(1, 1, 200)
+}
+
+fn segment_field(d: &District, s: Slot, n: usize) -> Field
+    ensures { λ r. ⌜ r ≡ segmentField (now (d .entry)) s n ⌝ }
+{
+    if n < places::BARS {
+        return road_field(d[places::PAVEMENT_COUNT], n);
     }
     if n == places::BARS {
         return number_of(2, 0, largest_mask(d[places::STRATEGY_COUNT]));

@@ -6,7 +6,7 @@ use Rattle.base.specs.Text.{text, digitsOf, decimal}
 use Rattle.rules.specs.declared.Programme.{Programme}
 use Rattle.rules.specs.declared.Answer.the-variants.{Accepted, Refused}
 use Rattle.rules.specs.declared.Roughness.the-variants as Roughness
-use Rattle.listing.specs.Listing.{named, line, segmentLine, segmentLines, stepsLine, results, listing, pairLine, refusal, done, valued, told, failed}
+use Rattle.listing.specs.Listing.{named, line, linesFrom, segmentLine, stepsLine, results, listing, pairLine, refusal, done, valued, told, failed}
 
 pub card : Programme
 card =
@@ -21,7 +21,7 @@ card =
     }
 
 pub card-listed : listing card 2 ≡ text "1 2\n2 1\nbenefit 8250000\nceiling 8438555\nsteps 1 0 0\n"
-unfolding card text digitsOf decimal named line segmentLine segmentLines stepsLine results listing
+unfolding card text digitsOf decimal named line linesFrom segmentLine stepsLine results listing
 card-listed = refl
 
 -- the answers of calls, and the greatest number

@@ -1,5 +1,5 @@
 -- How many bytes a listing has at most.
-use Prim.Native.Nat.{ℕ, zero, suc, _+_, _-_, _*_, _≤_, min}
+use Prim.Native.Nat.{ℕ, _+_, _-_, _*_, _≤_, min}
 use mathlib.Core.List.{List, _++_}
 use native.Mathlib.Omega.{arith}
 use lib.ListN.{length, getD, length-append}
@@ -7,7 +7,8 @@ use Rattle.base.specs.Text.{text, mostDigits, decimal}
 use Rattle.base.proofs.Text.{decimal-few}
 use Rattle.rules.specs.District.{mostSegments}
 use Rattle.rules.specs.declared.Programme.{Programme}
-use Rattle.listing.specs.Listing.{named, line, segmentLine, segmentLines, stepsLine, results, listing, refusal, pairLine, overLine, longestLineOf, longestPairOf, longestRefusal, longestReason, longestSegmentLine, longestStepsLine, longestListing}
+use Rattle.listing.specs.Listing.{named, line, segmentLine, strategyLine, segmentLines, stepsLine, results, listing, refusal, pairLine, overLine, longestLineOf, longestPairOf, longestRefusal, longestReason, longestSegmentLine, longestStepsLine, longestListing}
+use Rattle.listing.proofs.Lines.{lines-few}
 
 pub named-few : (word : List ℕ) (n : ℕ) → length (named word n) ≤ length word + mostDigits
 unfolding named
@@ -40,11 +41,7 @@ unfolding segmentLine text
 segment-few i j = omega (arith, length-append (decimal i) (line (text " ") j), decimal-few i, line-few (text " ") j)
 
 segments-few : (n i : ℕ) (strategies : List ℕ) → length (segmentLines n i strategies) ≤ longestSegmentLine * n
-unfolding segmentLines
-segments-few zero i strategies = omega arith
-segments-few (suc n) i strategies =
-    let j = getD strategies (i - 1) 0 in
-    omega (arith, length-append (segmentLine i j) (segmentLines n (i + 1) strategies), segment-few i j, segments-few n (i + 1) strategies)
+segments-few n i strategies = lines-few n i (strategyLine strategies) longestSegmentLine (λ k. segment-few k (getD strategies (k - 1) 0))
 
 steps-few : (p : Programme) → length (stepsLine p) ≤ longestStepsLine
 unfolding stepsLine text

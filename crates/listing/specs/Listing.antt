@@ -28,15 +28,22 @@ line word n = named word n ++ text "\n"
 unfoldable pub pairLine : List ℕ → ℕ → List ℕ → ℕ → List ℕ
 pairLine first a second b = named first a ++ line second b
 
+-- n lines, of the numbers from i on
+unfoldable pub linesFrom : ℕ → ℕ → (ℕ → List ℕ) → List ℕ
+linesFrom zero i lineOf = []
+linesFrom (suc n) i lineOf = lineOf i ++ linesFrom n (i + 1) lineOf
+
 -- ---- a programme
 
 unfoldable pub segmentLine : ℕ → ℕ → List ℕ
 segmentLine i j = decimal i ++ line (text " ") j
 
--- of n segments, from number i on
-unfoldable pub segmentLines : ℕ → ℕ → List ℕ → List ℕ
-segmentLines zero i strategies = []
-segmentLines (suc n) i strategies = segmentLine i (getD strategies (i - 1) 0) ++ segmentLines n (i + 1) strategies
+-- of segment i, by what each gets
+abbrev pub strategyLine : List ℕ → ℕ → List ℕ
+strategyLine strategies i = segmentLine i (getD strategies (i - 1) 0)
+
+abbrev pub segmentLines : ℕ → ℕ → List ℕ → List ℕ
+segmentLines n i strategies = linesFrom n i (strategyLine strategies)
 
 unfoldable pub stepsLine : Programme → List ℕ
 stepsLine p = named (text "steps ") (p .steps) ++ (named (text " ") (p .pickups) ++ line (text " ") (p .changes))
@@ -56,6 +63,11 @@ shown u = listing (u .programme) (segmentsOf (u .district))
 
 unfoldable pub refusal : ℕ → List ℕ
 refusal n = line (text "refused ") n
+
+-- what is printed where nothing refuses it, else the refusal
+unfoldable pub orRefusal : ℕ → List ℕ → List ℕ
+orRefusal zero bytes = bytes
+orRefusal (suc n) bytes = refusal (suc n)
 
 -- of one that has nothing to tell
 unfoldable pub done : Answer → List ℕ

@@ -45,7 +45,8 @@ pub fn put_number(out: &mut [u8], value: usize) -> usize
     at + 1
 }
 
-fn put_named(out: &mut [u8], word: &[u8], value: usize) -> usize
+// A word and a number, and the same as a line.
+pub fn put_named(out: &mut [u8], word: &[u8], value: usize) -> usize
     requires { ⌜ length (named (now word) value) ≤ length (now out) ⌝ }
     ensures { λ r. ⌜ Put (named (now (word .entry)) value) (now (out .entry)) (now (out .exit)) r ⌝ }
 {

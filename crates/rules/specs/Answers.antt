@@ -67,6 +67,13 @@ noSuchOffice = 16
 abbrev pub tablesInUse : ℕ
 tablesInUse = 17
 
+-- of request 11: a field that breaks its rule or its range, and a line of another length or a deck that ends before it
+abbrev pub wrongField : ℕ
+wrongField = 18
+
+abbrev pub wrongLine : ℕ
+wrongLine = 19
+
 -- ---- how one comes about
 
 -- refusal n where the test fails, else what the later tests say
@@ -82,6 +89,11 @@ oneTo x count n rest = unless (between 1 count x) n rest
 abbrev pub orLater : ℕ → ℕ → ℕ
 orLater zero rest = rest
 orLater (suc n) rest = suc n
+
+-- the first refusal of f 1, .. f n, or 0
+unfoldable pub firstRefusal : ℕ → (ℕ → ℕ) → ℕ
+firstRefusal zero f = 0
+firstRefusal (suc n) f = orLater (firstRefusal n f) (f (suc n))
 
 -- ---- what is answered and what is held
 

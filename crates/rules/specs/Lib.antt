@@ -13,6 +13,7 @@ pub mod Survey
 pub mod Meter
 pub mod Calls
 pub mod Conversions
+pub mod Deck
 pub mod Lists
 pub mod Offices
 pub mod Stations
@@ -30,4 +31,5 @@ pub mod Metered
 pub mod Feasibility
 pub mod Leaders
 pub mod Converted
+pub mod Decks
 pub mod TwoOffices

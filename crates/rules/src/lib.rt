@@ -24,6 +24,18 @@ pub struct Slot {
     pub nth: usize,
 }
 
+// How a number is written on a card: in a whole-number field, in a decimal field, which is read in hundredths, or in a
+// decimal field whose value is whole.
+pub enum Notation {
+    Whole,
+    Hundredths,
+    Units,
+}
+
+// Columns of a card: the first and the last, from 1, how their number is written, and which number it is of which kind
+// of the file's records.
+pub struct Columns(pub usize, pub usize, pub Notation, pub usize, pub usize);
+
 // The result of planning: which strategy each of 64 places gets (0 is nothing), three sums, and how much work each
 // phase did.
 pub struct Programme {

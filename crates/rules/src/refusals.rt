@@ -40,3 +40,8 @@ pub const LEADER_SET: usize = 15;
 pub const NO_SUCH_OFFICE: usize = 16;
 
 pub const TABLES_IN_USE: usize = 17;
+
+// Of request 11: a field that breaks its rule or its range, and a line of another length or a deck that ends before it.
+pub const WRONG_FIELD: usize = 18;
+
+pub const WRONG_LINE: usize = 19;

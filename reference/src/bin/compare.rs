@@ -1,11 +1,12 @@
 //! Compares other programs with this library, case by case:
 //! `compare [--plan PATH] [--page PATH] [--panel PATH] [--codec PATH] [--vectors PATH] [--up PATH] [--down PATH]
-//! --count N --seed S`.
+//! [--deck PATH] --count N --seed S`.
 //!
 //! The cases are dealt out among the programs given. A case is made from the
 //! seed and its number alone. Where answers differ, the case's files and both
 //! answers stay in the work folder. With `--turned FILE` the stored cases of `up`
-//! and `down` in that file are run as well, in front of the others.
+//! and `down` in that file are run as well, and with `--decks FILE` those of
+//! `deck`, in front of the others.
 
 use reference::calls::Call;
 use reference::console::Console;
@@ -18,7 +19,7 @@ use reference::station::{same_tables, Station};
 use reference::tables::Tables;
 use reference::turn::{self, Way};
 use reference::unit::{plan, Plan};
-use reference::{calls, example, file, frames, lists, page, rating};
+use reference::{calls, deck, decks, example, file, frames, lists, page, rating};
 use std::collections::BTreeMap;
 use std::fs;
 use std::io::{Read, Write};
@@ -29,7 +30,8 @@ use std::thread;
 use std::time::Duration;
 
 const USAGE: &str = "usage: compare [--plan PATH] [--page PATH] [--panel PATH] [--codec PATH] [--vectors PATH]
-               [--up PATH] [--down PATH] [--turned FILE] [--count N] [--seed S] [--work DIR] [--case K]
+               [--up PATH] [--down PATH] [--turned FILE] [--deck PATH] [--decks FILE]
+               [--count N] [--seed S] [--work DIR] [--case K]
 ";
 const PATIENCE: Duration = Duration::from_secs(120);
 
@@ -53,6 +55,7 @@ enum Kind {
     Vectors,
     Panel,
     Turn(Way),
+    Deck,
 }
 
 impl Kind {
@@ -65,10 +68,11 @@ impl Kind {
             Kind::Panel => "panel",
             Kind::Turn(Way::Up) => "up",
             Kind::Turn(Way::Down) => "down",
+            Kind::Deck => "deck",
         }
     }
 
-    /// How many of nineteen cases it gets when all seven are there.
+    /// How many of 21 cases it gets when all eight are there.
     fn weight(self) -> usize {
         match self {
             Kind::Plan => 5,
@@ -77,6 +81,7 @@ impl Kind {
             Kind::Vectors => 2,
             Kind::Panel => 2,
             Kind::Turn(_) => 2,
+            Kind::Deck => 2,
         }
     }
 }
@@ -109,8 +114,9 @@ struct Run {
 
 /// The number of differences.
 fn run(arguments: &[String]) -> Result<u64, String> {
-    let known = ["plan", "page", "panel", "codec", "vectors", "up", "down", "turned", "count", "seed", "work", "case"];
-    let given = Given::read(arguments, &known)?;
+    let kinds = ["plan", "page", "panel", "codec", "vectors", "up", "down", "deck"];
+    let others = ["turned", "decks", "count", "seed", "work", "case"];
+    let given = Given::read(arguments, &[&kinds[..], &others].concat())?;
     let (seed, count) = (given.number("seed", 1)?, given.number("count", 300)?);
     let cases = match given.text("case") {
         None => 0..count,
@@ -135,6 +141,9 @@ fn run(arguments: &[String]) -> Result<u64, String> {
     if let Some(path) = given.text("turned") {
         run.stored_turns(&programs, path)?;
     }
+    if let (Some(path), Some(program)) = (given.text("decks"), programs.get(&Kind::Deck)) {
+        run.stored_decks(program, path)?;
+    }
     let mut files: Vec<(u64, Vec<u8>)> = Vec::new();
     let mut lists: Vec<(u64, Vec<u8>)> = Vec::new();
     for case in cases {
@@ -144,6 +153,7 @@ fn run(arguments: &[String]) -> Result<u64, String> {
             Kind::Page => run.page_case(&programs[&kind], case)?,
             Kind::Panel => run.panel_case(&programs[&kind], case)?,
             Kind::Turn(way) => run.turn_case(way, &programs[&kind], case)?,
+            Kind::Deck => run.deck_case(&programs[&kind], case)?,
             Kind::Codec => files.push((case, make::any_frame(&mut Random::for_case(seed, case)))),
             Kind::Vectors => lists.push((case, lists::any_list(&mut Random::for_case(seed, case)))),
         }
@@ -160,7 +170,7 @@ fn run(arguments: &[String]) -> Result<u64, String> {
 
 fn programs(given: &Given) -> Result<BTreeMap<Kind, PathBuf>, String> {
     let mut programs = BTreeMap::new();
-    let turns = [Kind::Turn(Way::Up), Kind::Turn(Way::Down)];
+    let turns = [Kind::Turn(Way::Up), Kind::Turn(Way::Down), Kind::Deck];
     for kind in [Kind::Plan, Kind::Page, Kind::Codec, Kind::Vectors, Kind::Panel].into_iter().chain(turns) {
         if let Some(path) = given.text(kind.name()) {
             // Programs are run from other folders too, so the path must be whole.
@@ -260,6 +270,39 @@ impl Run {
         turn_features(self.tally(Kind::Turn(way)), way, &bytes);
         let expected = turn::answer(way, &bytes[..bytes.len().min(4_096)]);
         self.file_case(Kind::Turn(way), program, case, &bytes, &expected)
+    }
+
+    fn deck_case(&mut self, program: &Path, case: u64) -> Result<(), String> {
+        // The first case is the report's own example.
+        let mut random = Random::for_case(self.seed, case);
+        let bytes = if case == 0 { example::deck() } else { decks::any_deck(&mut random) };
+        let tally = self.tally(Kind::Deck);
+        match deck::read(&bytes) {
+            Ok(deck) => {
+                tally.see("read");
+                tally.see_if("N=0", deck.segments.is_empty());
+                tally.see_if("N=64", deck.segments.len() == 64);
+                tally.see_if("cards behind", bytes.len() > 81 * (deck.segments.len() + 2));
+            }
+            Err(refusal) => tally.see(format!("refused {}", refusal.number())),
+        }
+        let expected = deck::answer(&bytes);
+        self.file_case(Kind::Deck, program, case, &bytes, expected.as_bytes())
+    }
+
+    /// The stored decks.
+    fn stored_decks(&mut self, program: &Path, path: &str) -> Result<(), String> {
+        let text = fs::read_to_string(path).map_err(|error| format!("{path}: {error}"))?;
+        for (line, bytes, expected) in deck::cases(&text)? {
+            self.tally(Kind::Deck).see("stored");
+            if call(program, Path::new("."), &bytes)? == expected.as_bytes() {
+                self.agreed(Kind::Deck);
+            } else {
+                self.tally(Kind::Deck).differed += 1;
+                println!("difference: deck, line {line} of {path}");
+            }
+        }
+        Ok(())
     }
 
     /// The stored cases of `up` and `down`, each through its program where that

@@ -16,6 +16,7 @@ const USAGE: &str = "usage:
   generate scripts --count N --seed S --out DIR   panel scripts, each in a folder with its files
   generate series  --seed S --out DIR             districts that grow in N, in S and in R
   generate example                                the report's example problem, to standard output
+  generate deck                                   the same as a deck of cards, to standard output
   generate leaders --out DIR                      the files with leaders that are stored, for the console
   generate offices --out DIR                      the files of two offices that are stored, for the console
   generate reasons --out DIR                      the districts whose reasons are stored, for the console
@@ -44,6 +45,7 @@ fn run(arguments: &[String]) -> Result<(), String> {
         "scripts" => scripts(count, seed, Path::new(given.needed("out")?)),
         "series" => series(seed, Path::new(given.needed("out")?)),
         "example" => io::stdout().write_all(&file::encode(&example::district())),
+        "deck" => io::stdout().write_all(&example::deck()),
         "walls" => named(encoded(vectors::walls()), Path::new(given.needed("out")?)),
         "reasons" => named(encoded(reasons::districts()), Path::new(given.needed("out")?)),
         "leaders" => named(leaders::files(), Path::new(given.needed("out")?)),

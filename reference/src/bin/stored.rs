@@ -6,14 +6,14 @@
 
 use reference::refusal::Refusal;
 use reference::unit::Unit;
-use reference::{calls, console, file, frames, listing, options::Given, page, rating, turn};
+use reference::{calls, console, deck, file, frames, listing, options::Given, page, rating, turn};
 use std::panic::{catch_unwind, AssertUnwindSafe};
 use std::path::Path;
 use std::process::ExitCode;
 use std::sync::atomic::{AtomicUsize, Ordering};
 use std::{fs, io};
 
-const USAGE: &str = "usage: stored --crates DIR --computed FILE --turned FILE --work DIR\n";
+const USAGE: &str = "usage: stored --crates DIR --computed FILE --turned FILE --decks FILE --work DIR\n";
 
 static PANICS: AtomicUsize = AtomicUsize::new(0);
 
@@ -41,7 +41,7 @@ fn main() -> ExitCode {
 }
 
 fn first_different(arguments: &[String]) -> Result<Option<String>, String> {
-    let given = Given::read(arguments, &["crates", "computed", "turned", "work"])?;
+    let given = Given::read(arguments, &["crates", "computed", "turned", "decks", "work"])?;
     let (crates, work) = (Path::new(given.needed("crates")?), Path::new(given.needed("work")?));
     let error = |error: io::Error| error.to_string();
     let read = |name: &str| fs::read(crates.join(name)).map_err(error);
@@ -63,6 +63,19 @@ fn first_different(arguments: &[String]) -> Result<Option<String>, String> {
         let worked = [answer(|| hex(&turn::answer(way, &file)))];
         if let Some(at) = differs(worked, &[hex(&read(&format!("{name}/stdout"))?)]) {
             return Ok(Some(format!("{name} {at}")));
+        }
+    }
+
+    let cards = read("deck/stdin")?;
+    let worked = [answer(|| deck::answer(&cards))];
+    if let Some(at) = differs(worked, &[text(&read("deck/stdout")?)]) {
+        return Ok(Some(format!("deck {at}")));
+    }
+
+    let cases = deck::cases(&fs::read_to_string(given.needed("decks")?).map_err(error)?)?;
+    for (line, cards, stored) in cases {
+        if differs([answer(|| deck::answer(&cards))], &[stored]).is_some() {
+            return Ok(Some(format!("line {line} of decks.txt")));
         }
     }
 

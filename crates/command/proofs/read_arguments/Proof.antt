@@ -11,7 +11,8 @@ use lib.ListN.{length, take, drop, set, length-set, length-drop}
 use lib.Seq.{take-suc-set, drop-drop}
 use borrow.Author.Needs.{needs}
 use Rattle.base.proofs.Buffers.{whole-tail}
-use Rattle.command.specs.Reading.{firstNumber, afterNumber, arguments, placed, readNumber, numbersOf}
+use Rattle.command.specs.Reading.{firstNumber, afterNumber, arguments, placed, numbersOf}
+use Rattle.text.specs.Numbers.{valueOf}
 use Rattle.command.proofs.Reading.{Blank, blank-all, blank-set, at-front, placed-only, prefixed, prefixed-none, arguments-more, arguments-stop, arguments-end}
 use Rattle.command.proofs.read_arguments.Statement.{statement}
 use Rattle.command.proofs.read_arguments.Tie as tie
@@ -37,7 +38,7 @@ sub-first-length c = c .before .before .before .before .before .before .loop .in
 part-first-length-start : tie.Need-part-first-length-start Inv-loop μ-loop
 part-first-length-start c = omega (arith, c .before .before .before .before .before .before .loop .inv .1)
 
-first-at : (c : tie.After-first-number Inv-loop μ-loop) → let l = c .before .before .before .loop in readNumber (c .first-number .result) ≡ firstNumber (drop (l .at) (c .before .before .before .before .before .args .line .now))
+first-at : (c : tie.After-first-number Inv-loop μ-loop) → let l = c .before .before .before .loop in valueOf (c .first-number .result) ≡ firstNumber (drop (l .at) (c .before .before .before .before .before .args .line .now))
 first-at c = c .first-number .ensures ∙ ap firstNumber (whole-tail (c .before .before .before .before .before .args .line .now) (c .before .before .before .loop .at))
 
 -- a number is still to come
@@ -58,25 +59,25 @@ add-at : tie.Need-add-at Inv-loop μ-loop
 add-at c = omega (arith, fits c, c .before .before .before .before .before .before .before .before .before .before .good)
 
 loop-again : tie.Need-loop-again Inv-loop μ-loop
-unfolding readNumber
+unfolding valueOf
 loop-again c =
     let s = c .before .before .before .before .before .before .before .before .before .before .args .line .now in
     let n = c .before .before .before .before .before .before .before .before .before .before .args .n in
     let l = c .before .before .before .before .before .before .before .before .loop in
     let v = c .before .before .before .first .given .0 .0 in
     let r = c .first-length .result in
-    let read : firstNumber (drop (l .at) s) ≡ some v = sym (first-at (c .before .before .before .before .before)) ∙ ap readNumber (c .before .before .before .first .given .1) in
+    let read : firstNumber (drop (l .at) s) ≡ some v = sym (first-at (c .before .before .before .before .before)) ∙ ap valueOf (c .before .before .before .first .given .1) in
     let rest : afterNumber (drop (l .at) s) ≡ drop (l .at + r) s = sym (rw (whole-tail s (l .at)) at (c .first-length .ensures .1)) ∙ drop-drop r (l .at) s in
     let kept : take (l .i + 1) (set (l .numbers) (l .i) v) ≡ take (l .i) (l .numbers) ++ (v ∷ []) = rw (add-one (l .i)) (take-suc-set (l .numbers) (l .i) v (omega (arith, l .inv .2))) in
     let more = left (c .before .before .before .before .before .before .before) ∙ arguments-more (n - (l .i + 1)) (drop (l .at) s) v (take (l .i) (l .numbers)) read in
     (omega arith, fits c, length-set (l .numbers) (l .i) v ∙ l .inv .2, rw (kept, sym rest) more, blank-set (l .numbers) (l .i) v (l .inv .4))
 
 returns : tie.Need-returns Inv-loop μ-loop
-unfolding readNumber numbersOf placed
+unfolding valueOf numbersOf placed
 returns c =
     let l = c .before .before .before .before .before .loop in
     let a = c .before .before .before .before .before .before .before .args in
-    let none-read = sym (first-at (c .before .before)) ∙ ap readNumber (c .enum-told .given .1) in
+    let none-read = sym (first-at (c .before .before)) ∙ ap valueOf (c .enum-told .given .1) in
     sym (ap placed (left (c .before .before .before .before) ∙ arguments-stop (a .n - (l .i + 1)) (drop (l .at) (a .line .now)) (take (l .i) (l .numbers)) none-read))
 
 returns-2 : tie.Need-returns-2 Inv-loop μ-loop

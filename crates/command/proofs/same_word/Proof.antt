@@ -1,19 +1,19 @@
 -- `command::same_word` meets its contract.
-use Rattle.command.proofs.Reading.{word-taken, word-size}
+use Rattle.base.proofs.Parts.{up-taken, up-size}
 use borrow.Author.Needs.{needs}
 use Rattle.command.proofs.same_word.Statement.{statement}
 use Rattle.command.proofs.same_word.Tie as tie
 
 slice-aggregate-same : tie.Need-slice-aggregate-same
-slice-aggregate-same c = word-size _ _ (c .before .before .word-length .ensures)
+slice-aggregate-same c = up-size 32 _ _ (c .before .before .find .ensures)
 
 slice-aggregate-same-2 : tie.Need-slice-aggregate-same-2
-slice-aggregate-same-2 c = word-size _ _ (c .before .before .word-length2 .ensures)
+slice-aggregate-same-2 c = up-size 32 _ _ (c .before .before .find2 .ensures)
 
 returns : tie.Need-returns
 returns c =
-    let a = word-taken (c .before .before .before .before .before .before .before .args .a .now) _ (c .before .before .before .before .word-length .ensures) in
-    let b = word-taken (c .before .before .before .before .before .before .before .args .b .now) _ (c .before .before .before .word-length2 .ensures) in
+    let a = up-taken 32 (c .before .before .before .before .before .before .before .args .a .now) _ (c .before .before .before .before .find .ensures) in
+    let b = up-taken 32 (c .before .before .before .before .before .before .before .args .b .now) _ (c .before .before .before .find2 .ensures) in
     rw (a, b) at (c .same .ensures)
 
 pub same-word-spec : {M : Type 1} → statement M

@@ -2,7 +2,8 @@
 use mathlib.Core.Path.{ap, _∙_}
 use native.Mathlib.Omega.{arith}
 use Rattle.command.specs.Reading.{isPath, taken, numbersOf}
-use Rattle.command.proofs.Reading.{word-fits, word-dropped, blank-all, at-front}
+use Rattle.base.proofs.Parts.{up-fits, on-dropped}
+use Rattle.command.proofs.Reading.{blank-all, at-front}
 use borrow.Author.Needs.{needs}
 use Rattle.command.proofs.take.Statement.{statement}
 use Rattle.command.proofs.take.Tie as tie
@@ -10,12 +11,12 @@ use Rattle.command.proofs.take.Tie as tie
 read-arguments-requires : tie.Need-read-arguments-requires
 read-arguments-requires c κs =
     let a = c .before .before .before .before .before in
-    (omega (arith, c .word-length .ensures, word-fits (a .args .line .now)), rw (c .before .before .takes .given .1) at (a .pre))
+    (omega (arith, c .find .ensures, up-fits 32 (a .args .line .now)), rw (c .before .before .takes .given .1) at (a .pre))
 
 returns : tie.Need-returns
 unfolding taken
 returns c =
-    let rest = word-dropped (c .before .before .before .before .before .before .args .line .now) _ (c .before .word-length .ensures) in
+    let rest = on-dropped 32 (c .before .before .before .before .before .before .args .line .now) _ (c .before .find .ensures) in
     rw (c .before .before .before .takes .given .1) (rw rest at (c .read-arguments .ensures))
 
 returns-2 : tie.Need-returns-2

@@ -1,6 +1,6 @@
 -- `listing::put_segment_lines` meets its contract: what is written and what is to come is the whole.
-use Prim.Native.Nat.{ℕ, suc, _+_, _-_, _≤_, _<_}
-use mathlib.Core.List.{List, _++_}
+use Prim.Native.Nat.{_+_, _-_, _≤_}
+use mathlib.Core.List.{_++_}
 use mathlib.Core.Path.{_≡_}
 use native.Mathlib.Nat.{sub-zero}
 use native.Mathlib.Omega.{arith}
@@ -9,7 +9,8 @@ use borrow.Author.Needs.{needs}
 use borrow.Rule.Slice.PartMut.{putMid}
 use Rattle.base.proofs.Buffers.{Written, written-none}
 use Rattle.base.proofs.Text.{put-all, put-more, tail-fits}
-use Rattle.listing.specs.Listing.{segmentLine, segmentLines}
+use Rattle.listing.specs.Listing.{linesFrom, segmentLine, strategyLine, segmentLines}
+use Rattle.listing.proofs.Lines.{lines-next}
 use Rattle.listing.proofs.put_segment_lines.Statement.{statement}
 use Rattle.listing.proofs.put_segment_lines.Tie as tie
 
@@ -20,18 +21,12 @@ abbrev μ-loop : tie.MeasureT-loop
 μ-loop out₀ n strategies at₀ i₀ out at i = n - i
 
 -- a line is to come
-lines-next : (n i : ℕ) (s : List ℕ) → i < n → segmentLines (n - i) (i + 1) s ≡ segmentLine (i + 1) (getD s i 0) ++ segmentLines (n - (i + 1)) (i + 1 + 1) s
-unfolding segmentLines
-lines-next n i s h =
-    let more : n - i ≡ suc (n - (i + 1)) = omega arith in
-    let place : i + 1 - 1 ≡ i = omega arith in
-    rw (more, place)
-
 next : (c : tie.In-loop Inv-loop μ-loop) → let l = c .before .loop in let a = c .before .before .before .args in Written (a .out .now) (segmentLines (a .n) 1 (a .t2)) (segmentLine (l .i + 1) (getD (a .t2) (l .i) 0) ++ segmentLines (a .n - (l .i + 1)) (l .i + 1 + 1) (a .t2)) (l .at) (l .out)
 next c =
     let l = c .before .loop in
     let a = c .before .before .before .args in
-    rw (lines-next (a .n) (l .i) (a .t2) (omega arith)) at (l .inv .1)
+    let place : l .i + 1 - 1 ≡ l .i = omega arith in
+    rw (lines-next (a .n) (l .i) (strategyLine (a .t2)) (omega arith), place) at (l .inv .1)
 
 loop-holds : tie.Need-loop-holds Inv-loop μ-loop
 loop-holds c = (omega arith, rw sub-zero (written-none _ _))
@@ -66,7 +61,7 @@ same-length : tie.Need-same-length Inv-loop μ-loop
 same-length c = c .before .loop .inv .1 .same
 
 returns : tie.Need-returns Inv-loop μ-loop
-unfolding segmentLines
+unfolding linesFrom
 returns c =
     let l = c .before .loop in
     let a = c .before .before .before .args in
