@@ -19,7 +19,7 @@ use Rattle.grammar.proofs.InRanges.{in-ranges}
 use Rattle.rating.proofs.Entries.{candidate-benefit-le}
 use Rattle.theorems.specs.Columns.{EveryPage}
 use Rattle.theorems.proofs.Columns.{Narrow, on-page}
-use Rattle.demands.proofs.Lists.{district-after, after-in, programme-after}
+use Rattle.demands.proofs.Lists.{district-after, after-in, begun-after, begins-after, programme-after}
 
 narrow : (d : District) → Ranges d → Narrow d
 narrow d ok =
@@ -44,6 +44,6 @@ every-page cs =
     let d = districtAfter cs in
     let ok = after-in cs in
     record {
-      shown = rw (programme-after cs) (on-page d (narrow d (in-ranges d ok)));
+      shown = rw (programme-after cs) (on-page d (narrow d (in-ranges d ok)) (begun-after cs) (begins-after cs));
       written = λ buffer room. rw (district-after cs) (page-written d (unitAfter cs .programme) ok buffer room);
     }

@@ -5,15 +5,18 @@ use mathlib.Core.List.{List, [], _∷_}
 use mathlib.Core.Path.{_≡_, refl, ap, _∙_}
 use mathlib.Core.Bool.{true}
 use native.Mathlib.Omega.{arith}
+use Rattle.base.specs.Search.{Run}
 use Rattle.rules.specs.District.{District, mostSegments, segmentsOf, leaderOf, freshDistrict}
 use Rattle.rules.specs.File.{inRange}
 use Rattle.rules.specs.Table.{tableOf}
-use Rattle.rules.specs.Plan.{programmeOf, planOf}
+use Rattle.rules.specs.Plan.{reduced, programmeFrom, programmeOf, planOf}
 use Rattle.rules.specs.Answers.{accepting}
 use Rattle.rules.specs.Calls.{unitOf, freshUnit, answered, loadOf, alterOf, showOf}
 use Rattle.rules.specs.Lists.{Call, Load, Alter, ExportTo, PageTo, Show, AskWhy, refusalOf, altered, districtFrom, districtAfter, outcomeOf, unitFrom, unitAfter}
 use Rattle.rules.specs.declared.Unit.{Unit}
 use Rattle.laws.specs.Tables.{LowerLeaders}
+use Rattle.theorems.proofs.Programmes.{Begins}
+use Rattle.theorems.proofs.Promises.{ordinary}
 use Rattle.grammar.proofs.InRanges.{in-ranges}
 use Rattle.grammar.proofs.Edits.{edit-kept}
 use Rattle.grammar.proofs.Fresh.{fresh-in-range}
@@ -95,6 +98,14 @@ lower-after cs i l h = in-ranges (districtAfter cs) (after-in cs) .leader i l (o
 
 -- ---- so it has a programme
 
-pub programme-after : (cs : List Call) → showOf (unitAfter cs) ≡ programmeOf (tableOf (districtAfter cs)) (leaderOf (districtAfter cs))
-unfolding showOf unitOf planOf
+-- how phase 1 went,
+abbrev pub begun-after : List Call → Run (List ℕ)
+begun-after cs = reduced (tableOf (districtAfter cs)) (leaderOf (districtAfter cs))
+
+-- from which phases 2 and 3 go on
+pub begins-after : (cs : List Call) → Begins (tableOf (districtAfter cs)) (leaderOf (districtAfter cs)) (begun-after cs)
+begins-after cs = ordinary (districtAfter cs) (few-after cs)
+
+pub programme-after : (cs : List Call) → showOf (unitAfter cs) ≡ programmeFrom (tableOf (districtAfter cs)) (leaderOf (districtAfter cs)) (begun-after cs)
+unfolding showOf unitOf planOf programmeOf
 programme-after cs = ap (λ (u : Unit). u .programme) (after cs) ∙ rw (after-in cs)

@@ -2,11 +2,11 @@
 use Rattle.rules.specs.Lists.{districtAfter}
 use Rattle.rules.specs.Demands.{OneClaim}
 use Rattle.theorems.proofs.Promises as promises
-use Rattle.demands.proofs.Lists.{few-after, lower-after, programme-after}
+use Rattle.demands.proofs.Lists.{few-after, lower-after, begun-after, begins-after, programme-after}
 
 pub one-claim : OneClaim
 one-claim cs =
     record {
-      sound = rw (programme-after cs) (promises.sound (districtAfter cs) (few-after cs) (lower-after cs));
-      shown = rw (programme-after cs) (promises.shown (districtAfter cs) (few-after cs));
+      sound = rw (programme-after cs) (promises.sound (districtAfter cs) (few-after cs) (begun-after cs) (begins-after cs) (lower-after cs));
+      shown = rw (programme-after cs) (promises.shown (districtAfter cs) (few-after cs) (begun-after cs) (begins-after cs));
     }

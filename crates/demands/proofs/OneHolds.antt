@@ -20,7 +20,7 @@ use Rattle.theorems.proofs.Reasons.{explained-some}
 use Rattle.theorems.proofs.LastReason.{last-explained}
 use Rattle.grammar.proofs.Edits.{bar-numbers}
 use Rattle.demands.proofs.EveryReason.{why-accepted}
-use Rattle.demands.proofs.Lists.{after-in, few-after, lower-after, district-after, programme-after}
+use Rattle.demands.proofs.Lists.{after-in, few-after, lower-after, district-after, begun-after, begins-after, programme-after}
 use Rattle.demands.proofs.OneClaim.{one-claim}
 
 module _
@@ -41,7 +41,7 @@ unfolding showOf
 one-holds cs i j e =
     let claim = one-claim cs in
     let few = few-after cs in
-    let worth : leadersWorth (districtAfter cs) (strategyIn (showOf (unitAfter cs))) ≡ true = rw (programme-after cs) (promises.worth (districtAfter cs) few (lower-after cs)) in
+    let worth : leadersWorth (districtAfter cs) (strategyIn (showOf (unitAfter cs))) ≡ true = rw (programme-after cs) (promises.worth (districtAfter cs) few (begun-after cs) (begins-after cs) (lower-after cs)) in
     let places : length (showOf (unitAfter cs) .strategies) ≡ mostSegments = claim .shown .places in
     let room : segmentsOf (districtAfter cs) ≤ length (showOf (unitAfter cs) .strategies) = omega arith in
     record {

@@ -10,7 +10,7 @@ use Rattle.rules.specs.Table.{Table, tableOf}
 use Rattle.rules.specs.Ceiling.{downShare, ceiling}
 use Rattle.rules.specs.Phases.{total, start, phase1, phase2, phase3}
 use Rattle.rules.specs.File.{inRange}
-use Rattle.rules.specs.Plan.{reduced, filled as filled-by, improved, programmeOf, noProgramme, planOf}
+use Rattle.rules.specs.Plan.{reduced, filled as filled-by, improved, programmeFrom, programmeOf, noProgramme, planOf}
 use Rattle.rules.specs.declared.Programme.{Programme}
 use Rattle.grammar.proofs.InRanges.{in-ranges}
 use Rattle.theorems.proofs.Promises.{few-steps}
@@ -69,13 +69,25 @@ module _ {d : District} (ranges : Ranges d) {z : Size} {ls b u l s e : List ℕ}
 
 -- ---- the phases' results, put together
 
-pub together : (t : Table) (leader : ℕ → ℕ) (c₀ c₁ c₂ c₃ : List ℕ) (m₁ m₂ m₃ v₂ v₃ x : ℕ) → c₀ ≡ start t leader
-    → c₁ ≡ phase1 t leader c₀ .last → m₁ ≡ phase1 t leader c₀ .count
+pub together : (t : Table) (leader : ℕ → ℕ) (c₁ c₂ c₃ : List ℕ) (m₁ m₂ m₃ v₂ v₃ x : ℕ)
     → c₂ ≡ phase2 t leader c₁ .last → m₂ ≡ phase2 t leader c₁ .count → v₂ ≡ total t c₂
     → c₃ ≡ phase3 t leader c₂ .last → m₃ ≡ phase3 t leader c₂ .count → v₃ ≡ total t c₃ → x ≡ ceiling t
-    → record { strategies = c₃; total = v₃; «after_pickups» = v₂; ceiling = x; steps = m₁; pickups = m₂; changes = m₃ } ≡ programmeOf t leader
-unfolding programmeOf improved filled-by reduced
-together t leader c₀ c₁ c₂ c₃ m₁ m₂ m₃ v₂ v₃ x e₀ e₁ f₁ e₂ f₂ g₂ e₃ f₃ g₃ h = rw (h, g₃, e₃, f₃, g₂, e₂, f₂, e₁, f₁, e₀)
+    → record { strategies = c₃; total = v₃; «after_pickups» = v₂; ceiling = x; steps = m₁; pickups = m₂; changes = m₃ }
+    ≡ programmeFrom t leader (record { last = c₁; count = m₁ })
+unfolding programmeFrom improved filled-by
+together t leader c₁ c₂ c₃ m₁ m₂ m₃ v₂ v₃ x e₂ f₂ g₂ e₃ f₃ g₃ h = rw (h, g₃, e₃, f₃, g₂, e₂, f₂)
+
+-- phase 1 from its start
+pub reduced-from : (t : Table) (leader : ℕ → ℕ) {c₀ c₁ : List ℕ} {m : ℕ} → c₀ ≡ start t leader → c₁ ≡ phase1 t leader c₀ .last → m ≡ phase1 t leader c₀ .count
+    → (c₁ ≡ reduced t leader .last) × (m ≡ reduced t leader .count)
+unfolding reduced
+reduced-from t leader e f g = (rw e at f, rw e at g)
+
+-- from where phase 1 ended, the whole programme
+pub from-reduced : (t : Table) (leader : ℕ → ℕ) {c : List ℕ} {m : ℕ} {p : Programme} → c ≡ reduced t leader .last → m ≡ reduced t leader .count
+    → p ≡ programmeFrom t leader (record { last = c; count = m }) → p ≡ programmeOf t leader
+unfolding programmeOf
+from-reduced t leader e f g = rw (e, f) at g
 
 -- the start is a programme of candidates
 pub start-held : (t : Table) (leader : ℕ → ℕ) → FitAlone t → {c : List ℕ} → c ≡ start t leader → OfCandidates t c

@@ -5,11 +5,12 @@ ghost use Prim.Native.Nat.{_≤_};
 ghost use Rattle.phase1.specs.Reduce.{Shares};
 ghost use Rattle.laws.specs.Tables.{FitAlone};
 ghost use Rattle.rules.specs.Ceiling.{ceiling};
-ghost use Rattle.rules.specs.District.{leaderOf};
+ghost use Rattle.rules.specs.District.{mostSegments, mostResources, leaderOf};
+ghost use lib.ListN.{length};
 ghost use Rattle.rules.specs.File.{inRange};
-ghost use Rattle.rules.specs.Plan.{programmeOf, noProgramme, planOf};
+ghost use Rattle.rules.specs.Plan.{reduced, programmeFrom, programmeOf, noProgramme, planOf};
 ghost use Rattle.rules.specs.Table.{Table, tableOf};
-ghost use Rattle.tables.specs.Arrays.{tables, leaderIn, Leaders, Tabled};
+ghost use Rattle.tables.specs.Arrays.{tables, leaderIn, Leaders, Benefits, Limits, Running, Tabled};
 use rules::District;
 use rules::Programme;
 use rules::places::MOST_RESOURCES;
@@ -17,6 +18,64 @@ use rules::places::MOST_SEGMENTS;
 use tables::ENTRIES;
 use tables::Size;
 use tables::USE_ENTRIES;
+
+// Phase 1 over arrays that hold a table. Returns how many steps it made.
+fn begin(
+    z: Size,
+    leaders: &[usize],
+    benefits: &[u64],
+    uses: &[u64],
+    limits: &[u64],
+    shares: &[u64],
+    choice: &mut [usize],
+    sums: &mut [u64],
+) -> u64
+    ghost { Table }
+    requires { λ t. ⌜ tables z (now benefits) (now uses) (now limits) ≡ t ⌝ }
+    requires { λ t. ⌜ Tabled z (now benefits) (now uses) (now limits) × FitAlone t × Shares z (now benefits) (now uses) (now limits) (now shares) × Leaders (now leaders) ⌝ }
+    requires { λ _. ⌜ (length (now choice) ≡ mostSegments) × (length (now sums) ≡ mostResources) ⌝ }
+    ensures { λ _ _. ⌜ Running z (now (uses .entry)) (now (choice .exit)) (now (sums .exit)) ⌝ }
+    ensures { λ t _. ⌜ now (choice .exit) ≡ reduced t (leaderIn (now (leaders .entry))) .last ⌝ }
+    ensures { λ t m. ⌜ m ≡ reduced t (leaderIn (now (leaders .entry))) .count ⌝ }
+{
+    phase1::start(z, leaders, benefits, uses, choice, sums);
+    phase1::reduce(z, leaders, benefits, uses, limits, shares, choice, sums)
+}
+
+// Phases 2 and 3 from where phase 1 ended, `begun` after so many steps, with the table's ceiling beside them.
+fn finish(
+    z: Size,
+    leaders: &[usize],
+    benefits: &[u64],
+    uses: &[u64],
+    limits: &[u64],
+    begun: [usize; MOST_SEGMENTS],
+    used: [u64; MOST_RESOURCES],
+    steps: u64,
+    bound: u64,
+) -> Programme
+    ghost { Table }
+    requires { λ t. ⌜ tables z (now benefits) (now uses) (now limits) ≡ t ⌝ }
+    requires { λ _. ⌜ Benefits (now benefits) × Limits (now limits) × Running z (now uses) begun used × Leaders (now leaders) ⌝ }
+    requires { λ t. ⌜ bound ≡ ceiling t ⌝ }
+    ensures { λ t r. ⌜ r ≡ programmeFrom t (leaderIn (now (leaders .entry))) (record { last = begun; count = steps }) ⌝ }
+{
+    let mut choice = begun;
+    let mut sums = used;
+    let pickups = phase2::pick_up(z, leaders, benefits, uses, limits, &mut choice, &mut sums);
+    let after_pickups = tables::total_of(z, benefits, &choice);
+    let changes = phase3::improve(z, leaders, benefits, uses, limits, &mut choice, &mut sums);
+    let total = tables::total_of(z, benefits, &choice);
+    Programme {
+        strategies: choice,
+        total,
+        after_pickups,
+        ceiling: bound,
+        steps,
+        pickups,
+        changes,
+    }
+}
 
 // The three phases over arrays that hold a table, with the table's ceiling beside them.
 fn phases(
@@ -36,8 +95,7 @@ fn phases(
 {
     let mut choice = [0usize; MOST_SEGMENTS];
     let mut sums = [0u64; MOST_RESOURCES];
-    phase1::start(z, leaders, benefits, uses, &mut choice, &mut sums);
-    let steps = phase1::reduce(
+    let steps = begin(
         z,
         leaders,
         benefits,
@@ -47,19 +105,17 @@ fn phases(
         &mut choice,
         &mut sums,
     );
-    let pickups = phase2::pick_up(z, leaders, benefits, uses, limits, &mut choice, &mut sums);
-    let after_pickups = tables::total_of(z, benefits, &choice);
-    let changes = phase3::improve(z, leaders, benefits, uses, limits, &mut choice, &mut sums);
-    let total = tables::total_of(z, benefits, &choice);
-    Programme {
-        strategies: choice,
-        total,
-        after_pickups,
-        ceiling: bound,
+    finish(
+        z,
+        leaders,
+        benefits,
+        uses,
+        limits,
+        choice,
+        sums,
         steps,
-        pickups,
-        changes,
-    }
+        bound,
+    )
 }
 
 // The programme of a district in the file's ranges.

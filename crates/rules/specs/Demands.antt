@@ -10,6 +10,7 @@ use lib.Signed.{ltZ, _≤ℤ_}
 use lib.ListN.{length, drop}
 use Rattle.base.specs.Bytes.{Bytes}
 use Rattle.base.specs.Over.{all}
+use Rattle.base.specs.Search.{Run}
 use Rattle.rules.specs.District.{District, mostSegments, segmentsOf, strategiesOf, leaderOf}
 use Rattle.rules.specs.Format.{plainForm, leaderForm}
 use Rattle.rules.specs.File.{formIn, leaderless, encodeAs, encode}
@@ -65,11 +66,11 @@ EveryPoints = (code degree extent seal : ℕ) → PointsSettled code degree exte
 
 -- ---- Demand 2, the rules exactly
 
--- phase 1 ends when every limit holds, and phases 2 and 3 when there is nothing more to do: none because its bound is used up
-pub record Finished (t : Table) (leader : ℕ → ℕ) : Type 0 where
-  pub steps : within t (reduced t leader .last) ≡ true
-  pub pickups : pickUp t leader (filled t leader .last) ≡ none
-  pub changes : change t leader (improved t leader .last) ≡ none
+-- phase 1, r, ends when every limit holds, and phases 2 and 3 when there is nothing more to do: none because its bound is used up
+pub record Finished (t : Table) (leader : ℕ → ℕ) (r : Run (List ℕ)) : Type 0 where
+  pub steps : within t (r .last) ≡ true
+  pub pickups : pickUp t leader (filled t leader r .last) ≡ none
+  pub changes : change t leader (improved t leader r .last) ≡ none
 
 -- an accepted export of a file
 abbrev pub fileIn : List ℕ → List ℕ → Export
@@ -79,7 +80,8 @@ fileIn file buffer = record { answer = Accepted (length file); buffer = file ++ 
 pub record ByTheRules (cs : List Call) : Type 0 where
   pub district : unitAfter cs .district ≡ districtAfter cs
   pub programme : showOf (unitAfter cs) ≡ programmeOf (tableOf (districtAfter cs)) (leaderOf (districtAfter cs))
-  pub finished : Finished (tableOf (districtAfter cs)) (leaderOf (districtAfter cs))
+  pub finished :
+      Finished (tableOf (districtAfter cs)) (leaderOf (districtAfter cs)) (reduced (tableOf (districtAfter cs)) (leaderOf (districtAfter cs)))
   -- its export, into any buffer with room, is the district's file,
   pub exported :
       (buffer : List ℕ) → length (encode (districtAfter cs)) ≤ length buffer

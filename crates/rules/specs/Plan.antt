@@ -11,28 +11,32 @@ use Rattle.rules.specs.Phases.{total, start, phase1, phase2, phase3}
 use Rattle.rules.specs.Ceiling.{ceiling}
 use Rattle.rules.specs.declared.Programme.{Programme}
 
--- each phase goes on from where the one before ended
 module _ (t : Table) (leader : ℕ → ℕ) where
   unfoldable pub reduced : Run (List ℕ)
   reduced = phase1 t leader (start t leader)
 
-  unfoldable pub filled : Run (List ℕ)
-  filled = phase2 t leader (reduced .last)
+  -- phases 2 and 3 each go on from where the one before ended; r is how phase 1 went
+  module _ (r : Run (List ℕ)) where
+    unfoldable pub filled : Run (List ℕ)
+    filled = phase2 t leader (r .last)
 
-  unfoldable pub improved : Run (List ℕ)
-  improved = phase3 t leader (filled .last)
+    unfoldable pub improved : Run (List ℕ)
+    improved = phase3 t leader (filled .last)
+
+    unfoldable pub programmeFrom : Programme
+    programmeFrom =
+        record {
+          strategies = improved .last;
+          total = total t (improved .last);
+          «after_pickups» = total t (filled .last);
+          ceiling = ceiling t;
+          steps = r .count;
+          pickups = filled .count;
+          changes = improved .count;
+        }
 
   unfoldable pub programmeOf : Programme
-  programmeOf =
-      record {
-        strategies = improved .last;
-        total = total t (improved .last);
-        «after_pickups» = total t (filled .last);
-        ceiling = ceiling t;
-        steps = reduced .count;
-        pickups = filled .count;
-        changes = improved .count;
-      }
+  programmeOf = programmeFrom reduced
 
 unfoldable pub noProgramme : Programme
 noProgramme =

@@ -143,7 +143,7 @@ unfolding
     Phases.pairsOf Phases.pairsFrom Phases.firstPair Phases.change Phases.phase3
     Ceiling.downShare Ceiling.costBy Ceiling.cost Ceiling.net Ceiling.margin Ceiling.ceilingAt Ceiling.priced Ceiling.pricedAll
     Ceiling.pricesAfter Ceiling.ceiling
-    Plan.reduced Plan.filled Plan.improved Plan.programmeOf Plan.noProgramme Plan.planOf
+    Plan.reduced Plan.filled Plan.improved Plan.programmeFrom Plan.programmeOf Plan.noProgramme Plan.planOf
     Page.rightAligned Page.line Page.miles Page.byResource Page.heading Page.segmentRow Page.totalRow Page.limitsRow Page.rows Page.lines
     Page.page Page.pageLength
     Reasons.holds Reasons.hindrance Reasons.reasonFor

@@ -21,12 +21,15 @@ use Rattle.rules.specs.File.{inRange}
 use Rattle.rules.specs.Table.{Table, candidateBenefit, tableOf}
 use Rattle.rules.specs.Phases.{isCandidate, chosenBenefit, total, pruned, topCandidate, bests, start, step, phase1, pickUp, phase2, change, phase3}
 use Rattle.rules.specs.Ceiling.{priceAt, raised, lowered, margin, ceilingAt, lowers, priced, pricedAll, pricesAfter, ceiling}
-use Rattle.rules.specs.Plan.{reduced, filled, improved, programmeOf, noProgramme, planOf}
+use Rattle.rules.specs.Plan.{reduced, filled, improved, programmeFrom, programmeOf, noProgramme, planOf}
 use Rattle.rules.specs.declared.Programme.{Programme}
 use Rattle.stations.proofs.Calls.{no-segments}
 
 abbrev nothing : List ℕ
 nothing = replicate mostSegments 0
+
+abbrev none-made : Run (List ℕ)
+none-made = record { last = nothing; count = 0 }
 
 abbrev free : List ℕ
 free = replicate mostResources 0
@@ -56,21 +59,21 @@ module _ (t : Table) (leader : ℕ → ℕ) (empty : t .segments ≡ 0) (none : 
   start-none = ap (λ (n : ℕ). pruned leader n (bests t)) empty ∙ bests-none
 
   -- each phase stops at once
-  stops : (next : List ℕ → Option (List ℕ)) (bound : ℕ) (c : List ℕ) → bound ≡ 0 → c ≡ nothing → run next bound c ≡ record { last = nothing; count = 0 }
+  stops : (next : List ℕ → Option (List ℕ)) (bound : ℕ) (c : List ℕ) → bound ≡ 0 → c ≡ nothing → run next bound c ≡ none-made
   unfolding run
   stops next bound c e f = rw (e, f)
 
-  reduced-none : reduced t leader ≡ record { last = nothing; count = 0 }
+  reduced-none : reduced t leader ≡ none-made
   unfolding reduced phase1
   reduced-none = stops (step t leader) (t .segments * t .strategies) (start t leader) (ap (λ (n : ℕ). n * t .strategies) empty ∙ zero-mul (t .strategies)) start-none
 
-  filled-none : filled t leader ≡ record { last = nothing; count = 0 }
+  filled-none : filled t leader none-made ≡ none-made
   unfolding filled phase2
-  filled-none = stops (pickUp t leader) (t .segments) (reduced t leader .last) empty (ap (λ (r : Run (List ℕ)). r .last) reduced-none)
+  filled-none = stops (pickUp t leader) (t .segments) nothing empty refl
 
-  improved-none : improved t leader ≡ record { last = nothing; count = 0 }
+  improved-none : improved t leader none-made ≡ none-made
   unfolding improved phase3
-  improved-none = stops (change t leader) (total t (bests t)) (filled t leader .last) (total-none (bests t)) (ap (λ (r : Run (List ℕ)). r .last) filled-none)
+  improved-none = stops (change t leader) (total t (bests t)) (filled t leader none-made .last) (total-none (bests t)) (ap (λ (r : Run (List ℕ)). r .last) filled-none)
 
   -- ---- at prices of 0 the ceiling is 0, and none is lower
 
@@ -103,8 +106,8 @@ module _ (t : Table) (leader : ℕ → ℕ) (empty : t .segments ≡ 0) (none : 
   ceiling-none = ap (ceilingAt t) (stay-free 41) ∙ at-free
 
   programme-none : programmeOf t leader ≡ noProgramme
-  unfolding programmeOf noProgramme
-  programme-none = rw (total-none (improved t leader .last), total-none (filled t leader .last), ceiling-none, reduced-none, filled-none, improved-none)
+  unfolding programmeOf programmeFrom noProgramme
+  programme-none = rw (reduced-none, total-none (improved t leader none-made .last), total-none (filled t leader none-made .last), ceiling-none, filled-none, improved-none)
 
 -- ---- a district without segments
 

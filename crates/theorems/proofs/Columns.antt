@@ -11,6 +11,7 @@ use lib.IntN.{pos}
 use lib.ListN.{length, getD, length-append}
 use Rattle.base.specs.Choice.{pick}
 use Rattle.base.specs.Over.{sum, listed, listedFrom}
+use Rattle.base.specs.Search.{Run}
 use Rattle.base.specs.Text.{text, decimal}
 use Rattle.base.proofs.All.{all-at}
 use Rattle.base.proofs.Choice.{and-both}
@@ -21,7 +22,7 @@ use Rattle.rules.specs.District.{District, mostSegments, mostStrategies, segmen
 use Rattle.rules.specs.Rating.{benefit, usage, scaledLimit, usageBy}
 use Rattle.rules.specs.Table.{candidateBenefit, tableOf}
 use Rattle.rules.specs.Phases.{strategyAt, chosenBenefit, total, chosenUsage, used, holds, within}
-use Rattle.rules.specs.Plan.{improved, programmeOf}
+use Rattle.rules.specs.Plan.{improved, programmeFrom}
 use Rattle.rules.specs.Page.{widths, miles, wholeUnits, byResource, heading, segmentRow, totalRow, limitsRow, rows}
 use Rattle.rules.specs.Demands.{strategyIn}
 use Rattle.rules.specs.declared.Programme.{Programme}
@@ -32,54 +33,55 @@ use Rattle.theorems.specs.Columns.{Character, Figures, OnPage}
 use Rattle.theorems.proofs.Lines.{Plain, blank, lines-of}
 use Rattle.theorems.proofs.Entries.{usage-is, limit-is, table-fit}
 use Rattle.theorems.proofs.Totals.{Numbers, uses-are, benefit-is}
+use Rattle.theorems.proofs.Programmes.{Begins}
 use Rattle.theorems.proofs.Programmes as programmes
 
 -- ---- figures
 
-module _ (d : District) (few : segmentsOf d ≤ mostSegments) where
-  candidates : OfCandidates (tableOf d) (improved (tableOf d) (leaderOf d) .last)
-  candidates = programmes.improved-candidates (tableOf d) (leaderOf d) (table-fit d few)
+module _ (d : District) (few : segmentsOf d ≤ mostSegments) (begun : Run (List ℕ)) (begins : Begins (tableOf d) (leaderOf d) begun) where
+  candidates : OfCandidates (tableOf d) (improved (tableOf d) (leaderOf d) begun .last)
+  candidates = programmes.improved-candidates (tableOf d) (leaderOf d) (table-fit d few) begun begins
 
-  strategies-are : Numbers d (strategyIn (programmeOf (tableOf d) (leaderOf d)))
-  unfolding programmeOf tableOf
-  strategies-are = candidates-numbers (tableOf d) (improved (tableOf d) (leaderOf d) .last) candidates
+  strategies-are : Numbers d (strategyIn (programmeFrom (tableOf d) (leaderOf d) begun))
+  unfolding programmeFrom tableOf
+  strategies-are = candidates-numbers (tableOf d) (improved (tableOf d) (leaderOf d) begun .last) candidates
 
   benefits-are :
       (i : ℕ) → 1 ≤ i → i ≤ segmentsOf d
-      → pos (chosenBenefit (tableOf d) (programmeOf (tableOf d) (leaderOf d) .strategies) i) ≡ benefit d i (strategyIn (programmeOf (tableOf d) (leaderOf d)) i)
-  unfolding programmeOf chosenBenefit tableOf
+      → pos (chosenBenefit (tableOf d) (programmeFrom (tableOf d) (leaderOf d) begun .strategies) i) ≡ benefit d i (strategyIn (programmeFrom (tableOf d) (leaderOf d) begun) i)
+  unfolding programmeFrom chosenBenefit tableOf
   benefits-are i l h =
-      let c = strategyAt (improved (tableOf d) (leaderOf d) .last) in
+      let c = strategyAt (improved (tableOf d) (leaderOf d) begun .last) in
       sym (benefit-is d c (candidates .each) i (c i) l h (candidates .each i l h))
 
   use-is :
       (i r : ℕ) → 1 ≤ i → i ≤ segmentsOf d → 1 ≤ r → r ≤ resourcesOf d
-      → chosenUsage (tableOf d) (programmeOf (tableOf d) (leaderOf d) .strategies) r i ≡ usage d i (strategyIn (programmeOf (tableOf d) (leaderOf d)) i) r
+      → chosenUsage (tableOf d) (programmeFrom (tableOf d) (leaderOf d) begun .strategies) r i ≡ usage d i (strategyIn (programmeFrom (tableOf d) (leaderOf d) begun) i) r
   unfolding chosenUsage
-  use-is i r l h lr hr = usage-is d i (strategyIn (programmeOf (tableOf d) (leaderOf d)) i) r l h (strategies-are i l h) lr hr
+  use-is i r l h lr hr = usage-is d i (strategyIn (programmeFrom (tableOf d) (leaderOf d) begun) i) r l h (strategies-are i l h) lr hr
 
   sum-is :
       (r : ℕ) → 1 ≤ r → r ≤ resourcesOf d
-      → used (tableOf d) (programmeOf (tableOf d) (leaderOf d) .strategies) r ≡ sum (segmentsOf d) (usageBy d (strategyIn (programmeOf (tableOf d) (leaderOf d))) r)
+      → used (tableOf d) (programmeFrom (tableOf d) (leaderOf d) begun .strategies) r ≡ sum (segmentsOf d) (usageBy d (strategyIn (programmeFrom (tableOf d) (leaderOf d) begun)) r)
   unfolding used chosenUsage tableOf
-  sum-is r lr hr = sym (uses-are d (strategyIn (programmeOf (tableOf d) (leaderOf d))) strategies-are r lr hr)
+  sum-is r lr hr = sym (uses-are d (strategyIn (programmeFrom (tableOf d) (leaderOf d) begun)) strategies-are r lr hr)
 
   -- a sum is within its limit, and so is each use of it
-  sum-within : (r : ℕ) → 1 ≤ r → r ≤ resourcesOf d → used (tableOf d) (programmeOf (tableOf d) (leaderOf d) .strategies) r ≤ scaledLimit d r
-  unfolding programmeOf within holds tableOf
+  sum-within : (r : ℕ) → 1 ≤ r → r ≤ resourcesOf d → used (tableOf d) (programmeFrom (tableOf d) (leaderOf d) begun .strategies) r ≤ scaledLimit d r
+  unfolding programmeFrom within holds tableOf
   sum-within r lr hr =
       let t = tableOf d in
-      let c = improved t (leaderOf d) .last in
-      rw (limit-is d r lr hr) at (leb-true (used t c r) (t .limit r) (all-at (resourcesOf d) (holds t c) (programmes.improved-within t (leaderOf d) (table-fit d few)) r lr hr))
+      let c = improved t (leaderOf d) begun .last in
+      rw (limit-is d r lr hr) at (leb-true (used t c r) (t .limit r) (all-at (resourcesOf d) (holds t c) (programmes.improved-within t (leaderOf d) (table-fit d few) begun begins) r lr hr))
 
   use-within :
       (i r : ℕ) → 1 ≤ i → i ≤ segmentsOf d → 1 ≤ r → r ≤ resourcesOf d
-      → chosenUsage (tableOf d) (programmeOf (tableOf d) (leaderOf d) .strategies) r i ≤ scaledLimit d r
+      → chosenUsage (tableOf d) (programmeFrom (tableOf d) (leaderOf d) begun .strategies) r i ≤ scaledLimit d r
   unfolding used tableOf
   use-within i r l h lr hr =
-      omega (arith, sum-within r lr hr, sum-part (segmentsOf d) (chosenUsage (tableOf d) (programmeOf (tableOf d) (leaderOf d) .strategies) r) i l h)
+      omega (arith, sum-within r lr hr, sum-part (segmentsOf d) (chosenUsage (tableOf d) (programmeFrom (tableOf d) (leaderOf d) begun .strategies) r) i l h)
 
-  figures : Figures d (programmeOf (tableOf d) (leaderOf d))
+  figures : Figures d (programmeFrom (tableOf d) (leaderOf d) begun)
   figures = record { benefits = benefits-are; uses = use-is; sums = sum-is }
 
 -- ---- a text that has room in w characters
@@ -192,9 +194,9 @@ pub record Narrow (d : District) : Type 0 where
   pub limits : (r : ℕ) → 1 ≤ r → r ≤ resourcesOf d → limitOf d r ≤ 999_999_999
   pub benefits : (i j : ℕ) → candidateBenefit d i j ≤ 899_910_000_000
 
-module _ (d : District) (ok : Narrow d) where
+module _ (d : District) (ok : Narrow d) (begun : Run (List ℕ)) (begins : Begins (tableOf d) (leaderOf d) begun) where
   abbrev programme : Programme
-  programme = programmeOf (tableOf d) (leaderOf d)
+  programme = programmeFrom (tableOf d) (leaderOf d) begun
 
   -- a use within the limit, rounded up to whole units
   rounded-le : (x r : ℕ) → 1 ≤ r → r ≤ resourcesOf d → x ≤ scaledLimit d r → wholeUnits x ≤ 999_999_999
@@ -206,20 +208,20 @@ module _ (d : District) (ok : Narrow d) where
   segment-fits i l h =
       let few = ok .segments in
       let n = ok .strategies in
-      let j = strategies-are d few i l h in
+      let j = strategies-are d few begun begins i l h in
       let c = programme .strategies in
       fits-cons (number (omega arith) (omega arith))
       (fits-cons (mile-cell (lengthOf d i) (ok .lengths i l (omega arith)))
       (fits-cons (number (omega arith) (omega (arith, ok .widths i l (omega arith))))
       (fits-cons (number (omega arith) (omega arith))
       (fits-cons (number (omega arith) (omega (arith, ok .benefits i (strategyAt c i))))
-      (resources-fit d (λ r. wholeUnits (chosenUsage (tableOf d) c r i)) (λ r lr hr. rounded-le (chosenUsage (tableOf d) c r i) r lr hr (use-within d few i r l h lr hr)))))))
+      (resources-fit d (λ r. wholeUnits (chosenUsage (tableOf d) c r i)) (λ r lr hr. rounded-le (chosenUsage (tableOf d) c r i) r lr hr (use-within d few begun begins i r l h lr hr)))))))
 
   total-le : programme .total ≤ 57_594_240_000_000
-  unfolding programmeOf total chosenBenefit tableOf
+  unfolding programmeFrom total chosenBenefit tableOf
   total-le =
       let n = ok .segments in
-      let c = improved (tableOf d) (leaderOf d) .last in
+      let c = improved (tableOf d) (leaderOf d) begun .last in
       omega (arith, sum-bound (segmentsOf d) 899_910_000_000 (chosenBenefit (tableOf d) c) (λ i l h. ok .benefits i (strategyAt c i)))
 
   total-fits : Fits widths (totalRow d programme)
@@ -229,7 +231,7 @@ module _ (d : District) (ok : Narrow d) where
       let c = programme .strategies in
       fits-cons empty (fits-cons empty (fits-cons empty (fits-cons empty
       (fits-cons (number (omega arith) (omega (arith, total-le)))
-      (resources-fit d (λ r. wholeUnits (used (tableOf d) c r)) (λ r lr hr. rounded-le (used (tableOf d) c r) r lr hr (sum-within d few r lr hr)))))))
+      (resources-fit d (λ r. wholeUnits (used (tableOf d) c r)) (λ r lr hr. rounded-le (used (tableOf d) c r) r lr hr (sum-within d few begun begins r lr hr)))))))
 
   limits-fit : Fits widths (limitsRow d)
   unfolding limitsRow
@@ -252,5 +254,5 @@ module _ (d : District) (ok : Narrow d) where
       record {
         lined = rw (← rows-length d programme) (lines-of (rows d programme) (λ m n. rows-fit m .cells n .plain));
         room = λ m n. rows-fit m .cells n .room;
-        figures = figures d (ok .segments);
+        figures = figures d (ok .segments) begun begins;
       }

@@ -15,7 +15,7 @@ use Rattle.rules.specs.District.{District, mostSegments, segmentsOf, resourcesO
 use Rattle.rules.specs.Rating.{usageBy, withinLimit, withinLimits}
 use Rattle.rules.specs.Table.{Table, tableOf}
 use Rattle.rules.specs.Phases.{strategyAt, total, within, bests, heeds, start, step, phase1}
-use Rattle.rules.specs.Plan.{reduced, improved, programmeOf}
+use Rattle.rules.specs.Plan.{reduced, improved, programmeFrom, programmeOf}
 use Rattle.rules.specs.Demands.{leadersRespected, Sound, Shown}
 use Rattle.rules.specs.declared.Programme.{Programme}
 use Rattle.laws.specs.Tables.{FitAlone, LowerLeaders}
@@ -42,8 +42,8 @@ module _ (t : Table) (leader : ℕ → ℕ) (fit : FitAlone t) (fits : within t 
   unfolding reduced phase1
   reduced-is = rw start-is (ap (λ (r : Run (List ℕ)). r .last) (run-end (step t leader) _ (bests t) (step-within t leader (bests t) fits)))
 
-  total-ge : total t (bests t) ≤ total t (improved t leader .last)
-  total-ge = rw (← reduced-is) (programmes.total-rises t leader fit)
+  total-ge : total t (bests t) ≤ total t (improved t leader (reduced t leader) .last)
+  total-ge = rw (← reduced-is) (programmes.total-rises t leader fit (reduced t leader) (programmes.reduced-begins t leader fit))
 
 -- ---- of a district
 
@@ -70,13 +70,16 @@ module _ (d : District) (few : segmentsOf d ≤ mostSegments) (lower : LowerLead
       (all-at (segmentsOf d) (heeds (leaderOf d) (bestCandidate d)) respected i l h)
 
   total-le : programmeOf (tableOf d) (leaderOf d) .total ≤ programmeOf (tableOf d) (leaderOf d) .ceiling
+  unfolding programmeOf
   total-le =
-      let sound = promises.sound d few lower in
+      let begun = reduced (tableOf d) (leaderOf d) in
+      let begins = promises.ordinary d few in
+      let sound = promises.sound d few begun begins lower in
       leb→le (programmeOf (tableOf d) (leaderOf d) .total) (programmeOf (tableOf d) (leaderOf d) .ceiling)
-      ((rw (promises.shown d few .total) at (sound .ceiling _ (sound .feasible))) .le)
+      ((rw (promises.shown d few begun begins .total) at (sound .ceiling _ (sound .feasible))) .le)
 
   pub at-ceiling : AtCeiling d (programmeOf (tableOf d) (leaderOf d))
-  unfolding programmeOf tableOf
+  unfolding programmeOf programmeFrom tableOf
   at-ceiling =
       record {
         equal = λ respected fits.
