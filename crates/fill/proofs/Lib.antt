@@ -1,3 +1,4 @@
+pub mod Front
 pub mod Leaders
 pub mod Tables
 pub mod Shares

@@ -2,7 +2,7 @@
 use Prim.Native.Nat.{ℕ, zero, suc, _+_, _-_, _*_, _/_, _%_, _^_, _≤_, _<_}
 use mathlib.Core.Path.{_≡_, ap, ap₂, sym, _∙_}
 use mathlib.Core.List.{List}
-use native.Mathlib.Nat.{div-zero, div-lt-iff-lt-mul}
+use native.Mathlib.Nat.{div-zero, zero-div, zero-mul, div-lt-iff-lt-mul}
 use native.Mathlib.Omega.{arith}
 use lib.ListN.{getD, length}
 use Rattle.base.specs.Over.{divideUp}
@@ -11,15 +11,16 @@ use Rattle.rules.specs.Table.{Table}
 use Rattle.rules.specs.Phases.{share}
 use Rattle.rules.specs.Ceiling.{downShare}
 use Rattle.laws.specs.Tables.{FitAlone}
+use Rattle.laws.proofs.Shares.{share-none}
 use Rattle.tables.specs.declared.Size.{Size}
-use Rattle.tables.specs.Arrays.{useEntry, usageAt, limitAt, tables, Uses, Cell, useEntries}
+use Rattle.tables.specs.Arrays.{columns, useEntry, usageAt, limitAt, tables, Uses, Cell, useEntries}
 use Rattle.tables.proofs.Arrays.{usage-at, limit-at}
 use Rattle.grammar.specs.Ranges.{Ranges}
-use Rattle.rules.specs.District.{District, mostResources}
+use Rattle.rules.specs.District.{District, segmentsOf, mostResources}
 use Rattle.fill.specs.Filled.{Filled}
 use Rattle.fill.proofs.Leaders.{leaders-are, leaders-held}
-use Rattle.fill.proofs.Tables.{table-is, tabled, fit-alone}
-use Rattle.fill.specs.Lists.{sizeOf, leaderList, benefitList, usageList, limitList, shareEntry, shareList, downShareEntry, downShareList}
+use Rattle.fill.proofs.Tables.{uses-past, table-is, tabled, fit-alone}
+use Rattle.fill.specs.Lists.{sizeOf, leaderList, benefitList, usageList, limitList, usageEntry, shareEntry, shareList, downShareEntry, downShareList}
 
 pub shares-length : (u l : List ℕ) → length (shareList u l) ≡ useEntries
 unfolding shareList
@@ -58,6 +59,29 @@ module _ (z : Size) (b u l : List ℕ) (uses : Uses u) (i j r : ℕ) (cell : Cel
   unfolding place downShareList downShareEntry downShare
   down-share-entry = listed-at useEntries 0 place (downShareEntry u l) within ∙ ap₂ (λ a m. a * 10_000 / m) use-here limit-here
 
+-- ---- none of a use of 0
+
+module _ (u l : List ℕ) (n : ℕ) (none : getD u n 0 ≡ 0) where
+  -- a table whose uses are all this one
+  alone : Table
+  alone =
+      record {
+        segments = 0;
+        strategies = 0;
+        resources = 0;
+        benefit = λ _ _. 0;
+        usage = λ _ _ _. getD u n 0;
+        limit = λ _. getD l (n % mostResources) 0;
+      }
+
+  pub share-past : shareEntry u l n ≡ 0
+  unfolding alone shareEntry share
+  share-past = share-none alone 0 0 0 none
+
+  pub down-share-past : downShareEntry u l n ≡ 0
+  unfolding downShareEntry
+  down-share-past = rw (none, zero-mul) (zero-div (getD l (n % mostResources) 0))
+
 -- ---- of a candidate
 
 divide-small : (a b : ℕ) → a ≤ b → a * 10_000 / b ≤ 10_000
@@ -95,6 +119,11 @@ module _ (d : District) (ok : Ranges d) {u l : List ℕ} (hu : u ≡ usageList d
 
   pub bounded : ((k : ℕ) → getD u k 0 < 2 ^ 41) × ((k : ℕ) → getD l k 0 < 2 ^ 47)
   bounded = rw (hu, hl) (tabled d ok .uses .small, tabled d ok .limits .small)
+
+  -- the uses of segments that the district does not have
+  pub past : (k : ℕ) → mostResources * (columns * segmentsOf d) ≤ k → k < useEntries → getD u k 0 ≡ 0
+  unfolding usageList
+  past k low high = ap (λ (v : List ℕ). getD v k 0) hu ∙ listed-at useEntries 0 k (usageEntry d) high ∙ uses-past d (0 + k) (omega arith)
 
   pub filled-by : {ls b s e : List ℕ} → ls ≡ leaderList d → b ≡ benefitList d → s ≡ shareList u l → e ≡ downShareList u l → Filled d (sizeOf d) ls b u l s e
   filled-by hd hb hs he = rw (hd, hb, hs, he, hu, hl) (filled d ok)

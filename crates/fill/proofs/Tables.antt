@@ -3,6 +3,7 @@ use Prim.Native.Nat.{ℕ, _+_, _-_, _*_, _/_, _%_, _^_, _≤_, _<_}
 use mathlib.Core.Path.{_≡_, refl, ap, ap₂, sym, fun-ext, _∙_}
 use mathlib.Core.Bool.{Bool, true, false, _&&_, and-false, true≢false}
 use native.Mathlib.Omega.{arith}
+use borrow.Author.Tests.{lt-leb}
 use lib.Dec.{lit<}
 use lib.ListN.{getD}
 use Rattle.base.specs.Choice.{pick}
@@ -11,7 +12,7 @@ use Rattle.base.proofs.Choice.{and-both, between-yes, between-in}
 use Rattle.base.proofs.Each.{each-listed}
 use Rattle.base.proofs.Listed.{listed-at, listed-length}
 use Rattle.grammar.specs.Ranges.{Ranges}
-use Rattle.rules.specs.District.{District, resourcesOf, mostSegments, mostStrategies, mostResources}
+use Rattle.rules.specs.District.{District, segmentsOf, resourcesOf, mostSegments, mostStrategies, mostResources}
 use Rattle.rules.specs.Rating.{candidate}
 use Rattle.rules.specs.Table.{has, candidateBenefit, usageIn, limitIn, tableOf}
 use Rattle.laws.specs.Tables.{FitAlone}
@@ -43,6 +44,18 @@ module _ (d : District) where
   pub limit-entry : (r : ℕ) → Resource r → getD (limitList d) (r - 1) 0 ≡ limitIn d r
   unfolding limitList
   limit-entry r p = let a : 1 + (r - 1) ≡ r = omega arith in listed-at mostResources 1 (r - 1) (limitIn d) (omega arith) ∙ ap (limitIn d) a
+
+  -- ---- past the district's segments they are 0
+
+  pub benefits-past : (n : ℕ) → columns * segmentsOf d ≤ n → benefitEntry d n ≡ 0
+  unfolding benefitEntry candidateBenefit
+  benefits-past n h = let i : segmentsOf d < n / columns + 1 = omega arith in simp (lt-leb (n / columns + 1) (segmentsOf d) i, and-false)
+
+  pub uses-past : (n : ℕ) → mostResources * (columns * segmentsOf d) ≤ n → usageEntry d n ≡ 0
+  unfolding usageEntry usageIn
+  uses-past n h =
+      let i : segmentsOf d < n / (mostResources * columns) + 1 = omega arith in
+      simp (lt-leb (n / (mostResources * columns) + 1) (segmentsOf d) i, and-false)
 
 -- ---- they are the table
 

@@ -1,14 +1,13 @@
-// The arrays that the phases and the ceiling read, filled once for a plan from a district.
+// The arrays that the phases and the ceiling read, filled once for a plan from a district. What has an entry for each segment
+// is filled for the district's own segments: the arrays are zeros before, and what the district does not have counts 0.
 use rules::places::MOST_RESOURCES;
 use tables::COLUMNS;
-use tables::ENTRIES;
 use tables::Size;
-use tables::USE_ENTRIES;
 ghost use mathlib.Core.Path.{_≡_};
-ghost use Prim.Native.Nat.{ℕ, _+_, _-_, _*_, _/_, _^_, _<_};
-ghost use lib.ListN.{length, getD};
+ghost use Prim.Native.Nat.{ℕ, _+_, _-_, _*_, _/_, _^_, _<_, _≤_};
+ghost use lib.ListN.{length, getD, replicate};
 ghost use Rattle.base.specs.Over.{listed, divideUp};
-ghost use Rattle.tables.specs.Arrays.{entries, useEntries};
+ghost use Rattle.tables.specs.Arrays.{columns, entries, useEntries};
 ghost use Rattle.rules.specs.District.{mostSegments, mostResources};
 ghost use Rattle.grammar.specs.Ranges.{Ranges};
 ghost use Rattle.rules.specs.Table.{usageIn};
@@ -30,11 +29,13 @@ fn fill_leaders(d: &District, leaders: &mut [usize])
 
 // The benefits of all segments and strategies.
 fn fill_benefits(d: &District, table: &mut [u64])
-    requires { ⌜ Ranges (now d) × (length (now table) ≡ entries) ⌝ }
+    requires { ⌜ Ranges (now d) × (now table ≡ replicate entries 0) ⌝ }
     ensures { λ _. ⌜ now (table .exit) ≡ benefitList (now (d .entry)) ⌝ }
 {
+    let segments = d[places::SEGMENT_COUNT];
+    let end = COLUMNS * segments;
     let mut n = 0;
-    while n < ENTRIES {
+    while n < end {
         let b = rating::candidate_benefit(d, n / COLUMNS + 1, n % COLUMNS);
         table[n] = b;
         n += 1;
@@ -57,11 +58,13 @@ fn fill_row(d: &District, i: usize, j: usize, row: &mut [u64])
 
 // The uses of all segments and strategies, a row for each pair.
 fn fill_uses(d: &District, table: &mut [u64])
-    requires { ⌜ Ranges (now d) × (length (now table) ≡ useEntries) ⌝ }
+    requires { ⌜ Ranges (now d) × (now table ≡ replicate useEntries 0) ⌝ }
     ensures { λ _. ⌜ now (table .exit) ≡ usageList (now (d .entry)) ⌝ }
 {
+    let segments = d[places::SEGMENT_COUNT];
+    let end = COLUMNS * segments;
     let mut n = 0;
-    while n < ENTRIES {
+    while n < end {
         fill_row(
             d,
             n / COLUMNS + 1,
@@ -100,15 +103,17 @@ fn down_share(u: u64, l: u64) -> u64
     if l == 0 { 0 } else { u * 10000 / l }
 }
 
-// Both shares of all uses.
-fn fill_shares(uses: &[u64], limits: &[u64], shares: &mut [u64], downs: &mut [u64])
-    requires { ⌜ (length (now uses) ≡ useEntries) × (length (now limits) ≡ mostResources) × (length (now shares) ≡ useEntries) × (length (now downs) ≡ useEntries) ⌝ }
+// Both shares of all uses, of which those of segments past the last are 0.
+fn fill_shares(segments: usize, uses: &[u64], limits: &[u64], shares: &mut [u64], downs: &mut [u64])
+    requires { ⌜ (length (now uses) ≡ useEntries) × (length (now limits) ≡ mostResources) × (now shares ≡ replicate useEntries 0) × (now downs ≡ replicate useEntries 0) ⌝ }
+    requires { ⌜ (segments ≤ mostSegments) × ((k : ℕ) → mostResources * (columns * segments) ≤ k → k < useEntries → getD (now uses) k 0 ≡ 0) ⌝ }
     requires { ⌜ ((k : ℕ) → getD (now uses) k 0 < 2 ^ 41) × ((k : ℕ) → getD (now limits) k 0 < 2 ^ 47) ⌝ }
     ensures up { λ _. ⌜ now (shares .exit) ≡ shareList (now (uses .entry)) (now (limits .entry)) ⌝ }
     ensures down { λ _. ⌜ now (downs .exit) ≡ downShareList (now (uses .entry)) (now (limits .entry)) ⌝ }
 {
+    let end = MOST_RESOURCES * (COLUMNS * segments);
     let mut n = 0;
-    while n < USE_ENTRIES {
+    while n < end {
         let u = uses[n];
         let l = limits[n % MOST_RESOURCES];
         shares[n] = share(u, l);
@@ -127,16 +132,18 @@ pub fn fill_all(
     shares: &mut [u64],
     downs: &mut [u64],
 ) -> Size
-    requires { ⌜ Ranges (now d) × (length (now leaders) ≡ mostSegments) × (length (now benefits) ≡ entries) × (length (now uses) ≡ useEntries) × (length (now limits) ≡ mostResources) × (length (now shares) ≡ useEntries) × (length (now downs) ≡ useEntries) ⌝ }
+    requires { ⌜ Ranges (now d) × (length (now leaders) ≡ mostSegments) × (length (now limits) ≡ mostResources) ⌝ }
+    requires { ⌜ (now benefits ≡ replicate entries 0) × (now uses ≡ replicate useEntries 0) × (now shares ≡ replicate useEntries 0) × (now downs ≡ replicate useEntries 0) ⌝ }
     ensures { λ z. ⌜ Filled (now (d .entry)) z (now (leaders .exit)) (now (benefits .exit)) (now (uses .exit)) (now (limits .exit)) (now (shares .exit)) (now (downs .exit)) ⌝ }
 {
     fill_leaders(d, leaders);
     fill_benefits(d, benefits);
     fill_uses(d, uses);
     fill_limits(d, limits);
-    fill_shares(uses, limits, shares, downs);
+    let segments = d[places::SEGMENT_COUNT];
+    fill_shares(segments, uses, limits, shares, downs);
     Size {
-        segments: d[places::SEGMENT_COUNT],
+        segments,
         strategies: d[places::STRATEGY_COUNT],
         resources: d[places::RESOURCE_COUNT],
     }

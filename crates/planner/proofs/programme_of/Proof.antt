@@ -8,7 +8,7 @@ use Rattle.planner.proofs.programme_of.Statement.{statement}
 use Rattle.planner.proofs.programme_of.Tie as tie
 
 fill-all-requires : tie.Need-fill-all-requires
-fill-all-requires c κs = (in-ranges _ (c .before .before .before .before .before .before .pre), refl, refl, refl, refl, refl, refl)
+fill-all-requires c κs = ((in-ranges _ (c .before .before .before .before .before .before .pre), refl, refl), (refl, refl, refl, refl))
 
 ceiling-of-requires : tie.Need-ceiling-of-requires
 ceiling-of-requires c κs = sized (in-ranges _ (c .before .before .before .before .before .before .before .before .before .before .before .before .before .before .before .pre)) (c .before .before .before .before .before .before .before .before .fill-all .ensures)
