@@ -74,6 +74,13 @@ wrongField = 18
 abbrev pub wrongLine : ℕ
 wrongLine = 19
 
+-- of request 12: a number that is no console's, and a queue without a free place
+abbrev pub noSuchConsole : ℕ
+noSuchConsole = 20
+
+abbrev pub queueFull : ℕ
+queueFull = 21
+
 -- ---- how one comes about
 
 -- refusal n where the test fails, else what the later tests say

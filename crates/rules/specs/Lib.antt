@@ -17,8 +17,10 @@ pub mod Deck
 pub mod Lists
 pub mod Offices
 pub mod Stations
+pub mod Desks
 pub mod Demands
 pub mod StationDemands
+pub mod DeskDemands
 pub mod Writer
 pub mod Results
 pub mod Written

@@ -64,6 +64,20 @@ pub enum Edit {
     SetLeader(usize, usize),
 }
 
+// An edit that waits to be carried out, and the number of its office, both as they are handed in.
+pub struct Waiting {
+    pub office: usize,
+    pub edit: Edit,
+}
+
+// The consoles at which edits arrive.
+pub enum Console {
+    One,
+    Two,
+    Three,
+    Four,
+}
+
 // Why a segment has, or has not, a strategy. A minimum missed names distress and year, a limit passed the resource:
 // passed by the strategy alone, or beside what the other segments have.
 pub enum Reason {

@@ -45,3 +45,8 @@ pub const TABLES_IN_USE: usize = 17;
 pub const WRONG_FIELD: usize = 18;
 
 pub const WRONG_LINE: usize = 19;
+
+// Of request 12: a number that is no console's, and a queue without a free place.
+pub const NO_SUCH_CONSOLE: usize = 20;
+
+pub const QUEUE_FULL: usize = 21;

@@ -1,0 +1,9 @@
+pub mod Consoles
+pub mod Taken
+pub mod EveryArrival
+pub mod EveryStep
+pub mod OnceInOrder
+pub mod NobodyStarves
+pub mod CarriedInTime
+pub mod EveryRun
+pub mod EveryDesk
