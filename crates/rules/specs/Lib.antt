@@ -35,3 +35,4 @@ pub mod Leaders
 pub mod Converted
 pub mod Decks
 pub mod TwoOffices
+pub mod FourConsoles
