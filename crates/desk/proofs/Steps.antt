@@ -1,21 +1,20 @@
 -- A step: by what is taken from the queues, and what the station replies.
 use Prim.Native.Nat.{ℕ}
-use mathlib.Core.Path.{_≡_, refl, sym, ap, subst, _∙_}
+use mathlib.Core.Path.{_≡_, refl, ap, _∙_}
 use mathlib.Core.Option.{Option, none, some}
 use native.Mathlib.Omega.{arith}
 use Rattle.rules.specs.Desks as Desks
-use Rattle.rules.specs.Desks.{consoleNumber, Taken, taken, carrying, stepWith, stepOf}
+use Rattle.rules.specs.Desks.{consoleNumber, Taken, taken, stepWith, stepOf, Step, deskBy, answerTo}
 use Rattle.rules.specs.Lists.{Alter}
-use Rattle.rules.specs.Offices.{Held}
-use Rattle.rules.specs.Stations.{Which, Both, own, stationOutcome}
+use Rattle.rules.specs.Stations.{Which}
 use Rattle.rules.specs.declared.Answer.the-variants.{Accepted}
 use Rattle.queues.specs.Waits.{queuesIn}
 use Rattle.queues.specs.declared.Queues.{Queues}
-use Rattle.station.specs.Kept.{officeIn, KeepsBoth, unitsIn, PlansBoth}
+use Rattle.station.specs.Kept.{PlansBoth}
 use Rattle.station.proofs.Units.{unit-in}
 use Rattle.station.proofs.Replies.{plans-replies}
 use Rattle.station.specs.declared.StationReply.{StationReply}
-use Rattle.desk.specs.Kept.{KeepsDesk, deskIn, Steps, ReportsStep}
+use Rattle.desk.specs.Kept.{KeepsDesk, deskIn, Steps, ReportsEvent}
 use Rattle.desk.specs.declared.Desk.{Desk}
 use Rattle.desk.specs.declared.Stepped.{Stepped}
 
@@ -63,32 +62,34 @@ module _ (d : Desk) (r : Stepped) (steps : Steps d r) (h : Desks.Desk) (k : Keep
   seen : (x : Option Taken) → taken (h .queues) ≡ x → taken (queuesIn (d .queues)) ≡ x
   seen x e = ap taken (k .queues) ∙ e
 
-  idle-reports : taken (h .queues) ≡ none → ReportsStep h r
+  abbrev Reported : Type 0
+  Reported = (r .console ≡ stepOf h .console) × (r .answer ≡ stepOf h .answer) × KeepsDesk (r .desk) (stepOf h .desk)
+
+  idle-reports : taken (h .queues) ≡ none → Reported
   idle-reports e =
       let is = step-by d none (seen none e) in
       let was = kept-by none e in
-      record {
-        console = rw was (rw is at (steps .console));
-        answer = rw was (rw is at (steps .answer));
-        desk = rw (was, steps .idle (seen none e)) k;
-      }
+      (rw was (rw is at (steps .console)), rw was (rw is at (steps .answer)), rw (was, steps .idle (seen none e)) k)
 
-  carried-reports : (t : Taken) → taken (h .queues) ≡ some t → ReportsStep h r
+  carried-reports : (t : Taken) → taken (h .queues) ≡ some t → Reported
   carried-reports t e =
       let is = step-by d (some t) (seen (some t) e) in
       let was = kept-by (some t) e in
       let plans : PlansBoth (d .station) (t .waiting .office) (Alter (t .waiting .edit)) (record { answer = r .answer; station = r .desk .station }) =
       record { answer = rw is at (steps .answer); units = λ w. rw is at (steps .units w); windows = steps .windows } in
-      let reports = plans-replies (d .station) (t .waiting .office) (Alter (t .waiting .edit)) _ plans (h .held) (k .station) in
-      record {
-        console = rw was (rw is at (steps .console));
-        answer = rw was (reports .answer);
-        desk = rw was record { station = reports .station; queues = rw is at (steps .queues) };
-      }
+      let reports = plans-replies (d .station) (t .waiting .office) (Alter (t .waiting .edit)) _ plans (h .held) (k .station) in (
+        rw was (rw is at (steps .console)),
+        rw was (reports .answer),
+        rw was record { station = reports .station; queues = rw is at (steps .queues) },
+      )
 
-  pub step-reports : ReportsStep h r
-  step-reports = go (taken (h .queues)) refl
-    where
-      go : (x : Option Taken) → taken (h .queues) ≡ x → ReportsStep h r
-      go none e = idle-reports e
-      go (some t) e = carried-reports t e
+  reported : (x : Option Taken) → taken (h .queues) ≡ x → Reported
+  reported none e = idle-reports e
+  reported (some t) e = carried-reports t e
+
+  pub step-console : r .console ≡ stepOf h .console
+  step-console = reported (taken (h .queues)) refl .0
+
+  pub step-happens : ReportsEvent h Step (record { answer = r .answer; desk = r .desk })
+  unfolding answerTo deskBy
+  step-happens = let x = reported (taken (h .queues)) refl in record { answer = x .1; desk = x .2 }

@@ -1,12 +1,17 @@
 // A desk: a station, and the queues of four consoles before it. It goes in by value and comes back; an edit arrives at a
 // console, a step carries one out, and the station's own calls go on as ever.
 ghost use mathlib.Core.Path.{_≡_};
-ghost use Rattle.rules.specs.DeskDemands.{EveryArrival, EveryStep, OnceInOrder, NobodyStarves, CarriedInTime, EveryRun, EveryDesk};
+ghost use Rattle.rules.specs.DeskDemands.{EveryCall, EveryArrival, EveryStep, OnceInOrder, NobodyStarves, CarriedInTime, EveryRun, EveryDesk};
 ghost use Rattle.rules.specs.Desks.{freshDesk};
+ghost use Rattle.rules.specs.Lists.{Load, Alter};
 ghost use Rattle.rules.specs.declared.Answer.the-variants.{Refused};
-ghost use Rattle.desk.specs.Kept.{KeepsDesk, Arrives, Steps};
+ghost use Rattle.station.specs.Kept.{PlansBoth, SendsBoth};
+ghost use Rattle.desks.specs.EachOffice.{EachOfficeServed};
+ghost use Rattle.desk.specs.Kept.{KeepsDesk, Arrives, Steps, Asks};
 use queues::Queues;
 use rules::Answer;
+use rules::Edit;
+use rules::Sent;
 use rules::Waiting;
 use rules::refusals::NO_SUCH_OFFICE;
 use station::Station;
@@ -30,9 +35,11 @@ pub struct Stepped {
     pub desk: Desk,
 }
 
-// The desk before the first event. What is promised of every arrival, every step and every list of events is stated of it.
+// The desk before the first event. What is promised of every call, every arrival, every step and every list of events is
+// stated of it.
 pub fn fresh() -> Desk
     ensures start { λ r. ⌜ KeepsDesk r freshDesk ⌝ }
+    ensures calls { λ _. ⌜ EveryCall ⌝ }
     ensures arrivals { λ _. ⌜ EveryArrival ⌝ }
     ensures steps { λ _. ⌜ EveryStep ⌝ }
     ensures order { λ _. ⌜ OnceInOrder ⌝ }
@@ -40,6 +47,7 @@ pub fn fresh() -> Desk
     ensures time { λ _. ⌜ CarriedInTime ⌝ }
     ensures runs { λ _. ⌜ EveryRun ⌝ }
     ensures claim { λ _. ⌜ EveryDesk ⌝ }
+    ensures each { λ _. ⌜ EachOfficeServed ⌝ }
 {
     let station = station::fresh();
     let queues = queues::fresh();
@@ -64,7 +72,7 @@ pub fn arrive(d: Desk, n: usize, w: Waiting) -> DeskReply
         return refuse(d, NO_SUCH_OFFICE);
     }
     let station = d.station;
-    let arrival = queues::arrive(d.queues, n, w);
+    let arrival = queues::admit_at(d.queues, n, w);
     let answer = arrival.answer;
     let queues = arrival.queues;
     DeskReply {
@@ -99,8 +107,9 @@ pub fn step(d: Desk) -> Stepped
     }
 }
 
-// What a call of the station replied, put back beside the queues.
-pub fn put_back(d: Desk, reply: StationReply) -> DeskReply
+// ---- the station's own calls: the queues stay. Those that leave the station as it is are asked of it.
+
+fn put_back(d: Desk, reply: StationReply) -> DeskReply
     ensures { λ r. ⌜ r ≡ record { answer = reply .answer; desk = record { station = reply .station; queues = d .queues } } ⌝ }
 {
     let answer = reply.answer;
@@ -110,4 +119,25 @@ pub fn put_back(d: Desk, reply: StationReply) -> DeskReply
         answer,
         desk: Desk { station, queues },
     }
+}
+
+pub fn load(d: Desk, n: usize, bytes: &[u8]) -> DeskReply
+    ensures { λ r. ⌜ Asks d (PlansBoth (d .station) n (Load (now (bytes .entry)))) r ⌝ }
+{
+    let reply = station::load(d.station, n, bytes);
+    put_back(d, reply)
+}
+
+pub fn alter(d: Desk, n: usize, e: Edit) -> DeskReply
+    ensures { λ r. ⌜ Asks d (PlansBoth (d .station) n (Alter e)) r ⌝ }
+{
+    let reply = station::alter(d.station, n, e);
+    put_back(d, reply)
+}
+
+pub fn send(d: Desk, n: usize, sent: Sent) -> DeskReply
+    ensures { λ r. ⌜ Asks d (SendsBoth (d .station) n sent) r ⌝ }
+{
+    let reply = station::send(d.station, n, sent);
+    put_back(d, reply)
 }

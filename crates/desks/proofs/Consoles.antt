@@ -9,7 +9,8 @@ use native.Mathlib.Omega.{arith}
 use borrow.Author.Tests.{eqb-true, ne-eqb}
 use lib.Dec.{eqb}
 use Rattle.base.specs.Choice.{pick}
-use Rattle.rules.specs.Desks.{consoleNumber, consoleOf, nextTo, further, Queues, queueOf, withQueue, withTurn}
+use Rattle.rules.specs.Desks.{consoleNumber, consoleOf, nextTo, Queues, queueOf, withQueue, withTurn}
+use Rattle.rules.specs.DeskDemands.{further}
 use Rattle.rules.specs.declared.Console.{Console}
 use Rattle.rules.specs.declared.Console.the-variants.{One, Two, Three, Four}
 use Rattle.rules.specs.declared.Waiting.{Waiting}
@@ -38,13 +39,6 @@ nowhere-named n h = rw (ne-eqb n 1 (h One), ne-eqb n 2 (h Two), ne-eqb n 3 (h Th
 
 pub same-console : (c e : Console) → consoleNumber c ≡ consoleNumber e → c ≡ e
 same-console c e p = let q : some c ≡ some e = sym (number-named c) ∙ ap consoleOf p ∙ number-named e in cc
-
--- no console has number 0
-pub number-some : (c : Console) → eqb (consoleNumber c) 0 ≡ false
-number-some One = refl
-number-some Two = refl
-number-some Three = refl
-number-some Four = refl
 
 -- ---- circular order
 

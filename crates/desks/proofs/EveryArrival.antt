@@ -11,7 +11,7 @@ use Rattle.base.specs.Choice.{pick}
 use Rattle.rules.specs.Answers.{noSuchOffice, noSuchConsole, queueFull, unless, answerOf, accepting}
 use Rattle.rules.specs.Offices.{Held}
 use Rattle.rules.specs.Stations.{Which, Both, officeOf, numberOf}
-use Rattle.rules.specs.Desks.{consoleNumber, consoleOf, Queues, queueOf, withQueue, mostWaiting, refusalAt, arrivalRefusal, queuedAt, arrivalOf, Arrival, Desk, acceptedBy, Arrive}
+use Rattle.rules.specs.Desks.{consoleNumber, consoleOf, Queues, queueOf, withQueue, mostWaiting, refusalAt, refusalBehind, arrivalRefusal, queuedAt, arrivalBy, arrivalOf, Arrival, Desk, acceptedBy, Arrive}
 use Rattle.rules.specs.DeskDemands.{notQueued, ArrivalSettled, EveryArrival}
 use Rattle.rules.specs.declared.Console.{Console}
 use Rattle.rules.specs.declared.Waiting.{Waiting}
@@ -22,7 +22,7 @@ use Rattle.desks.proofs.Consoles.{number-named, named-number, nowhere-n
 module _ (q : Queues) (n : ℕ) (w : Waiting) where
   -- by what the two numbers name
   abbrev arrivalAt : Option Which → Option Console → Arrival
-  arrivalAt o c = record { answer = answerOf (refusalAt o c q) 0; queues = accepting (refusalAt o c q) (queuedAt c w q) q }
+  arrivalAt o c = arrivalBy (refusalBehind o (refusalAt c q)) c w q
 
   named : (o : Option Which) (c : Option Console) → officeOf (w .office) ≡ o → consoleOf n ≡ c → arrivalOf q n w ≡ arrivalAt o c
   unfolding arrivalOf arrivalRefusal
@@ -42,8 +42,8 @@ module _ (q : Queues) (n : ℕ) (w : Waiting) where
 
   abbrev afterwards : (c : Console) → Option Which → Option Console → Type 0
   afterwards c o x =
-      queueOf c (accepting (refusalAt o x q) (queuedAt x w q) q)
-      ≡ queueOf c q ++ pick (eqb n (consoleNumber c) && eqb (refusalAt o x q) 0) (w ∷ []) []
+      queueOf c (accepting (refusalBehind o (refusalAt x q)) (queuedAt x w q) q)
+      ≡ queueOf c q ++ pick (eqb n (consoleNumber c) && eqb (refusalBehind o (refusalAt x q)) 0) (w ∷ []) []
 
   -- a refusal changes nothing
   refused-stays : (c : Console) (t : Bool) → queueOf c q ≡ queueOf c q ++ pick (t && false) (w ∷ []) []

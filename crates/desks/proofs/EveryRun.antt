@@ -6,12 +6,11 @@ use mathlib.Core.Option.{Option, none, some}
 use Rattle.rules.specs.Lists.{Alter, lentTo, outcomeOf}
 use Rattle.rules.specs.Offices.{Held, Plan, lentBytes, officeOutcome}
 use Rattle.rules.specs.Stations.{Which, Both, own, other, officeOf, StationCall, callOf, refusalBeside, concluded, outcomeFor, stationOutcome, stationFrom}
-use Rattle.rules.specs.StationDemands.{nothingMore, Got, unitTells, officeTells, toldTo, got, gets}
-use Rattle.rules.specs.Desks.{Taken, taken, Desk, carrying, stepWith, stepOf, Event, Arrive, Step, Ask, deskBy, deskFrom, gathered, callFor, callsBy, callsFrom}
-use Rattle.rules.specs.DeskDemands.{stepGives, gives, allGot, AsCalls, EveryRun}
+use Rattle.rules.specs.StationDemands.{nothingMore, unitTells, officeTells, toldTo, gets, gotFrom}
+use Rattle.rules.specs.Desks.{Taken, taken, Desk, carrying, stepWith, stepOf, Event, Arrive, Step, Ask, deskBy, answerTo, deskFrom, gathered, callFor, callsAt, callsFrom}
+use Rattle.rules.specs.DeskDemands.{Given, stepGives, gives, allGiven, givenTo, AsCalls, EveryRun}
 use Rattle.rules.specs.declared.Edit.{Edit}
 use Rattle.rules.specs.declared.Waiting.{Waiting}
-use Rattle.desks.proofs.Consoles.{number-some}
 
 -- ---- lists of calls, one after the other
 
@@ -20,10 +19,17 @@ unfolding stationFrom
 station-then [] es b = refl
 station-then (c ∷ cs) es b = station-then cs es (stationOutcome b c .held)
 
-got-then : (cs es : List StationCall) (b : Both Held) → allGot b (cs ++ es) ≡ allGot b cs ++ allGot (stationFrom b cs) es
-unfolding allGot stationFrom
-got-then [] es b = refl
-got-then (c ∷ cs) es b = ap (λ (gs : List Got). gets b c ∷ gs) (got-then cs es (stationOutcome b c .held))
+given-then : (cs es : List StationCall) (b : Both Held) → allGiven b (cs ++ es) ≡ allGiven b cs ++ allGiven (stationFrom b cs) es
+unfolding allGiven stationFrom
+given-then [] es b = refl
+given-then (c ∷ cs) es b =
+    ap (λ (gs : List Given). record { office = c .office; got = gets b c } ∷ gs) (given-then cs es (stationOutcome b c .held))
+
+-- what of it goes to office w is what its calls get
+pub given-got : (w : Which) (cs : List StationCall) (b : Both Held) → givenTo w (allGiven b cs) ≡ gotFrom w b cs
+unfolding givenTo allGiven gotFrom
+given-got w [] b = refl
+given-got w (c ∷ cs) b = rw (given-got w cs (stationOutcome b c .held))
 
 -- ---- an edit carried out: it is lent no bytes, and tells nothing but its answer
 
@@ -55,22 +61,22 @@ module _ (d : Desk) where
   step-held none = refl
   step-held (some t) = refl
 
-  event-held : (e : Event) → deskBy d e .held ≡ stationFrom (d .held) (callsBy d e)
-  unfolding deskBy callsBy stationFrom stepOf
+  event-held : (e : Event) → deskBy d e .held ≡ stationFrom (d .held) (callsAt d e)
+  unfolding deskBy callsAt stationFrom stepOf
   event-held (Arrive n w) = refl
   event-held Step = step-held (taken (d .queues))
   event-held (Ask c) = refl
 
-  step-got : (x : Option Taken) → stepGives (stepWith d x) ≡ allGot (d .held) (callFor x)
-  unfolding stepGives allGot
-  step-got none = refl
-  step-got (some t) = rw (number-some (t .console), edit-gets (d .held) (t .waiting .edit) (t .waiting .office))
+  step-given : (x : Option Taken) → stepGives x (stepWith d x .answer) ≡ allGiven (d .held) (callFor x)
+  unfolding allGiven
+  step-given none = refl
+  step-given (some t) = rw (edit-gets (d .held) (t .waiting .edit) (t .waiting .office))
 
-  event-got : (e : Event) → gives d e ≡ allGot (d .held) (callsBy d e)
-  unfolding gives callsBy allGot stepOf
-  event-got (Arrive n w) = refl
-  event-got Step = step-got (taken (d .queues))
-  event-got (Ask c) = refl
+  event-given : (e : Event) → gives d e ≡ allGiven (d .held) (callsAt d e)
+  unfolding gives callsAt allGiven stepOf answerTo
+  event-given (Arrive n w) = refl
+  event-given Step = step-given (taken (d .queues))
+  event-given (Ask c) = refl
 
 -- ---- one event after another
 
@@ -80,14 +86,14 @@ run-held [] d = refl
 run-held (e ∷ es) d =
     run-held es (deskBy d e)
     ∙ ap (λ (b : Both Held). stationFrom b (callsFrom (deskBy d e) es)) (event-held d e)
-    ∙ sym (station-then (callsBy d e) (callsFrom (deskBy d e) es) (d .held))
+    ∙ sym (station-then (callsAt d e) (callsFrom (deskBy d e) es) (d .held))
 
-run-got : (es : List Event) (d : Desk) → gathered gives d es ≡ allGot (d .held) (callsFrom d es)
-unfolding gathered allGot
-run-got [] d = refl
-run-got (e ∷ es) d =
-    ap₂ _++_ (event-got d e) (run-got es (deskBy d e) ∙ ap (λ (b : Both Held). allGot b (callsFrom (deskBy d e) es)) (event-held d e))
-    ∙ sym (got-then (callsBy d e) (callsFrom (deskBy d e) es) (d .held))
+run-given : (es : List Event) (d : Desk) → gathered gives d es ≡ allGiven (d .held) (callsFrom d es)
+unfolding gathered allGiven
+run-given [] d = refl
+run-given (e ∷ es) d =
+    ap₂ _++_ (event-given d e) (run-given es (deskBy d e) ∙ ap (λ (b : Both Held). allGiven b (callsFrom (deskBy d e) es)) (event-held d e))
+    ∙ sym (given-then (callsAt d e) (callsFrom (deskBy d e) es) (d .held))
 
 pub every-run : EveryRun
-every-run d es = record { held = run-held es d; got = run-got es d }
+every-run d es = record { held = run-held es d; given = run-given es d }

@@ -1,9 +1,12 @@
 pub mod Consoles
 pub mod Taken
+pub mod EveryCall
 pub mod EveryArrival
 pub mod EveryStep
 pub mod OnceInOrder
 pub mod NobodyStarves
 pub mod CarriedInTime
+pub mod FewWait
 pub mod EveryRun
 pub mod EveryDesk
+pub mod EachOffice

@@ -13,8 +13,8 @@ use lib.Dec.{eqb, ltb}
 use lib.ListN.{length, take, length-append}
 use lib.Seq.{take-append-le}
 use Rattle.base.specs.Choice.{pick}
-use Rattle.rules.specs.Desks.{consoleNumber, nextTo, further, Queues, queueOf, Taken, taken, Desk, stepWith, stepOf, Event, Arrive, Step, Ask, deskBy, deskFrom, gathered, acceptedBy, takenFor, carriedBy, carriedFrom, acceptedFrom, stepsIn}
-use Rattle.rules.specs.DeskDemands.{NobodyStarves}
+use Rattle.rules.specs.Desks.{consoleNumber, nextTo, Queues, queueOf, Taken, taken, Desk, stepWith, stepOf, Event, Arrive, Step, Ask, deskBy, deskFrom, gathered, acceptedBy, takenFor, carriedBy, carriedFrom, acceptedFrom, stepsIn}
+use Rattle.rules.specs.DeskDemands.{further, NobodyStarves}
 use Rattle.rules.specs.declared.Console.{Console}
 use Rattle.rules.specs.declared.Console.the-variants.{One, Two, Three, Four}
 use Rattle.rules.specs.declared.Waiting.{Waiting}

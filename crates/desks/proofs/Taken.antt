@@ -4,9 +4,10 @@ use mathlib.Core.Path.{_≡_, refl, sym, ap, subst, _∙_}
 use mathlib.Core.List.{List, [], _∷_}
 use mathlib.Core.Option.{Option, none, some}
 use native.Mathlib.Omega.{arith}
-use Rattle.base.specs.Search.{first}
-use Rattle.base.proofs.Search.{first-none, first-found, first-at, first-ended}
-use Rattle.rules.specs.Desks.{nextTo, further, Queues, queueOf, withQueue, withTurn, Taken, oldestOf, oldestAt, taken}
+use Rattle.base.specs.Search.{orElse, first}
+use Rattle.base.proofs.Search.{orElse-assoc, first-none, first-found, first-at, first-ended}
+use Rattle.rules.specs.Desks.{nextTo, Queues, queueOf, withQueue, withTurn, Taken, oldestOf, oldestAt, taken}
+use Rattle.rules.specs.DeskDemands.{further}
 use Rattle.rules.specs.declared.Console.{Console}
 use Rattle.rules.specs.declared.Waiting.{Waiting}
 
@@ -24,17 +25,27 @@ module _ (q : Queues) where
   abbrev found : ℕ → Option Taken
   found n = oldestAt q (atPlace (n - 1))
 
+  -- as a search
+  pub taken-first : taken q ≡ first 4 found
+  unfolding taken first further
+  taken-first =
+      let c = q .turn in
+      let a = oldestAt q c in
+      let b = oldestAt q (nextTo c) in
+      let d = oldestAt q (nextTo (nextTo c)) in
+      let e = oldestAt q (nextTo (nextTo (nextTo c))) in
+      sym (orElse-assoc (orElse a b) d e ∙ orElse-assoc a b (orElse d e))
+
   pub taken-none : ((c : Console) → queueOf c q ≡ []) → taken q ≡ none
-  unfolding taken
-  taken-none empty = first-none 4 found (λ k l h. ap (λ (ws : List Waiting). oldestOf (atPlace (k - 1)) ws q) (empty (atPlace (k - 1))))
+  taken-none empty = taken-first ∙ first-none 4 found (λ k l h. ap (λ (ws : List Waiting). oldestOf (atPlace (k - 1)) ws q) (empty (atPlace (k - 1))))
 
   pub taken-at :
       (n : ℕ) (w : Waiting) (ws : List Waiting) → n < 4 → ((m : ℕ) → m < n → queueOf (atPlace m) q ≡ []) → queueOf (atPlace n) q ≡ w ∷ ws
       → taken q ≡ some (takenOf q (atPlace n) w ws)
-  unfolding taken
   taken-at n w ws few before here =
       let place : n + 1 - 1 ≡ n = omega arith in
-      first-found 4 found (n + 1) (takenOf q (atPlace n) w ws) (omega arith) (omega arith)
+      taken-first
+      ∙ first-found 4 found (n + 1) (takenOf q (atPlace n) w ws) (omega arith) (omega arith)
       (λ j l h. ap (λ (vs : List Waiting). oldestOf (atPlace (j - 1)) vs q) (before (j - 1) (omega arith)))
       (ap (λ (m : ℕ). oldestAt q (atPlace m)) place ∙ ap (λ (vs : List Waiting). oldestOf (atPlace n) vs q) here)
 
@@ -73,9 +84,8 @@ oldest-none q c [] e = refl
 oldest-none q c (w ∷ ws) e = absurd (let z : _≡_ {A = ℕ} 0 1 = cc in omega arith)
 
 pub taken-from : (q : Queues) (t : Taken) → taken q ≡ some t → TakenFrom q t
-unfolding taken
 taken-from q t e =
-    let w = first-ended 4 (λ n. oldestAt q (further (n - 1) (q .turn))) t e in
+    let w = first-ended 4 (found q) t (sym (taken-first q) ∙ e) in
     let c = further (w .at - 1) (q .turn) in
     let o = oldest-some q c (queueOf c q) t (w .found) in
     record {
@@ -93,8 +103,7 @@ taken-from q t e =
 
 -- where a console has an edit, one is taken
 pub taken-some : {A : Type 0} (q : Queues) (c : Console) (n : ℕ) → n < 4 → further n (q .turn) ≡ c → ¬ (queueOf c q ≡ []) → taken q ≡ none → A
-unfolding taken
 taken-some q c n few there some-wait e =
     let place : n + 1 - 1 ≡ n = omega arith in
-    let none-here = rw (place, there) at (first-at 4 (λ n. oldestAt q (further (n - 1) (q .turn))) e (n + 1) (omega arith) (omega arith)) in
+    let none-here = rw (place, there) at (first-at 4 (found q) (sym (taken-first q) ∙ e) (n + 1) (omega arith) (omega arith)) in
     absurd (some-wait (oldest-none q c (queueOf c q) none-here))

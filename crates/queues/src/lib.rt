@@ -2,13 +2,12 @@
 // back; nothing here knows of districts.
 ghost use mathlib.Core.Path.{_≡_};
 ghost use mathlib.Core.List.{[], _∷_, _++_};
-ghost use Prim.Native.Nat.{_<_};
-ghost use lib.Dec.{ltb};
+ghost use mathlib.Core.Option.{some};
+ghost use Prim.Native.Nat.{ℕ, _<_};
 ghost use lib.ListN.{length, drop};
 ghost use Rattle.base.specs.Search.{orElse};
-ghost use Rattle.rules.specs.Desks.{consoleNumber, consoleOf, nextTo, freshQueues, queueOf, withQueue, withTurn, mostWaiting, arrivalOf, oldestAt, taken};
-ghost use Rattle.rules.specs.Stations.{Which, numberOf};
-ghost use Rattle.queues.specs.Waits.{waitingIn, queuesIn, namedIn, arrivalIn, takenIn};
+ghost use Rattle.rules.specs.Desks.{consoleNumber, consoleOf, nextTo, freshQueues, queueOf, withQueue, withTurn, mostWaiting, oldestAt, taken};
+ghost use Rattle.queues.specs.Waits.{waitingIn, queuesIn, namedIn, Admits, takenIn};
 use rules::Answer;
 use rules::Console;
 use rules::Edit;
@@ -231,7 +230,7 @@ fn refuse(q: Queues, number: usize) -> Arrival
 
 // At a console that there is.
 fn admit(q: Queues, c: Console, w: Waiting) -> Arrival
-    ensures { λ r. ⌜ ((o : Which) → w .office ≡ numberOf o → arrivalIn r ≡ arrivalOf (queuesIn q) (consoleNumber c) w) ⌝ }
+    ensures { λ r. ⌜ Admits q (some c) w r ⌝ }
 {
     let x = own(q, c);
     let n = size(x);
@@ -246,9 +245,9 @@ fn admit(q: Queues, c: Console, w: Waiting) -> Arrival
     refuse(q, QUEUE_FULL)
 }
 
-// An edit of an office that there is, at the console of number `n`.
-pub fn arrive(q: Queues, n: usize, w: Waiting) -> Arrival
-    ensures { λ r. ⌜ ((o : Which) → w .office ≡ numberOf o → arrivalIn r ≡ arrivalOf (queuesIn q) n w) ⌝ }
+// At the console of number `n`. Whose edit it is is not looked at.
+pub fn admit_at(q: Queues, n: usize, w: Waiting) -> Arrival
+    ensures { λ r. ⌜ Admits q (consoleOf n) w r ⌝ }
 {
     let console = console_of(n);
     match console {
@@ -266,7 +265,8 @@ fn take_from(q: Queues, c: Console) -> Taken
     let x = own(q, c);
     let n = size(x);
     let places = x.places;
-    let queues = put(q, c, leave(x), next_to(c));
+    let turn = next_to(c);
+    let queues = put(q, c, leave(x), turn);
     Taken {
         found: 0 < n,
         console: c,

@@ -1,13 +1,13 @@
 -- Document 02, request 12: four consoles before one planner, together a desk. Each console has a queue of edits; a step carries out one of them, and
 -- the consoles have their turns in circular order. What both offices hold is changed by steps, and by the calls of a station as ever.
-use Prim.Native.Nat.{ℕ, zero, suc, _-_}
+use Prim.Native.Nat.{ℕ, zero, suc}
 use mathlib.Core.Bool.{Bool, _&&_}
 use mathlib.Core.List.{List, [], _∷_, _++_}
 use mathlib.Core.Option.{Option, none, some}
 use lib.Dec.{ltb, eqb}
 use lib.ListN.{length}
 use Rattle.base.specs.Choice.{pick}
-use Rattle.base.specs.Search.{first}
+use Rattle.base.specs.Search.{orElse}
 use Rattle.rules.specs.Answers.{noSuchOffice, noSuchConsole, queueFull, unless, answerOf, accepting}
 use Rattle.rules.specs.Lists.{Alter}
 use Rattle.rules.specs.Offices.{Held, Plan}
@@ -36,11 +36,6 @@ nextTo One = Two
 nextTo Two = Three
 nextTo Three = Four
 nextTo Four = One
-
--- n further on
-unfoldable pub further : ℕ → Console → Console
-further zero c = c
-further (suc n) c = nextTo (further n c)
 
 -- ---- what waits at each, the oldest edit first, and whose turn it is
 
@@ -76,14 +71,19 @@ withTurn c q = record { one = q .one; two = q .two; three = q .three; four = q .
 abbrev pub mostWaiting : ℕ
 mostWaiting = 8
 
--- the office's number comes first, then the console's; nothing else is tested before the edit's step
-abbrev pub refusalAt : Option Which → Option Console → Queues → ℕ
-refusalAt none c q = noSuchOffice
-refusalAt (some w) none q = noSuchConsole
-refusalAt (some w) (some c) q = unless (ltb (length (queueOf c q)) mostWaiting) queueFull 0
+-- 20 where no console has the number, 21 where no place is free there
+abbrev pub refusalAt : Option Console → Queues → ℕ
+refusalAt none q = noSuchConsole
+refusalAt (some c) q = unless (ltb (length (queueOf c q)) mostWaiting) queueFull 0
 
+-- 16, which comes before both, where no office has its number
+abbrev pub refusalBehind : Option Which → ℕ → ℕ
+refusalBehind none r = noSuchOffice
+refusalBehind (some w) r = r
+
+-- nothing else is tested before the edit's step
 unfoldable pub arrivalRefusal : Queues → ℕ → Waiting → ℕ
-arrivalRefusal q n w = refusalAt (officeOf (w .office)) (consoleOf n) q
+arrivalRefusal q n w = refusalBehind (officeOf (w .office)) (refusalAt (consoleOf n) q)
 
 -- last in its queue
 abbrev pub queuedAt : Option Console → Waiting → Queues → Queues
@@ -94,8 +94,12 @@ pub record Arrival : Type 0 where
   pub answer : Answer
   pub queues : Queues
 
+-- with a refusal, 0 for none
+abbrev pub arrivalBy : ℕ → Option Console → Waiting → Queues → Arrival
+arrivalBy r c w q = record { answer = answerOf r 0; queues = accepting r (queuedAt c w q) q }
+
 unfoldable pub arrivalOf : Queues → ℕ → Waiting → Arrival
-arrivalOf q n w = let r = arrivalRefusal q n w in record { answer = answerOf r 0; queues = accepting r (queuedAt (consoleOf n) w q) q }
+arrivalOf q n w = arrivalBy (arrivalRefusal q n w) (consoleOf n) w q
 
 -- ---- which edit a step takes
 
@@ -113,9 +117,11 @@ oldestOf c (w ∷ ws) q = some record { console = c; waiting = w; queues = withT
 abbrev pub oldestAt : Queues → Console → Option Taken
 oldestAt q c = oldestOf c (queueOf c q) q
 
--- of the first of the four, from the turn on, that has one
+-- of the first that has one: the console whose turn it is, the next, the one after it, the last of the four
 unfoldable pub taken : Queues → Option Taken
-taken q = first 4 (λ n. oldestAt q (further (n - 1) (q .turn)))
+taken q =
+    let c = q .turn in
+    orElse (oldestAt q c) (orElse (oldestAt q (nextTo c)) (orElse (oldestAt q (nextTo (nextTo c))) (oldestAt q (nextTo (nextTo (nextTo c))))))
 
 -- ---- the desk, and a step
 
@@ -160,6 +166,12 @@ deskBy d (Arrive n w) = record { held = d .held; queues = arrivalOf (d .queues) 
 deskBy d Step = stepOf d .desk
 deskBy d (Ask c) = record { held = stationOutcome (d .held) c .held; queues = d .queues }
 
+-- what it answers; where it is a step, what its edit is answered
+unfoldable pub answerTo : Desk → Event → Answer
+answerTo d (Arrive n w) = arrivalOf (d .queues) n w .answer
+answerTo d Step = stepOf d .answer
+answerTo d (Ask c) = stationOutcome (d .held) c .answer
+
 unfoldable pub deskFrom : Desk → List Event → Desk
 deskFrom d [] = d
 deskFrom d (e ∷ es) = deskFrom (deskBy d e) es
@@ -178,16 +190,16 @@ abbrev pub callFor : Option Taken → List StationCall
 callFor none = []
 callFor (some t) = carrying (t .waiting) ∷ []
 
-unfoldable pub callsBy : Desk → Event → List StationCall
-callsBy d (Arrive n w) = []
-callsBy d Step = callFor (taken (d .queues))
-callsBy d (Ask c) = c ∷ []
+unfoldable pub callsAt : Desk → Event → List StationCall
+callsAt d (Arrive n w) = []
+callsAt d Step = callFor (taken (d .queues))
+callsAt d (Ask c) = c ∷ []
 
 abbrev pub callsFrom : Desk → List Event → List StationCall
-callsFrom d es = gathered callsBy d es
+callsFrom d es = gathered callsAt d es
 
-abbrev pub callsOf : List Event → List StationCall
-callsOf es = callsFrom freshDesk es
+abbrev pub callsIn : List Event → List StationCall
+callsIn es = callsFrom freshDesk es
 
 -- ---- the edits of console c
 

@@ -196,7 +196,7 @@ abbrev byTables : Which → List StationCall
 byTables w = load (numberOf w) (fileOf (sharing (0 ∷ 0 ∷ []) [])) ∷ limit (numberOf (other w)) 2 9 ∷ []
 
 -- by its segments, though its load changes no table: they are those of a fresh station
-abbrev asFresh : Roads
+abbrev pub asFresh : Roads
 asFresh =
     record {
       years = 1;

@@ -17,7 +17,7 @@ returns-2 c =
     let office = test .before in
     let a = office .before .args in
     let o = named-by (a .w .office) (office .is-office .ensures) (test .if1 .left) in
-    arrives (a .d) (a .n) (a .w) (o .which) (o .number) (c .before .arrive .result) (c .before .arrive .ensures)
+    arrives (a .d) (a .n) (a .w) (o .which) (o .number) (c .before .admit-at .result) (c .before .admit-at .ensures)
 
 pub arrive-spec : {M : Type 1} → statement M
 arrive-spec = tie.close (tie.spec (λ c κs. search needs) (λ c κs. search needs) returns (λ c κs. search needs) returns-2)

@@ -2,7 +2,9 @@
 use borrow.Author.Needs.{needs}
 use Rattle.rules.specs.Desks.{freshDesk}
 use Rattle.desks.proofs.CarriedInTime.{carried-in-time}
+use Rattle.desks.proofs.EachOffice.{each-office-served}
 use Rattle.desks.proofs.EveryArrival.{every-arrival}
+use Rattle.desks.proofs.EveryCall.{every-call}
 use Rattle.desks.proofs.EveryDesk.{every-desk}
 use Rattle.desks.proofs.EveryRun.{every-run}
 use Rattle.desks.proofs.EveryStep.{every-step}
@@ -15,7 +17,7 @@ returns : tie.Need-returns
 unfolding freshDesk
 returns c = (
   record { station = c .before .fresh .ensures .0; queues = c .fresh2 .ensures },
-  (every-arrival, (every-step, (once-in-order, (nobody-starves, (carried-in-time, (every-run, every-desk)))))),
+  (every-call, (every-arrival, (every-step, (once-in-order, (nobody-starves, (carried-in-time, (every-run, (every-desk, each-office-served)))))))),
 )
 
 pub fresh-spec : {M : Type 1} → statement M

@@ -2,13 +2,12 @@
 use mathlib.Core.Path.{ap, _∙_}
 use borrow.Author.Needs.{needs}
 use Rattle.base.proofs.Search.{or-by}
-use Rattle.rules.specs.Desks.{nextTo}
-use Rattle.queues.specs.Waits.{queuesIn}
-use Rattle.queues.proofs.Turns.{taken-is}
+use Rattle.rules.specs.Desks.{nextTo, taken}
 use Rattle.queues.proofs.take.Statement.{statement}
 use Rattle.queues.proofs.take.Tie as tie
 
 returns : tie.Need-returns
+unfolding taken
 returns c =
     let second = c .before .before in
     let first = second .before in
@@ -23,7 +22,6 @@ returns c =
     or-by (c .either3 .ensures) (first .take-from3 .ensures)
     (or-by (c .before .either2 .ensures) (rw e at (second .take-from4 .ensures))
     (or-by (first .before .either .ensures) (rw f at (third .take-from .ensures)) (rw g at (fourth .take-from2 .ensures))))
-    ∙ taken-is (queuesIn (next .before .args .q))
 
 pub take-spec : {M : Type 1} → statement M
 take-spec =

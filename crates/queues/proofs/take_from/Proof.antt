@@ -9,15 +9,16 @@ use Rattle.queues.proofs.take_from.Tie as tie
 returns : tie.Need-returns
 returns c =
     let put = c .before in
-    let leave = put .before .before in
-    let size = leave .before .before in
+    let leave = put .before in
+    let next = leave .before in
+    let size = next .before .before in
     let own = size .before in
     let a = own .before .args in
     let x = own .own .result in
     rw (← own .own .ensures)
     (oldest-is (queuesIn (a .q)) (a .c) (waitingIn x) _ (size .size .result) _ (queuesIn (put .put .result)) (size .size .ensures .0) refl
     (head-is (x .places) (x .count) _)
-    (rw (put .before .next-to .ensures, leave .leave .ensures) at (put .put .ensures)))
+    (rw (next .next-to .ensures, leave .leave .ensures) at (put .put .ensures)))
 
 pub take-from-spec : {M : Type 1} → statement M
 take-from-spec =
