@@ -8,16 +8,22 @@
 //! 4 set limit, 5 set rating, 6 a show; 8 a page, whose first number is its
 //! room, cut to that of the longest page; 9 why; 10 an index reading and 11 a
 //! mile marker, whose first number is the record's bits; 12 a lost sample; 13
-//! roughness; 14 set leader. Of why and of roughness only the refusal is answered. Survey
+//! roughness; 14 set leader; 16 an edit that waits at the console of its first number;
+//! 17 a step. Of why and of roughness only the refusal is answered. Survey
 //! points, 7, and naming an office, 15, are no calls of an office. They count as a
 //! show of the one that stands in them, as does any other kind.
+//! The edit that waits follows as 17 bytes more, its kind and numbers those of the
+//! call that it would be. It is for the office that stands in front; what stands in
+//! the place of its own is not looked at. Another kind there makes the whole a show.
+//! A step answers as its edit does. It names no office: where it is the last call, 1
+//! shows office 1 and any other number office 2.
 //! The list ends where no whole call is left.
 
+use crate::desk::{Desk, Edit};
 use crate::file;
 use crate::listing::listing;
 use crate::page;
 use crate::refusal::Refusal;
-use crate::station::Station;
 
 const HEAD: usize = 17;
 
@@ -37,6 +43,8 @@ pub enum Call {
     Lost,
     Roughness,
     SetLeader(u32, u32),
+    Queue(u32, Edit),
+    Step,
 }
 
 impl Call {
@@ -64,6 +72,35 @@ impl Call {
             Call::Lost => head(12, [0; 3]),
             Call::Roughness => head(13, [0; 3]),
             Call::SetLeader(i, leader) => head(14, [*i, *leader, 0]),
+            Call::Queue(console, edit) => {
+                head(16, [*console, 0, 0]);
+                Call::of(*edit).write(office, out);
+            }
+            Call::Step => head(17, [0; 3]),
+        }
+    }
+
+    /// The call that makes the edit at once. Numbers in a list have 4 bytes.
+    fn of(edit: Edit) -> Call {
+        let four = |number: u64| number as u32;
+        match edit {
+            Edit::Bar(i, j) => Call::Bar(four(i), four(j)),
+            Edit::Unbar(i, j) => Call::Unbar(four(i), four(j)),
+            Edit::SetLimit(r, limit) => Call::SetLimit(four(r), four(limit)),
+            Edit::SetRating(i, k, rating) => Call::SetRating(four(i), four(k), four(rating)),
+            Edit::SetLeader(i, leader) => Call::SetLeader(four(i), four(leader)),
+        }
+    }
+
+    /// The edit that the call makes, where it makes one.
+    pub fn edit(&self) -> Option<Edit> {
+        match *self {
+            Call::Bar(i, j) => Some(Edit::Bar(i.into(), j.into())),
+            Call::Unbar(i, j) => Some(Edit::Unbar(i.into(), j.into())),
+            Call::SetLimit(r, limit) => Some(Edit::SetLimit(r.into(), limit.into())),
+            Call::SetRating(i, k, rating) => Some(Edit::SetRating(i.into(), k.into(), rating.into())),
+            Call::SetLeader(i, leader) => Some(Edit::SetLeader(i.into(), leader.into())),
+            _ => None,
         }
     }
 
@@ -89,17 +126,26 @@ impl Call {
             12 => Call::Lost,
             13 => Call::Roughness,
             14 => Call::SetLeader(a, b),
+            16 => {
+                let edit = Call::take(rest.get(..HEAD)?).and_then(|(_, call, _)| call.edit());
+                return Some((office, edit.map_or(Call::Show, |edit| Call::Queue(a, edit)), &rest[HEAD..]));
+            }
+            17 => return Some((if office == 1 { 1 } else { 2 }, Call::Step, rest)),
             _ => Call::Show,
         };
         Some((office, call, rest))
     }
 
     /// Makes the call, which names this office.
-    pub fn make(&self, office: u32, station: &mut Station) -> Result<(), Refusal> {
+    pub fn make(&self, office: u32, desk: &mut Desk) -> Result<(), Refusal> {
         let office = u64::from(office);
-        if let Call::Load(file) = self {
-            return station.load(office, file);
+        match self {
+            Call::Load(file) => return desk.station.load(office, file),
+            Call::Queue(console, edit) => return desk.arrive(office, (*console).into(), *edit),
+            Call::Step => return desk.step().map_or(Ok(()), |step| step.answer),
+            _ => {}
         }
+        let station = &mut desk.station;
         let unit = station.office_mut(office)?;
         match self {
             Call::Export(room) => unit.export(&mut vec![0; file::LONGEST.min(*room as usize)]).map(|_| ()),
@@ -107,7 +153,7 @@ impl Call {
             Call::Unbar(i, j) => unit.unbar((*i).into(), (*j).into()),
             Call::SetLimit(r, limit) => unit.set_limit((*r).into(), (*limit).into()),
             Call::SetRating(i, k, rating) => unit.set_rating((*i).into(), (*k).into(), (*rating).into()),
-            Call::Load(_) | Call::Show => Ok(()),
+            Call::Load(_) | Call::Queue(..) | Call::Step | Call::Show => Ok(()),
             Call::Page(room) => unit.page(&mut vec![0; page::LONGEST.min(*room as usize)]).map(|_| ()),
             Call::Why(i, j) => unit.why((*i).into(), (*j).into()).map(|_| ()),
             Call::Index(bits) => unit.index(*bits),
@@ -147,13 +193,13 @@ pub fn decode(bytes: &[u8]) -> Vec<(u32, Call)> {
 /// accepted, the plan after the list of the office that it named; that of office 1
 /// where there is no call.
 pub fn worked(bytes: &[u8]) -> String {
-    let mut station = Station::fresh();
+    let mut desk = Desk::fresh();
     let (mut named, mut last) = (1, Ok(()));
     for (office, call) in decode(bytes) {
-        last = call.make(office, &mut station);
+        last = call.make(office, &mut desk);
         named = office;
     }
-    match last.and_then(|()| station.office(named.into())) {
+    match last.and_then(|()| desk.station.office(named.into())) {
         Ok(unit) => listing(unit.show(), unit.district().segments.len()),
         Err(refusal) => format!("refused {}\n", refusal.number()),
     }

@@ -1,4 +1,5 @@
-//! The panel: a console over one unit with its two offices, fresh at its start.
+//! The panel: a console over one unit with its two offices and the four consoles
+//! before it, fresh at its start.
 //!
 //! How lines are read, where more than one reading was possible:
 //! - Words are separated by exactly one blank, with none in front or behind.
@@ -7,6 +8,9 @@
 //! - `office N` says which office the calls of later lines name, whatever number
 //!   it is; 1 at the start. A wrong one is refused when a call is made. A line that
 //!   is no command, and a file that can't be read, make none; `points` names none.
+//! - `queue C EDIT` has an edit, written as the command that makes it at once, wait at
+//!   console C for the office that calls name now. What is no edit there makes the line
+//!   no command. `step` carries one out, and names no office.
 //! - A number is one to 20 digits (zeros in front are fine) within 64 bits.
 //! - The bits of a reading or a marker are a number within 32 bits.
 //! - A line is blank if it holds only blanks, tabs and carriage returns.
@@ -18,11 +22,11 @@
 //! - An export is written to PATH with `.new` behind it, then renamed. Whatever
 //!   goes wrong on the way answers `cannot write`, and the new file is removed.
 
+use crate::desk::{Desk, Edit, Step};
 use crate::listing::listing;
 use crate::meter::Roughness;
 use crate::page;
 use crate::refusal::Refusal;
-use crate::station::Station;
 use crate::survey;
 use crate::unit::Unit;
 use std::ffi::OsStr;
@@ -74,19 +78,19 @@ fn next_line(input: &mut dyn BufRead) -> io::Result<Option<Vec<u8>>> {
 }
 
 pub struct Console {
-    station: Station,
+    desk: Desk,
     /// The office that calls name.
     office: u64,
 }
 
 impl Console {
     pub fn fresh() -> Console {
-        Console { station: Station::fresh(), office: 1 }
+        Console { desk: Desk::fresh(), office: 1 }
     }
 
     /// What the office holds that calls name now.
     pub fn held(&self) -> Result<&Unit, Refusal> {
-        self.station.office(self.office)
+        self.desk.station.office(self.office)
     }
 
     /// The answer to one line, its line feed included; none for a line that is
@@ -112,10 +116,11 @@ impl Console {
         if let Some(path) = line.strip_prefix(b"export ") {
             return path_ok(path).then(|| self.export(path, base));
         }
-        let mut words = line.split(|&byte| byte == b' ');
-        let command = words.next()?;
-        let numbers: Vec<u64> = words.map(number).collect::<Option<_>>()?;
-        let asked = match (command, numbers[..].as_ref()) {
+        if let Some(waiting) = line.strip_prefix(b"queue ") {
+            return self.queue(waiting);
+        }
+        let (command, numbers) = words(line)?;
+        let asked = match (command, &numbers[..]) {
             (b"show", []) => self.held().map(shown),
             (b"page", []) => self.held().and_then(page),
             (b"points", &[code, degree, extent, seal]) => {
@@ -123,11 +128,6 @@ impl Console {
             }
             (b"why", &[i, j]) => self.held().and_then(|unit| unit.why(i, j)).map(|reason| format!("{reason}\n")),
             (b"roughness", []) => self.call(|unit| unit.roughness()).map(roughness),
-            (b"bar", &[i, j]) => self.edit(|unit| unit.bar(i, j)),
-            (b"unbar", &[i, j]) => self.edit(|unit| unit.unbar(i, j)),
-            (b"limit", &[r, v]) => self.edit(|unit| unit.set_limit(r, v)),
-            (b"rating", &[i, k, v]) => self.edit(|unit| unit.set_rating(i, k, v)),
-            (b"leader", &[i, leader]) => self.edit(|unit| unit.set_leader(i, leader)),
             (b"index", &[bits]) => {
                 let bits = u32::try_from(bits).ok()?;
                 self.edit(|unit| unit.index(bits))
@@ -141,17 +141,30 @@ impl Console {
                 self.office = office;
                 Ok(OK.to_string())
             }
-            _ => return None,
+            (b"step", []) => Ok(stepped(self.desk.step())),
+            (command, numbers) => {
+                let edit = edit(command, numbers)?;
+                self.edit(|unit| edit.make(unit))
+            }
         };
         Some(answered(asked))
     }
 
-    /// A call of the office that calls name now.
-    fn call<T>(&mut self, call: impl FnOnce(&mut Unit) -> Result<T, Refusal>) -> Result<T, Refusal> {
-        call(self.station.office_mut(self.office)?)
+    /// `C EDIT`: the edit is to wait at console C. None if that is not what stands there.
+    fn queue(&mut self, waiting: &[u8]) -> Option<Vec<u8>> {
+        let blank = waiting.iter().position(|&byte| byte == b' ')?;
+        let console = number(&waiting[..blank])?;
+        let (command, numbers) = words(&waiting[blank + 1..])?;
+        let edit = edit(command, &numbers)?;
+        Some(answered(self.desk.arrive(self.office, console, edit).map(|()| OK.to_string())))
     }
 
-    /// An edit or a record.
+    /// A call of the office that calls name now.
+    fn call<T>(&mut self, call: impl FnOnce(&mut Unit) -> Result<T, Refusal>) -> Result<T, Refusal> {
+        call(self.desk.station.office_mut(self.office)?)
+    }
+
+    /// An edit that does not wait, or a record.
     fn edit(&mut self, call: impl FnOnce(&mut Unit) -> Result<(), Refusal>) -> Result<String, Refusal> {
         self.call(call).map(|()| OK.to_string())
     }
@@ -164,7 +177,7 @@ impl Console {
         if file.take(FILE_MOST).read_to_end(&mut bytes).is_err() {
             return cannot("read", path);
         }
-        answered(self.station.load(self.office, &bytes).map(|()| OK.to_string()))
+        answered(self.desk.station.load(self.office, &bytes).map(|()| OK.to_string()))
     }
 
     fn export(&self, path: &[u8], base: &Path) -> Vec<u8> {
@@ -209,6 +222,33 @@ fn page(unit: &Unit) -> Result<String, Refusal> {
 
 fn roughness(Roughness { points, marker }: Roughness) -> String {
     format!("points {points} marker {marker}\n")
+}
+
+/// What a step answers: the console that it took an edit from, and the edit's answer.
+fn stepped(step: Option<Step>) -> String {
+    match step {
+        Some(Step { console, answer: Ok(()) }) => format!("console {console} ok\n"),
+        Some(Step { console, answer: Err(refusal) }) => format!("console {console} refused {}\n", refusal.number()),
+        None => "idle\n".to_string(),
+    }
+}
+
+/// The first word of a line and the numbers behind it; none where one is no number.
+fn words(line: &[u8]) -> Option<(&[u8], Vec<u64>)> {
+    let mut words = line.split(|&byte| byte == b' ');
+    Some((words.next()?, words.map(number).collect::<Option<_>>()?))
+}
+
+/// The edit that a command is; none where it is another, or none.
+fn edit(command: &[u8], numbers: &[u64]) -> Option<Edit> {
+    match (command, numbers) {
+        (b"bar", &[i, j]) => Some(Edit::Bar(i, j)),
+        (b"unbar", &[i, j]) => Some(Edit::Unbar(i, j)),
+        (b"limit", &[r, limit]) => Some(Edit::SetLimit(r, limit)),
+        (b"rating", &[i, k, rating]) => Some(Edit::SetRating(i, k, rating)),
+        (b"leader", &[i, leader]) => Some(Edit::SetLeader(i, leader)),
+        _ => None,
+    }
 }
 
 fn number(word: &[u8]) -> Option<u64> {

@@ -8,6 +8,7 @@ pub mod ceiling;
 pub mod console;
 pub mod deck;
 pub mod decks;
+pub mod desk;
 pub mod district;
 pub mod example;
 pub mod file;

@@ -1,6 +1,7 @@
 //! Makes lists of calls at random.
 
-use crate::calls::{encode, encode_by, Call};
+use crate::calls::{encode_by, Call};
+use crate::desk::{Desk, Edit};
 use crate::district::{District, LIMIT_MOST, RATING_MOST};
 use crate::file;
 use crate::make;
@@ -16,17 +17,22 @@ pub fn any_list(random: &mut Random) -> Vec<u8> {
         return random.bytes(length);
     }
     let count = random.size(0, 40);
-    if random.chance(50) {
-        let calls = by_both(random, count);
-        return cut(random, encode_by(&calls));
-    }
+    let calls = match random.below(10) {
+        0..=2 => by_both(random, count),
+        3..=6 => at_consoles(random, 2 * count),
+        _ => by_one(random, count),
+    };
+    cut(random, encode_by(&calls))
+}
+
+/// Calls of office 1 alone, now and then with a run of records behind them.
+fn by_one(random: &mut Random, count: usize) -> Vec<(u32, Call)> {
     let mut calls = list(random, count, true);
     if random.chance(20) {
         let count = random.size(1, 200);
         calls.extend(records(random, count));
     }
-    let bytes = encode(&calls);
-    cut(random, bytes)
+    calls.into_iter().map(|call| (1, call)).collect()
 }
 
 /// Now and then the bytes are cut short.
@@ -41,7 +47,7 @@ fn cut(random: &mut Random, mut bytes: Vec<u8>) -> Vec<u8> {
 /// tables that are held, the same with one value changed, others, or no segments;
 /// now and then a call names an office that there is not.
 pub fn by_both(random: &mut Random, count: usize) -> Vec<(u32, Call)> {
-    let mut station = Station::fresh();
+    let mut desk = Desk::fresh();
     // Most often one office makes most of the calls.
     let busy = *random.pick(&[1, 2]);
     let share = *random.pick(&[50, 50, 75, 90]);
@@ -52,7 +58,7 @@ pub fn by_both(random: &mut Random, count: usize) -> Vec<(u32, Call)> {
                 _ if random.chance(share) => busy,
                 _ => 3 - busy,
             };
-            let held = station.office(office.into()).map_or_else(|_| District::fresh(), |unit| unit.district().clone());
+            let held = held(&desk.station, office);
             let call = match random.below(100) {
                 0..=79 if at < 2 => Call::Load(shared_file(random, &held)),
                 0..=14 => Call::Load(shared_file(random, &held)),
@@ -65,10 +71,65 @@ pub fn by_both(random: &mut Random, count: usize) -> Vec<(u32, Call)> {
                 _ => call(random, &held, true),
             };
             // The generator follows what is held, so that most calls are sound.
-            let _ = call.make(office, &mut station);
+            let _ = call.make(office, &mut desk);
             (office, call)
         })
         .collect()
+}
+
+/// What an office holds; for a number that is none, what a fresh one does.
+fn held(station: &Station, office: u32) -> District {
+    station.office(office.into()).map_or_else(|_| District::fresh(), |unit| unit.district().clone())
+}
+
+/// A list of so many calls with four consoles before the unit: edits that arrive,
+/// one console busier than the others, steps, and loads and other calls between
+/// them. In some lists edits arrive faster than steps take them, so that queues
+/// are full, and in some nothing waits most of the time.
+pub fn at_consoles(random: &mut Random, count: usize) -> Vec<(u32, Call)> {
+    let mut desk = Desk::fresh();
+    let busy = random.size(1, 4) as u32;
+    let arrivals = *random.pick(&[30, 50, 50, 75]);
+    (0..count)
+        .map(|at| {
+            let office = if random.chance(3) { *random.pick(&NO_OFFICES) } else { random.size(1, 2) as u32 };
+            let held = held(&desk.station, office);
+            let call = match random.below(100) {
+                0..=79 if at < 2 => Call::Load(shared_file(random, &held)),
+                share if share < arrivals => Call::Queue(console(random, busy), waiting(random, &held)),
+                92..=95 => Call::Load(shared_file(random, &held)),
+                96..=99 => call(random, &held, true),
+                _ => Call::Step,
+            };
+            let _ = call.make(office, &mut desk);
+            (office, call)
+        })
+        .collect()
+}
+
+/// Numbers that are no console, some of which are one in their low bytes.
+pub const NO_CONSOLES: [u32; 8] = [0, 5, 8, 255, 257, 65_538, 0x8000_0003, u32::MAX];
+
+/// The console that is busy, another one, or now and then a number that is none.
+fn console(random: &mut Random, busy: u32) -> u32 {
+    match random.below(40) {
+        0 => *random.pick(&NO_CONSOLES),
+        1..=20 => busy,
+        _ => random.size(1, 4) as u32,
+    }
+}
+
+/// An edit that is to wait. In its step the office may hold more segments than
+/// now, or fewer, so the edit may be for one that is not there yet.
+fn waiting(random: &mut Random, held: &District) -> Edit {
+    let later = random.chance(40).then(|| make::resettled(random, held, 5));
+    let held = later.as_ref().unwrap_or(held);
+    loop {
+        let made = if random.chance(25) { set_leader(random, held.segments.len()) } else { call(random, held, true) };
+        if let Some(edit) = made.edit() {
+            return edit;
+        }
+    }
 }
 
 /// Numbers that are no office, some of which are one in their low bytes.

@@ -1014,11 +1014,71 @@ fn sharing_script(random: &mut Random) -> Script {
     Script { text, files, folders: vec!["folder".to_string()] }
 }
 
+/// Four consoles: edits that arrive at them for both offices, steps, and loads
+/// and other lines between them. Then steps till nothing waits any more, and what
+/// both offices hold.
+fn queueing_script(random: &mut Random) -> Script {
+    let shape = Shape { segments: random.size(2, 5), ..small_shape(random, 0, 4) };
+    let tables = district(random, shape);
+    let mut files = vec![("d0.bin".to_string(), file::encode(&tables))];
+    for at in 1..random.size(3, 6) {
+        files.push((format!("d{at}.bin"), lists::shared_file(random, &tables)));
+    }
+    let most = [5, shape.strategies, 0, shape.distress_types, 0, shape.resources];
+    let busy = random.within(1, 4);
+    let arrivals = *random.pick(&[30, 50, 70]);
+    let mut text = b"load d0.bin\n".to_vec();
+    for _ in 0..random.size(20, 90) {
+        let line = match random.below(100) {
+            share if share < arrivals => queue_line(random, busy, most),
+            80..=87 => {
+                let office = random.pick(&["1", "2", "1", "2", "1", "2", "3", "4294967297"]);
+                format!("office {office}").into_bytes()
+            }
+            88..=91 => format!("load {}", random.pick(&files).0).into_bytes(),
+            92..=94 => b"show".to_vec(),
+            95..=97 => script_line(random, &files, most),
+            _ => b"step".to_vec(),
+        };
+        text.extend(line);
+        text.push(b'\n');
+    }
+    text.extend(b"step\n".repeat(random.size(0, 33)));
+    for office in ["1", "2"] {
+        text.extend(format!("office {office}\nshow\npage\nexport last{office}.bin\n").into_bytes());
+    }
+    Script { text, files, folders: vec!["folder".to_string()] }
+}
+
+/// A line that has an edit wait: at the console that is busy, at another one, now
+/// and then at a number that is none.
+fn queue_line(random: &mut Random, busy: u64, most: [usize; 6]) -> Vec<u8> {
+    let console = match random.below(20) {
+        0 => random.pick(&["0", "5", "257", "65537", "4294967297", "18446744073709551615"]).to_string(),
+        1..=10 => busy.to_string(),
+        _ => numeral(random, 4),
+    };
+    format!("queue {console} {}", edit_line(random, most)).into_bytes()
+}
+
+/// An edit as a command.
+fn edit_line(random: &mut Random, most: [usize; 6]) -> String {
+    let [n, s, _, d, _, r] = most.map(|count| count as u64);
+    match random.below(5) {
+        0 => format!("bar {} {}", numeral(random, n), numeral(random, s)),
+        1 => format!("unbar {} {}", numeral(random, n), numeral(random, s)),
+        2 => format!("limit {} {}", numeral(random, r), numeral(random, 200)),
+        3 => format!("rating {} {} {}", numeral(random, n), numeral(random, d), numeral(random, 50)),
+        _ => format!("leader {} {}", numeral(random, n), random.below(n)),
+    }
+}
+
 pub fn script(random: &mut Random) -> Script {
     match random.below(100) {
-        0..=29 => return sharing_script(random),
-        30..=54 => return asking_script(random),
-        55..=69 => return metering_script(random),
+        0..=19 => return sharing_script(random),
+        20..=39 => return queueing_script(random),
+        40..=59 => return asking_script(random),
+        60..=71 => return metering_script(random),
         _ => {}
     }
     let mut files = Vec::new();
@@ -1199,6 +1259,27 @@ fn odd_line(random: &mut Random) -> Vec<u8> {
                 b"leaders 1 0",
                 b"office",
                 b"office 18446744073709551616",
+                b"queue",
+                b"queue 1",
+                b"queue 1 ",
+                b"queue bar 1 1",
+                b"queue 1 bar 1",
+                b"queue 5 bar 1",
+                b"queue 1 bar 1 1 ",
+                b"queue 1  bar 1 1",
+                b"queue  1 bar 1 1",
+                b"queue x bar 1 1",
+                b"queue 1 show",
+                b"queue 1 step",
+                b"queue 1 load d0.bin",
+                b"queue 1 queue 1 bar 1 1",
+                b"queue 18446744073709551616 bar 1 1",
+                b"Queue 1 bar 1 1",
+                b"queues 1 bar 1 1",
+                b"step 1",
+                b"step ",
+                b"Step",
+                b"steps",
                 b"lost 0",
                 b"lost ",
                 b"roughness 1",

@@ -40,6 +40,10 @@ pub enum Refusal {
     Field = 18,
     /// A deck that ends too early, or has a line of another length.
     Card = 19,
+    /// No such console.
+    Console = 20,
+    /// The console's queue is full.
+    Queue = 21,
 }
 
 impl Refusal {

@@ -4,6 +4,7 @@
 //! implementation is run on the same frames.
 
 use crate::calls::{encode, encode_by, Call};
+use crate::desk::{Edit, PLACES};
 use crate::district::*;
 use crate::make::{self, Shape, WIDEST};
 use crate::offices::{self, bare, changed, north, south};
@@ -63,6 +64,12 @@ fn scripts() -> Vec<Vec<u8>> {
     tables_for_both(&mut cases);
     windows_of_both(&mut cases);
     lists_by_both(&mut cases);
+    arrivals(&mut cases);
+    turns(&mut cases);
+    refused_steps(&mut cases);
+    waiting_through_loads(&mut cases);
+    waiting_as_bytes(&mut cases);
+    lists_at_consoles(&mut cases);
     cases.scripts
 }
 
@@ -920,7 +927,7 @@ fn no_offices(cases: &mut Cases) {
 /// Points, naming an office, and kinds that there are not: a show of the office that stands there.
 fn kinds_that_are_no_calls(cases: &mut Cases) {
     let both = encode_by(&[(1, load(&north())), (2, load(&south()))]);
-    for kind in [7, 15, 16, 127, 255] {
+    for kind in [7, 15, 19, 127, 255] {
         for office in [1, 2, 0, 3, 255] {
             let head = [kind, office, 0, 0, 0, 2, 0, 0, 0, 0, 0, 0, 0, 0, 0, 0, 0];
             cases.scripts.push([&both[..], &head].concat());
@@ -1086,6 +1093,195 @@ fn windows_of_both(cases: &mut Cases) {
 fn lists_by_both(cases: &mut Cases) {
     for (seed, count) in [(720, 20), (721, 40), (722, 60), (723, 80), (724, 120), (725, 160), (726, 200)] {
         cases.by_and_shown(&lists::by_both(&mut Random::new(seed), count));
+    }
+}
+
+/// Both offices with segments.
+fn both() -> [(u32, Call); 2] {
+    [(1, load(&north())), (2, load(&south()))]
+}
+
+/// An edit of office 1 that its ceiling tells from others of this kind.
+fn sets(limit: u64) -> Edit {
+    Edit::SetLimit(1, limit)
+}
+
+/// On arrival 16, then 20, then 21; the edit's own numbers are not looked at, and nothing is changed.
+fn arrivals(cases: &mut Cases) {
+    let at = |office: u32, console: u32| (office, Call::Queue(console, sets(20)));
+    for console in [1, 2, 3, 4].into_iter().chain(lists::NO_CONSOLES) {
+        cases.by(&[&both()[..], &[at(1, console)]].concat());
+    }
+    for (office, console) in [(2, 4), (2, 5), (0, 1), (3, 4), (0, 0), (3, 5), (257, 1), (u32::MAX, u32::MAX)] {
+        cases.by(&[&both()[..], &[at(office, console)]].concat());
+        cases.by(&[at(office, console)]);
+    }
+    // One place less than there are, all of them, more: then a step makes one free.
+    for count in [PLACES - 1, PLACES, PLACES + 1, PLACES + 2] {
+        let many = [&both()[..], &vec![at(1, 3); count]].concat();
+        cases.by(&many);
+        cases.by(&[&many[..], &[(1, Call::Step), at(1, 3)]].concat());
+        cases.by(&[&many[..], &[(1, Call::Step), at(1, 3), at(1, 3)]].concat());
+    }
+    // Beside a full queue: the other consoles, the other office, and what is looked at first.
+    let full = [&both()[..], &vec![at(1, 3); PLACES]].concat();
+    for (office, console) in [(2, 3), (1, 1), (1, 2), (1, 4), (2, 2), (0, 3), (3, 3), (3, 5), (1, 0), (1, 5), (1, 259)]
+    {
+        cases.by(&[&full[..], &[at(office, console)]].concat());
+    }
+    cases.by(&[&full[..], &[at(1, 3), (1, Call::Show)]].concat());
+    // Nothing is there for these to change.
+    for edit in [Edit::Bar(0, 0), Edit::SetLimit(9, 9), Edit::SetRating(1, 1, 99), Edit::SetLeader(1, 1)] {
+        cases.by(&[(2, Call::Queue(2, edit))]);
+        cases.by(&[(2, Call::Queue(2, edit)), (2, Call::Step)]);
+    }
+}
+
+/// Whose turn it is. 0 stands for a step and another number for the console at which an edit arrives; its limit says
+/// which arrival it was.
+fn turns(cases: &mut Cases) {
+    let one_by_one = [&[1; PLACES][..], &[0; PLACES]].concat();
+    let rows: [&[u32]; 13] = [
+        // Nothing waits: at the start, and later. Such a step leaves the turn.
+        &[0, 1, 2, 0, 0, 0],
+        &[1, 0, 0, 1, 2, 0, 0],
+        // Each in its turn, however they came.
+        &[1, 2, 3, 4, 0, 0, 0, 0],
+        &[4, 3, 2, 1, 0, 0, 0, 0],
+        &[3, 3, 1, 1, 0, 0, 0, 0],
+        &[2, 2, 2, 4, 3, 3, 0, 0, 0, 0, 0, 0],
+        // The one behind the last is the next, also where it had nothing before.
+        &[1, 2, 0, 1, 0, 0],
+        &[2, 0, 2, 3, 0, 0],
+        &[2, 0, 1, 2, 0, 0],
+        &[4, 0, 4, 1, 0, 0],
+        &[1, 4, 0, 2, 3, 0, 0, 0],
+        &[3, 3, 3, 0, 1, 0, 4, 0, 2, 0, 0, 0],
+        // As many as can wait at one.
+        &one_by_one,
+    ];
+    let event = |(at, &number): (u64, &u32)| match number {
+        0 => (1, Call::Step),
+        console => (1, Call::Queue(console, sets(18 + 2 * at))),
+    };
+    let events = |row: &[u32]| (1..).zip(row).map(event).collect::<Vec<_>>();
+    for row in rows {
+        for (at, _) in row.iter().enumerate().filter(|one| *one.1 == 0) {
+            cases.by(&[&both()[..], &events(&row[..=at])].concat());
+        }
+    }
+    // As many as can wait at all.
+    for steps in [1, 4, 5, 31, 32, 33] {
+        let full = [&[1, 2, 3, 4].repeat(PLACES)[..], &vec![0; steps]].concat();
+        cases.by(&[&both()[..], &events(&full)].concat());
+    }
+}
+
+/// A refused edit uses its step, and is gone: one of each refusal, and what comes behind it.
+fn refused_steps(cases: &mut Cases) {
+    let most = u64::from(LIMIT_MOST);
+    for edit in [
+        Edit::Bar(3, 1),
+        Edit::Unbar(1, 3),
+        Edit::SetLimit(3, most + 1),
+        Edit::SetLimit(1, most + 1),
+        Edit::SetRating(1, 1, 51),
+        Edit::SetLeader(2, 2),
+        Edit::SetLeader(3, 3),
+    ] {
+        let waiting = [(1, edit), (1, sets(20)), (2, sets(30))].map(|(console, edit)| (1, Call::Queue(console, edit)));
+        for steps in 1..=4 {
+            cases.by(&[&both()[..], &waiting, &vec![(1, Call::Step); steps]].concat());
+        }
+        cases.by(&[&both()[..], &waiting[..1], &[(1, Call::Step), (1, Call::Step)]].concat());
+    }
+    // Accepted ones: each kind, for either office, and what both then show.
+    for edit in [Edit::Bar(1, 2), Edit::Unbar(3, 1), Edit::SetRating(2, 1, 45), Edit::SetLeader(2, 1), sets(20)] {
+        for office in [1, 2] {
+            cases.by_and_shown(&[&both()[..], &[(office, Call::Queue(4, edit)), (office, Call::Step)]].concat());
+        }
+    }
+}
+
+/// An edit is looked at in its step, by the district that its office holds then.
+fn waiting_through_loads(cases: &mut Cases) {
+    let changes = offices::changes();
+    let [wider, finer] = [changes[23], changes[1]].map(|change| changed(north(), change));
+    // Each is refused for one of the two districts: segment 3, a resource, a rating, and what may be a leader.
+    let edits = [
+        (Edit::Bar(3, 1), [north(), south()]),
+        (Edit::SetLimit(3, 60), [north(), wider]),
+        (Edit::SetRating(2, 2, 41), [north(), finer]),
+        (Edit::SetLeader(3, 2), [north(), south()]),
+        (Edit::SetLeader(2, 1), [bare(north()), north()]),
+    ];
+    for (edit, [one, other]) in edits {
+        for (before, behind) in [(&one, &other), (&other, &one)] {
+            let calls = [(1, load(before)), (1, Call::Queue(2, edit)), (1, load(behind)), (1, Call::Step)];
+            cases.by(&calls);
+            cases.by(&[&calls[..], &[(1, Call::Show)]].concat());
+            cases.by(&[&calls[..], &[(1, Call::Step)]].concat());
+        }
+    }
+    // Loads leave what waits: those of either office, of other tables, and refused ones.
+    let waiting = [(1, Call::Queue(1, sets(20))), (2, Call::Queue(1, Edit::Bar(1, 2)))];
+    for file in [load(&north()), load(&south()), load(&bare(north())), Call::Load(Vec::new()), load(&card())] {
+        for office in [1, 2, 3] {
+            let calls = [&both()[..], &waiting, &[(office, file.clone()), (1, Call::Step), (1, Call::Step)]].concat();
+            cases.by_and_shown(&calls);
+        }
+    }
+    // What is edited at once comes first, and the edit that waits is carried out on what it left.
+    let at_once = [Call::SetLimit(1, 40), Call::Bar(1, 1), Call::SetLeader(2, 1), Call::SetRating(1, 1, 50)];
+    for count in 1..=at_once.len() {
+        let at_once: Vec<(u32, Call)> = at_once[..count].iter().map(|call| (1, call.clone())).collect();
+        cases.by(&[&both()[..], &waiting, &at_once, &[(1, Call::Step)]].concat());
+        cases.by_and_shown(&[&both()[..], &waiting, &at_once, &[(1, Call::Step), (2, Call::Step)]].concat());
+    }
+}
+
+/// An edit that waits is a call of its own behind its console; a step's office only says whose plan is shown.
+fn waiting_as_bytes(cases: &mut Cases) {
+    let both = encode_by(&both());
+    let four = |numbers: &[u32]| numbers.iter().flat_map(|number| number.to_le_bytes()).collect::<Vec<_>>();
+    let queue =
+        |office: u32, kind: u8, body: [u32; 4]| [&[16][..], &four(&[office, 2, 7, 7]), &[kind], &four(&body)].concat();
+    let step = encode_by(&[(1, Call::Step)]);
+    for kind in (0..=19).chain([128, 255]) {
+        for office in [2, 3] {
+            cases.scripts.push([&both[..], &queue(office, kind, [1, 1, 1, 1])].concat());
+        }
+        cases.scripts.push([&both[..], &queue(1, kind, [1, 1, 1, 1]), &step].concat());
+    }
+    // The office that stands in the edit, and numbers that it has no use for.
+    for (office, other) in [(1, 2), (2, 1), (1, 0), (1, 3), (2, u32::MAX), (0, 1), (3, 2)] {
+        let bytes = [&both[..], &queue(office, 4, [other, 1, 20, 9]), &step].concat();
+        for shown in [1, 2] {
+            cases.scripts.push([&bytes[..], &encode_by(&[(shown, Call::Show)])].concat());
+        }
+    }
+    // Cut short: in front of the edit, within it, and behind it.
+    let whole = queue(1, 4, [1, 1, 20, 0]);
+    for length in [16, 17, 18, 33, 34] {
+        cases.scripts.push([&both[..], &whole[..length]].concat());
+        cases.scripts.push([&both[..], &queue(5, 4, [1, 1, 20, 0])[..length]].concat());
+    }
+    cases.scripts.push([&both[..], &whole, &step[..16]].concat());
+    // Steps that take an edit, and that take none.
+    for office in [1, 2, 0, 3, 256, 257, u32::MAX] {
+        let step = encode_by(&[(office, Call::Step)]);
+        cases.scripts.push([&both[..], &step].concat());
+        cases.scripts.push([&both[..], &whole, &step].concat());
+        cases.scripts.push([&both[..], &queue(2, 4, [2, 9, 20, 0]), &step].concat());
+        cases.scripts.push([&both[..], &step, &encode_by(&[(2, Call::Show)])].concat());
+    }
+    cases.by(&[(1, Call::Step)]);
+}
+
+/// Many arrivals and steps, with loads and other calls between them, and what each office shows behind them.
+fn lists_at_consoles(cases: &mut Cases) {
+    for (seed, count) in [(730, 40), (731, 80), (732, 120), (733, 160)] {
+        cases.by_and_shown(&lists::at_consoles(&mut Random::new(seed), count));
     }
 }
 

@@ -124,6 +124,36 @@ fn offices() {
     }
 }
 
+/// Edits that wait at consoles, for the office that was named when they came; steps,
+/// whatever office is named; and what is refused on arrival, in its order.
+#[test]
+fn consoles() {
+    let nothing = "1 0\n2 0\nbenefit 0\nceiling 0\nsteps 0 0 0\n";
+    let input = b"step\nload card.bin\nqueue 2 limit 1 0\nshow\noffice 2\nload card.bin\nqueue 01 bar 3 1\nqueue 2 leader 2 2\n\
+        queue 2 rating 2 1 20\noffice 3\nstep\nstep\noffice 1\nshow\nstep\nstep\nstep\noffice 2\nshow\n";
+    let raised = "1 2\n2 0\nbenefit 5250000\nceiling 5250000\nsteps 0 0 0\n";
+    let expected = format!(
+        "idle\nok\nok\n{CARD_LISTING}ok\nok\nok\nok\nok\nok\nconsole 1 refused 6\nconsole 2 ok\nok\n{nothing}\
+         console 2 refused 14\nconsole 2 ok\nidle\nok\n{raised}"
+    );
+    assert_eq!(answers("consoles", input), expected);
+    // Eight wait; a wrong office, then a wrong console, then a full queue.
+    let full = "queue 4 unbar 9 9\n".repeat(9);
+    let input = format!(
+        "{full}queue 5 unbar 9 9\nqueue 3 unbar 9 9\noffice 0\nqueue 4 bar 1 1\nqueue 5 bar 1 1\nqueue 1 bar 1\nstep\nstep\nstep\n\
+         office 2\nqueue 4 bar 1 1\nqueue 4 bar 1 1\nqueue 4 bar 1 1\n"
+    );
+    let steps = "console 3 refused 6\nconsole 4 refused 6\nconsole 4 refused 6\n";
+    let expected = format!(
+        "{}refused 21\nrefused 20\nok\nok\nrefused 16\nrefused 16\nunknown command\n{steps}ok\nok\nok\nrefused 21\n",
+        "ok\n".repeat(8)
+    );
+    assert_eq!(answers("full", input.as_bytes()), expected);
+    for number in ["0", "5", "257", "4294967297", "18446744073709551615"] {
+        assert_eq!(answers("no-console", format!("queue {number} bar 1 1\n").as_bytes()), "refused 20\n");
+    }
+}
+
 #[test]
 fn refusals_and_failures() {
     let folder = folder("failures");
@@ -229,6 +259,43 @@ fn lines_that_are_no_commands() {
         "office 18446744073709551616",
         "Office 1",
         "offices 1",
+        "queue",
+        "queue ",
+        "queue 1",
+        "queue 1 ",
+        "queue 1 1 1",
+        "queue bar 1 1",
+        "queue 1 bar",
+        "queue 1 bar 1",
+        "queue 1 bar 1 1 1",
+        "queue 1 bar 1 1 ",
+        "queue 1 bar 1 x",
+        "queue 1 bar  1 1",
+        "queue 1  bar 1 1",
+        "queue  1 bar 1 1",
+        "queue 1\tbar 1 1",
+        "queue 1 Bar 1 1",
+        "queue x bar 1 1",
+        "queue -1 bar 1 1",
+        "queue 18446744073709551616 bar 1 1",
+        "queue 000000000000000000001 bar 1 1",
+        "queue 5 bar 1",
+        "queue 1 rating 1 1",
+        "queue 1 show",
+        "queue 1 step",
+        "queue 1 lost",
+        "queue 1 points 1 1 1 0",
+        "queue 1 office 1",
+        "queue 1 load card.bin",
+        "queue 1 queue 1 bar 1 1",
+        "Queue 1 bar 1 1",
+        "queues 1 bar 1 1",
+        "step 1",
+        "step ",
+        " step",
+        "Step",
+        "steps",
+        "step\r",
         "lost 1",
         "lost ",
         " lost",

@@ -5,6 +5,7 @@ mod common;
 
 use common::{card, card_bytes};
 use reference::calls::{decode, encode, encode_by, worked, Call};
+use reference::desk::Desk;
 use reference::district::District;
 use reference::file::{self, LONGEST};
 use reference::lists;
@@ -240,7 +241,7 @@ fn lists_as_bytes() {
     assert_eq!(worked(&encode_by(&both)), nothing);
     assert_eq!(worked(&[]), nothing);
     // Survey points, an office's name and what there is not.
-    for kind in [7, 15, 16, 255] {
+    for kind in [7, 15, 19, 255] {
         let head = |office: u8| [kind, office, 0, 0, 0, 2, 0, 0, 0, 0, 0, 0, 0, 0, 0, 0, 0];
         let list = |office: u8| worked(&[&encode_by(&both)[..], &head(office)].concat());
         assert_eq!(
@@ -276,6 +277,7 @@ fn answered(unit: &mut Unit, call: &Call) -> String {
         Call::Marker(bits) => format!("{:?}", unit.marker(bits)),
         Call::Lost => format!("{:?}", unit.lost()),
         Call::Roughness => format!("{:?}", unit.roughness()),
+        Call::Queue(..) | Call::Step => unreachable!("the lists here have no consoles"),
     }
 }
 
@@ -376,7 +378,9 @@ fn lists_against_the_model() {
             let before = station.clone();
             let answer = of_station(&mut station, *office, call);
             assert_eq!(answer, model.answer(*office, call), "case {case}");
-            if let Err(refusal) = call.make(*office, &mut before.clone()) {
+            let mut desk = Desk::fresh();
+            desk.station = before.clone();
+            if let Err(refusal) = call.make(*office, &mut desk) {
                 refused[usize::from(refusal.number())] += 1;
                 assert_eq!(station, before);
             }

@@ -14,8 +14,11 @@ use Rattle.base.specs.Choice.{pick, only}
 use Rattle.base.proofs.Choice.{and-both}
 use Rattle.base.proofs.Same.{drop-next}
 use Rattle.base.proofs.Parts.{on-dropped}
-use Rattle.command.specs.Reading.{isOf, every, wordOf, restOf, numberIn, firstNumber, afterNumber, withNumber, arguments, at, placed, pathOf, sendOf, countOf}
+use Rattle.command.specs.Reading.{isOf, every, wordOf, restOf, numberIn, firstNumber, afterNumber, withNumber, arguments, at, placed, pathOf, sendOf, editIn, countOf}
+use Rattle.rules.specs.declared.Edit.{Edit}
 use Rattle.rules.specs.declared.Sent.{Sent}
+use Rattle.command.specs.declared.Command as Command
+use Rattle.command.specs.declared.Command.{Command}
 use Rattle.command.specs.declared.Command.the-variants.{Send, Unknown}
 use Rattle.command.specs.declared.Kind.{Kind}
 use Rattle.command.specs.declared.Row.{Row}
@@ -140,6 +143,24 @@ unfolding few
 few-next {rest = rest} {r = r} e h =
     let p = and-both (leb (countOf (r .2)) 4) (few rest) (sym (ap few e) ∙ h) in
     (leb-true _ _ (p .0), p .1)
+
+-- a command that is no edit
+pub no-edit : (c : Command) → ((e : Edit) → ¬ (c ≡ Command.Alter e)) → editIn c ≡ none
+unfolding editIn
+no-edit Command.Nothing unlike = refl
+no-edit Command.Unknown unlike = refl
+no-edit Command.Load unlike = refl
+no-edit Command.Export unlike = refl
+no-edit (Command.Alter e) unlike = absurd (unlike e refl)
+no-edit Command.Show unlike = refl
+no-edit (Command.Points code degree extent seal) unlike = refl
+no-edit Command.Page unlike = refl
+no-edit (Command.Why i j) unlike = refl
+no-edit (Command.Send s) unlike = refl
+no-edit Command.Roughness unlike = refl
+no-edit (Command.Office n) unlike = refl
+no-edit (Command.Queue n e) unlike = refl
+no-edit Command.Step unlike = refl
 
 -- of a number without more than 32 bits these are the number
 pub send-low : (kind : ℕ → Sent) (bits : ℕ) → sendOf bits (kind (bits % 2 ^ 32)) ≡ sendOf bits (kind bits)

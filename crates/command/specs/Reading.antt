@@ -10,6 +10,7 @@ use Rattle.base.specs.Choice.{pick, only}
 use Rattle.base.specs.Over.{between}
 use Rattle.base.specs.Same.{same}
 use Rattle.base.specs.Text.{text, upTo, onFrom, valueFrom, held}
+use Rattle.rules.specs.declared.Edit.{Edit}
 use Rattle.rules.specs.declared.Edit.the-variants.{Bar, Unbar, SetLimit, SetRating, SetLeader}
 use Rattle.rules.specs.declared.Sent.{Sent}
 use Rattle.rules.specs.declared.Sent.the-variants.{Index, Marker, Lost}
@@ -22,7 +23,7 @@ use Rattle.command.specs.declared.Name as Name
 use Rattle.command.specs.declared.Name.{Name}
 use Rattle.command.specs.declared.Row.{Row}
 use Rattle.command.specs.declared.Takes.{Takes}
-use Rattle.command.specs.declared.Takes.the-variants.{Numbers, Path}
+use Rattle.command.specs.declared.Takes.the-variants.{Numbers, Path, Queued}
 
 -- ---- bytes
 
@@ -114,13 +115,15 @@ rows =
     ∷ row "roughness" Name.Roughness (Numbers 0)
     ∷ row "leader" Name.Leader (Numbers 2)
     ∷ row "office" Name.Office (Numbers 1)
+    ∷ row "queue" Name.Queue Queued
+    ∷ row "step" Name.Step (Numbers 0)
     ∷ []
 
 -- a record of the meter with these bits; a float has 32, and a number that has more is no command
 abbrev pub sendOf : ℕ → Sent → Command
 sendOf bits sent = pick (ltb bits (2 ^ 32)) (Command.Send sent) Command.Unknown
 
--- the command of a name, with its numbers
+-- the command of a name, with its numbers; they say no edit that is to wait
 abbrev pub made : Name → (ℕ → ℕ) → Command
 made Name.Load v = Command.Load
 made Name.Export v = Command.Export
@@ -138,6 +141,8 @@ made Name.Lost v = Command.Send Lost
 made Name.Roughness v = Command.Roughness
 made Name.Leader v = Command.Alter (SetLeader (v 0) (v 1))
 made Name.Office v = Command.Office (v 0)
+made Name.Queue v = Command.Unknown
+made Name.Step v = Command.Step
 
 -- the command of the first of some rows, where there is one
 unfoldable pub firstMade : List Row → (ℕ → ℕ) → Command
@@ -148,10 +153,12 @@ firstMade (r ∷ rs) v = made (r .1) v
 unfoldable pub numbered : ℕ → (ℕ → ℕ) → Command
 numbered n v = firstMade (drop n rows) v
 
--- the numbers that stand behind the first word, where what stands there is what the word takes; a path has none
+-- the numbers that stand behind the first word, where what stands there is what the word takes; a path has none, and an edit that is to wait has
+-- them behind a word of its own (queuedIn)
 unfoldable pub taken : Takes → List ℕ → Option (ℕ → ℕ)
 taken (Numbers n) line = placed (arguments n (restOf line))
 taken Path line = only (isPath (pathOf line)) (at [])
+taken Queued line = none
 
 -- a word without what it takes is no command
 unfoldable pub meant : Name → Option (ℕ → ℕ) → Command
@@ -163,6 +170,32 @@ unfoldable pub called : List Row → List ℕ → Command
 called [] line = Command.Unknown
 called (r ∷ rs) line =
     pick (same (wordOf line) (wordOf (r .0))) (meant (r .1) (taken (r .2) line)) (called rs line)
+
+-- the edit that a command is, where it is one
+unfoldable pub editIn : Command → Option Edit
+editIn Command.Nothing = none
+editIn Command.Unknown = none
+editIn Command.Load = none
+editIn Command.Export = none
+editIn (Command.Alter e) = some e
+editIn Command.Show = none
+editIn (Command.Points code degree extent seal) = none
+editIn Command.Page = none
+editIn (Command.Why i j) = none
+editIn (Command.Send s) = none
+editIn Command.Roughness = none
+editIn (Command.Office n) = none
+editIn (Command.Queue n e) = none
+editIn Command.Step = none
+
+-- an edit that is to wait: behind the word stands a console's number, and behind that a command that is an edit
+unfoldable pub queuedAs : Option ℕ → Option Edit → Command
+queuedAs none e = Command.Unknown
+queuedAs (some n) none = Command.Unknown
+queuedAs (some n) (some e) = Command.Queue n e
+
+unfoldable pub queuedIn : List ℕ → Command
+queuedIn line = let rest = pathOf line in queuedAs (numberIn (wordOf rest)) (editIn (called rows (pathOf rest)))
 
 -- it begins with "#"
 unfoldable pub isComment : List ℕ → Bool
@@ -177,7 +210,8 @@ commandIn line =
     pick (isComment line) Command.Nothing
     (pick (ltb longestLine (length line)) Command.Unknown
     (pick (every Space line) Command.Nothing
-    (called rows line)))
+    (pick (same (wordOf line) (text "queue")) (queuedIn line)
+    (called rows line))))
 
 -- ---- what the answers of the code stand for
 
@@ -188,3 +222,4 @@ numbersOf a = only (a .fit) (at (a .numbers))
 abbrev pub countOf : Takes → ℕ
 countOf (Numbers n) = n
 countOf Path = 0
+countOf Queued = 0

@@ -1,10 +1,11 @@
 // A line of the panel as a command, for any bytes at all and any number of them.
 ghost use mathlib.Core.Path.{_≡_};
 ghost use mathlib.Core.List.{_∷_};
+ghost use mathlib.Core.Option.{some};
 ghost use Prim.Native.Nat.{_+_, _≤_, _<_};
 ghost use lib.ListN.{length, drop};
 ghost use Rattle.base.specs.Same.{same as Same·same};
-ghost use Rattle.command.specs.Reading.{every as Reading·every, isSpace, isOf, wordOf, numberIn, firstNumber, afterNumber, arguments, at, placed, pathOf, isPath, rows, sendOf, made, numbered as Reading·numbered, taken, meant, called as Reading·called, isComment, commandIn, numbersOf, countOf};
+ghost use Rattle.command.specs.Reading.{every as Reading·every, isSpace, isOf, wordOf, numberIn, firstNumber, afterNumber, arguments, at, placed, pathOf, isPath, rows, sendOf, made, numbered as Reading·numbered, taken, meant, called as Reading·called, isComment, editIn, queuedAs, queuedIn, commandIn, numbersOf, countOf};
 ghost use Rattle.text.specs.Numbers.{valueOf};
 use rules::Edit;
 use rules::Sent;
@@ -32,6 +33,9 @@ pub enum Command {
     Roughness,
     // Calls of later lines name that office.
     Office(usize),
+    // An edit for a console's queue.
+    Queue(usize, Edit),
+    Step,
 }
 
 pub enum Name {
@@ -51,18 +55,21 @@ pub enum Name {
     Roughness,
     Leader,
     Office,
+    Queue,
+    Step,
 }
 
-// What a word takes: so many numbers, or a path.
+// What a word takes: so many numbers, a path, or a number and an edit.
 pub enum Takes {
     Numbers(usize),
     Path,
+    Queued,
 }
 
 // A word, with blanks behind it up to 9 bytes; what it names; and what it takes.
 pub struct Row(pub [u8; 9], pub Name, pub Takes);
 
-const WORDS: usize = 16;
+const WORDS: usize = 18;
 
 const ROWS: [Row; WORDS] = [
     Row(*b"load     ", Name::Load, Takes::Path),
@@ -81,6 +88,8 @@ const ROWS: [Row; WORDS] = [
     Row(*b"roughness", Name::Roughness, Takes::Numbers(0)),
     Row(*b"leader   ", Name::Leader, Takes::Numbers(2)),
     Row(*b"office   ", Name::Office, Takes::Numbers(1)),
+    Row(*b"queue    ", Name::Queue, Takes::Queued),
+    Row(*b"step     ", Name::Step, Takes::Numbers(0)),
 ];
 
 pub enum Kind {
@@ -295,6 +304,8 @@ fn make(name: Name, numbers: [usize; 4]) -> Command
         Name::Roughness => Command::Roughness,
         Name::Leader => Command::Alter(Edit::SetLeader(a, b)),
         Name::Office => Command::Office(a),
+        Name::Queue => Command::Unknown,
+        Name::Step => Command::Step,
     }
 }
 
@@ -309,7 +320,7 @@ pub fn numbered(row: usize, numbers: [usize; 4]) -> Command
     make(name, numbers)
 }
 
-// The numbers behind the first word; a path has none.
+// The numbers behind the first word; a path has none, and an edit has them behind a word of its own.
 fn take(takes: Takes, line: &[u8]) -> Arguments
     requires { ⌜ countOf takes ≤ 4 ⌝ }
     ensures { λ r. ⌜ numbersOf r ≡ taken takes (now (line .entry)) ⌝ }
@@ -318,6 +329,10 @@ fn take(takes: Takes, line: &[u8]) -> Arguments
         Takes::Numbers(n) => read_arguments(line, text::find(line, BLANK), n),
         Takes::Path => Arguments {
             fit: is_path(path(line)),
+            numbers: [0; 4],
+        },
+        Takes::Queued => Arguments {
+            fit: false,
             numbers: [0; 4],
         },
     }
@@ -353,6 +368,29 @@ fn called(line: &[u8]) -> Command
     Command::Unknown
 }
 
+// The edit that a command is, for the queue of console n.
+fn queue_edit(n: usize, command: Command) -> Command
+    ensures { λ r. ⌜ r ≡ queuedAs (some n) (editIn command) ⌝ }
+{
+    if let Command::Alter(e) = command {
+        return Command::Queue(n, e);
+    }
+    Command::Unknown
+}
+
+// Behind the word a console's number, and behind that an edit.
+fn queue(line: &[u8]) -> Command
+    ensures { λ r. ⌜ r ≡ queuedIn (now (line .entry)) ⌝ }
+{
+    let rest = path(line);
+    let end = text::find(rest, BLANK);
+    let number = read_number(&rest[..end]);
+    match number {
+        Number::Is(n) => queue_edit(n, called(path(rest))),
+        Number::Not => Command::Unknown,
+    }
+}
+
 fn is_comment(line: &[u8]) -> bool
     ensures { λ r. ⌜ r ≡ isComment (now (line .entry)) ⌝ }
 {
@@ -373,6 +411,9 @@ pub fn parse(line: &[u8]) -> Command
     }
     if every(Kind::Space, line) {
         return Command::Nothing;
+    }
+    if same_word(line, b"queue") {
+        return queue(line);
     }
     called(line)
 }

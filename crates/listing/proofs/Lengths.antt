@@ -7,16 +7,22 @@ use Rattle.base.specs.Text.{text, mostDigits, decimal}
 use Rattle.base.proofs.Text.{decimal-few}
 use Rattle.rules.specs.District.{mostSegments}
 use Rattle.rules.specs.declared.Programme.{Programme}
-use Rattle.listing.specs.Listing.{named, line, segmentLine, strategyLine, segmentLines, stepsLine, results, listing, refusal, pairLine, overLine, longestLineOf, longestPairOf, longestRefusal, longestReason, longestSegmentLine, longestStepsLine, longestListing}
+use Rattle.rules.specs.declared.Answer.{Answer}
+use Rattle.rules.specs.declared.Answer.the-variants.{Accepted, Refused}
+use Rattle.listing.specs.Listing.{named, ended, line, segmentLine, strategyLine, segmentLines, stepsLine, results, listing, refusal, done, carried, pairLine, overLine, longestLineOf, longestPairOf, longestRefusal, longestStepped, longestReason, longestSegmentLine, longestStepsLine, longestListing}
 use Rattle.listing.proofs.Lines.{lines-few}
 
 pub named-few : (word : List ℕ) (n : ℕ) → length (named word n) ≤ length word + mostDigits
 unfolding named
 named-few word n = omega (arith, length-append word (decimal n), decimal-few n)
 
+ended-few : (word : List ℕ) (n : ℕ) (end : List ℕ) → length (ended word n end) ≤ length word + mostDigits + length end
+unfolding ended
+ended-few word n end = omega (arith, length-append (named word n) end, named-few word n)
+
 line-few : (word : List ℕ) (n : ℕ) → length (line word n) ≤ longestLineOf (length word)
 unfolding line text
-line-few word n = omega (arith, length-append (named word n) (text "\n"), named-few word n)
+line-few word n = ended-few word n (text "\n")
 
 pub line-fits : (word : List ℕ) (n room : ℕ) → longestLineOf (length word) ≤ room → length (line word n) ≤ room
 line-fits word n room h = omega (arith, line-few word n)
@@ -24,6 +30,20 @@ line-fits word n room h = omega (arith, line-few word n)
 pub refusal-few : (n : ℕ) → length (refusal n) ≤ longestRefusal
 unfolding refusal text
 refusal-few n = line-few (text "refused ") n
+
+done-few : (answer : Answer) → length (done answer) ≤ longestRefusal
+unfolding done text
+done-few (Accepted value) = omega arith
+done-few (Refused n) = refusal-few n
+
+-- a console, and with it any answer
+pub console-fits : (n room : ℕ) → longestStepped ≤ room → length (ended (text "console ") n (text " ")) + longestRefusal ≤ room
+unfolding text
+console-fits n room h = omega (arith, ended-few (text "console ") n (text " "))
+
+pub carried-fits : (n : ℕ) (answer : Answer) (room : ℕ) → longestStepped ≤ room → length (carried n answer) ≤ room
+unfolding carried
+carried-fits n answer room h = omega (arith, length-append (ended (text "console ") n (text " ")) (done answer), console-fits n room h, done-few answer)
 
 pub pair-fits :
     (first : List ℕ) (a : ℕ) (second : List ℕ) (b room : ℕ) → longestPairOf (length first) (length second) ≤ room
@@ -34,7 +54,7 @@ pair-fits first a second b room h =
 
 pub over-fits : (r : ℕ) (end : List ℕ) (room : ℕ) → length end ≤ 40 → longestReason ≤ room → length (overLine r end) ≤ room
 unfolding overLine text
-over-fits r end room h few = omega (arith, length-append (named (text "over limit ") r) end, named-few (text "over limit ") r)
+over-fits r end room h few = omega (arith, ended-few (text "over limit ") r end)
 
 segment-few : (i j : ℕ) → length (segmentLine i j) ≤ longestSegmentLine
 unfolding segmentLine text

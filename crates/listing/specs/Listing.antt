@@ -1,7 +1,9 @@
 -- What the programs print.
 use Prim.Native.Nat.{ℕ, zero, suc, _+_, _-_, _*_, min}
 use mathlib.Core.List.{List, [], _++_}
+use lib.Dec.{eqb}
 use lib.ListN.{getD}
+use Rattle.base.specs.Choice.{pick}
 use Rattle.base.specs.Text.{text, mostDigits, decimal}
 use Rattle.rules.specs.District.{mostSegments, segmentsOf}
 use Rattle.rules.specs.declared.Unit.{Unit}
@@ -17,12 +19,15 @@ use Rattle.rules.specs.declared.Why as Why
 use Rattle.rules.specs.declared.Why.{Why}
 use Rattle.rules.specs.declared.Why.the-variants.{Because}
 
--- a word and a number, and the same as a line
+-- a word and a number, the same with an end behind them, and as a line
 unfoldable pub named : List ℕ → ℕ → List ℕ
 named word n = word ++ decimal n
 
+unfoldable pub ended : List ℕ → ℕ → List ℕ → List ℕ
+ended word n end = named word n ++ end
+
 unfoldable pub line : List ℕ → ℕ → List ℕ
-line word n = named word n ++ text "\n"
+line word n = ended word n (text "\n")
 
 -- two numbers in a line, each behind its word
 unfoldable pub pairLine : List ℕ → ℕ → List ℕ → ℕ → List ℕ
@@ -74,6 +79,14 @@ unfoldable pub done : Answer → List ℕ
 done (Accepted value) = text "ok\n"
 done (Refused n) = refusal n
 
+-- of an edit that a step carried out, with the number of its console
+unfoldable pub carried : ℕ → Answer → List ℕ
+carried n answer = ended (text "console ") n (text " ") ++ done answer
+
+-- of a step; 0 for the number says that no edit waited
+unfoldable pub stepped : ℕ → Answer → List ℕ
+stepped n answer = pick (eqb n 0) (text "idle\n") (carried n answer)
+
 -- of a load, with the programme
 unfoldable pub planned : Answer → Unit → List ℕ
 planned (Accepted value) u = shown u
@@ -86,7 +99,7 @@ valued word (Refused n) = refusal n
 
 -- why: of a reason, a line with what it names
 unfoldable pub overLine : ℕ → List ℕ → List ℕ
-overLine r end = named (text "over limit ") r ++ end
+overLine r end = ended (text "over limit ") r end
 
 unfoldable pub reasonLine : Reason → List ℕ
 reasonLine InProgramme = text "in the programme\n"
@@ -120,6 +133,10 @@ longestLineOf n = n + mostDigits + 1
 
 abbrev pub longestRefusal : ℕ
 longestRefusal = longestLineOf 8
+
+-- of a step: its word, the number and a blank, and a refusal
+abbrev pub longestStepped : ℕ
+longestStepped = 8 + mostDigits + 1 + longestRefusal
 
 -- with two words, of m and n bytes
 abbrev pub longestPairOf : ℕ → ℕ → ℕ

@@ -4,7 +4,7 @@ ghost use mathlib.Core.Path.{_≡_};
 ghost use Prim.Native.Nat.{_+_, _≤_, min};
 ghost use lib.ListN.{length, take};
 ghost use Rattle.base.specs.Text.{decimal, Writes, Put};
-ghost use Rattle.listing.specs.Listing.{named, line, segmentLine, segmentLines, stepsLine, results, listing, shown, refusal, done, planned, valued, pairLine, overLine, reasonLine, explained, told, failed, longestRefusal, longestReason, longestRoughness, longestListing};
+ghost use Rattle.listing.specs.Listing.{named, ended, line, segmentLine, segmentLines, stepsLine, results, listing, shown, refusal, done, carried, stepped, planned, valued, pairLine, overLine, reasonLine, explained, told, failed, longestRefusal, longestStepped, longestReason, longestRoughness, longestListing};
 ghost use Rattle.rules.specs.District.{mostSegments};
 use rules::Answer;
 use rules::Programme;
@@ -45,7 +45,7 @@ pub fn put_number(out: &mut [u8], value: usize) -> usize
     at + 1
 }
 
-// A word and a number, and the same as a line.
+// A word and a number, the same with an end behind them, and as a line.
 pub fn put_named(out: &mut [u8], word: &[u8], value: usize) -> usize
     requires { ⌜ length (named (now word) value) ≤ length (now out) ⌝ }
     ensures { λ r. ⌜ Put (named (now (word .entry)) value) (now (out .entry)) (now (out .exit)) r ⌝ }
@@ -54,12 +54,19 @@ pub fn put_named(out: &mut [u8], word: &[u8], value: usize) -> usize
     at + put_number(&mut out[at..], value)
 }
 
+fn put_ended(out: &mut [u8], word: &[u8], value: usize, end: &[u8]) -> usize
+    requires { ⌜ length (ended (now word) value (now end)) ≤ length (now out) ⌝ }
+    ensures { λ r. ⌜ Put (ended (now (word .entry)) value (now (end .entry))) (now (out .entry)) (now (out .exit)) r ⌝ }
+{
+    let at = put_named(out, word, value);
+    at + put(&mut out[at..], end)
+}
+
 fn put_line(out: &mut [u8], word: &[u8], value: usize) -> usize
     requires { ⌜ length (line (now word) value) ≤ length (now out) ⌝ }
     ensures { λ r. ⌜ Put (line (now (word .entry)) value) (now (out .entry)) (now (out .exit)) r ⌝ }
 {
-    let at = put_named(out, word, value);
-    at + put(&mut out[at..], b"\n")
+    put_ended(out, word, value, b"\n")
 }
 
 // Two numbers in a line, each behind its word.
@@ -158,6 +165,26 @@ pub fn put_done(out: &mut [u8], answer: Answer) -> usize
     }
 }
 
+// Of an edit that a step carried out, with its console.
+fn put_carried(out: &mut [u8], console: usize, answer: Answer) -> usize
+    requires { ⌜ longestStepped ≤ length (now out) ⌝ }
+    ensures { λ r. ⌜ Put (carried console answer) (now (out .entry)) (now (out .exit)) r ⌝ }
+{
+    let at = put_ended(out, b"console ", console, b" ");
+    at + put_done(&mut out[at..], answer)
+}
+
+// Of a step; console 0 says that no edit waited.
+pub fn put_stepped(out: &mut [u8], console: usize, answer: Answer) -> usize
+    requires { ⌜ longestStepped ≤ length (now out) ⌝ }
+    ensures { λ r. ⌜ Put (stepped console answer) (now (out .entry)) (now (out .exit)) r ⌝ }
+{
+    if console == 0 {
+        return put(out, b"idle\n");
+    }
+    put_carried(out, console, answer)
+}
+
 // Of a load, with the programme.
 pub fn put_planned(out: &mut [u8], answer: Answer, u: Unit) -> usize
     requires { ⌜ longestListing ≤ length (now out) ⌝ }
@@ -185,8 +212,7 @@ fn put_over(out: &mut [u8], resource: usize, end: &[u8]) -> usize
     requires { ⌜ length (overLine resource (now end)) ≤ length (now out) ⌝ }
     ensures { λ r. ⌜ Put (overLine resource (now (end .entry))) (now (out .entry)) (now (out .exit)) r ⌝ }
 {
-    let at = put_named(out, b"over limit ", resource);
-    at + put(&mut out[at..], end)
+    put_ended(out, b"over limit ", resource, end)
 }
 
 fn put_reason(out: &mut [u8], reason: Reason) -> usize

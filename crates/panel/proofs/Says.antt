@@ -1,7 +1,7 @@
 -- How long an exported file and a complaint are at most; and from what a command says to what is claimed of a line.
 use Prim.Native.Nat.{ℕ, _+_, _≤_}
 use mathlib.Core.Bool.{Bool, true, false}
-use mathlib.Core.List.{List, _++_}
+use mathlib.Core.List.{List, [], _++_}
 use mathlib.Core.Path.{_≡_, refl, sym, ap, subst, _∙_}
 use native.Mathlib.Omega.{arith}
 use lib.Dec.{leb}
@@ -13,7 +13,8 @@ use Rattle.rules.specs.Answers.{noSuchOffice, bufferTooShort, unless, answerOf}
 use Rattle.rules.specs.Calls.{exportRefusal, exported, exportOf}
 use Rattle.rules.specs.File.{encode}
 use Rattle.rules.specs.Lists.{ExportTo, outcomeOf}
-use Rattle.rules.specs.Offices.{Held, OfficeCall, Plan, officeOutcome}
+use Rattle.rules.specs.Offices.{Held, Plan, officeOutcome}
+use Rattle.rules.specs.Desks.{Desk, Event}
 use Rattle.rules.specs.Stations.{Which, Both, own, numberOf, callOf, bringsTables, StationOutcome, stationOutcome}
 use Rattle.rules.specs.declared.Answer.the-variants.{Accepted}
 use Rattle.rules.specs.declared.Unit.{Unit}
@@ -25,11 +26,12 @@ use Rattle.office.specs.declared.Office.{Office}
 use Rattle.station.proofs.Numbers.{office-named, nobody-named, of-unit}
 use Rattle.station.proofs.Questions.{told-nobody, told-named}
 use Rattle.station.proofs.Replies.{refused-not}
-use Rattle.station.specs.Kept.{isOffice, officeIn, KeepsBoth, ReportsBoth}
+use Rattle.station.specs.Kept.{isOffice, officeIn, KeepsBoth}
 use Rattle.station.specs.declared.Station.{Station}
-use Rattle.station.specs.declared.StationReply.{StationReply}
+use Rattle.desk.specs.Kept.{KeepsDesk, ReportsEvent}
+use Rattle.desk.specs.declared.DeskReply.{DeskReply}
 use Rattle.panel.specs.Console as Console
-use Rattle.panel.specs.Console.{State, stateOf, outcome, called, printedFor, printed, said, after, LineLeads, KeepsState, Says, Tells, Turns}
+use Rattle.panel.specs.Console.{State, stateOf, answered, happened, printedFor, printed, said, after, LineLeads, KeepsState, Says, Tells, Turns}
 use Rattle.panel.specs.Lines.{Keeping, Leads}
 use Rattle.panel.specs.declared.Console.{Console}
 use Rattle.panel.specs.declared.Turn.{Turn}
@@ -73,46 +75,50 @@ path-short line path most e h = omega (arith, ap length e, path-fits line)
 
 module _ (print : Unit → List ℕ) (s : Station) (b : Both Held) (n : ℕ) (k : KeepsBoth s b) where
   pub printed-own :
-      (o : Office) → ((w : Which) → n ≡ numberOf w → o ≡ officeIn w s) → isOffice n ≡ true → print (o .unit) ≡ printed print (stateOf b n)
+      (o : Office) → ((w : Which) → n ≡ numberOf w → o ≡ officeIn w s) → isOffice n ≡ true → print (o .unit) ≡ printed print b n
   printed-own o is e = of-unit print (λ w. printedFor w print b) s n o is e b k (λ w. refl)
 
-  pub printed-none : isOffice n ≡ false → refusal noSuchOffice ≡ printed print (stateOf b n)
+  pub printed-none : isOffice n ≡ false → refusal noSuchOffice ≡ printed print b n
   printed-none e = rw (nobody-named n e)
 
 -- ---- what is told
 
 -- nothing changes
 pub stays :
-    {c : Console} {b : Both Held} {bs old new : List ℕ} {n : ℕ} → KeepsBoth (c .station) b → Put bs old new n
-    → Tells (stateOf b (c .office)) bs old new (record { console = c; length = n })
-stays k p = record { keeps = record { station = k; office = refl }; put = p }
+    {c : Console} {h : Desk} {bs old new : List ℕ} {n : ℕ} → KeepsDesk (c .desk) h → Put bs old new n
+    → Tells (stateOf h (c .office)) bs old new (record { console = c; length = n })
+stays k p = record { keeps = record { desk = k; office = refl }; put = p }
+
+-- and nothing is said
+pub silent : {c : Console} {h : Desk} {old : List ℕ} → KeepsDesk (c .desk) h → Tells (stateOf h (c .office)) [] old old (record { console = c; length = 0 })
+silent k = stays k record { count = refl; bytes = refl }
 
 pub tells : {c : Console} {s : State} {bs old new : List ℕ} {r : Turn} → Says c bs old new r → KeepsState c s → Tells s bs old new r
 tells p k = record { keeps = rw (p .console) k; put = p .put }
 
--- the reply to a call
+-- the reply to an event
 pub replied :
-    {n : ℕ} {b : Both Held} {call : OfficeCall} {reply : StationReply} {old new : List ℕ} {r : Turn}
-    → ReportsBoth b (callOf n call) reply
-    → Says (record { station = reply .station; office = n }) (done (reply .answer)) old new r
-    → Tells (called (stateOf b n) call) (done (outcome (stateOf b n) call .answer)) old new r
-replied p q = tells (rw (p .answer) at q) record { station = p .station; office = refl }
+    {n : ℕ} {h : Desk} {e : Event} {reply : DeskReply} {old new : List ℕ} {r : Turn}
+    → ReportsEvent h e reply
+    → Says (record { desk = reply .desk; office = n }) (done (reply .answer)) old new r
+    → Tells (happened (stateOf h n) e) (done (answered (stateOf h n) e)) old new r
+replied p q = tells (rw (p .answer) at q) record { desk = p .desk; office = refl }
 
 -- ---- where a line leads
 
 pub turns : {R : State → List ℕ → Type 0} {s : State} {bs old new : List ℕ} {r : Turn} → Tells s bs old new r → R s bs → Turns R old new r
 turns {s = s} {bs = bs} t l = record { state = s; bytes = bs; leads = l; tells = t }
 
--- from what both hold to what the console keeps
+-- from what the desk keeps to what the console keeps
 of-state :
-    {c : Console} {s : State} (P : State → Type 0) → KeepsState c s → ((b : Both Held) → KeepsBoth (c .station) b → P (stateOf b (c .office))) → P s
-of-state {s = s} P k f = rw (k .office) at (f (s .held) (k .station))
+    {c : Console} {s : State} (P : State → Type 0) → KeepsState c s → ((h : Desk) → KeepsDesk (c .desk) h → P (stateOf h (c .office))) → P s
+of-state {s = s} P k f = rw (k .office) at (f (s .desk) (k .desk))
 
 -- a command with a file
 pub turns-file :
     (R : State → List ℕ → State → List ℕ → Type 0) {c : Console} {s : State} {line path old new : List ℕ} {r : Turn} → KeepsState c s
     → path ≡ pathOf line → ((t : State) (bs : List ℕ) → R s (pathOf line) t bs → LineLeads s line t bs)
-    → ((b : Both Held) → KeepsBoth (c .station) b → Turns (R (stateOf b (c .office)) path) old new r) → Turns (LineLeads s line) old new r
+    → ((h : Desk) → KeepsDesk (c .desk) h → Turns (R (stateOf h (c .office)) path) old new r) → Turns (LineLeads s line) old new r
 turns-file R {s = s} {path = path} {old = old} {new = new} {r = r} k e f p =
     let t = of-state (λ s. Turns (R s path) old new r) k p in
     let leads = subst (λ (x : List ℕ). R s x (t .state) (t .bytes)) e (t .leads) in
@@ -122,7 +128,7 @@ turns-file R {s = s} {path = path} {old = old} {new = new} {r = r} k e f p =
 pub turns-other :
     {c : Console} {s : State} {command : Command} {line old new : List ℕ} {r : Turn} → KeepsState c s → command ≡ commandIn line
     → ¬ (command ≡ Command.Load) → ¬ (command ≡ Command.Export)
-    → ((b : Both Held) → KeepsBoth (c .station) b → Tells (after (stateOf b (c .office)) command) (said (stateOf b (c .office)) command) old new r)
+    → ((h : Desk) → KeepsDesk (c .desk) h → Tells (after (stateOf h (c .office)) command) (said (stateOf h (c .office)) command) old new r)
     → Turns (LineLeads s line) old new r
 turns-other {command = command} {old = old} {new = new} {r = r} k e l x p =
     turns (rw e at (of-state (λ s. Tells (after s command) (said s command) old new r) k p))

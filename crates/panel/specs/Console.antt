@@ -11,16 +11,20 @@ use Rattle.rules.specs.Lists as Lists
 use Rattle.rules.specs.Lists.{ExportTo}
 use Rattle.rules.specs.Offices as Offices
 use Rattle.rules.specs.Offices.{Held, OfficeCall, Plan}
-use Rattle.rules.specs.Stations.{Which, Both, own, officeOf, freshBoth, callOf, StationOutcome, stationOutcome}
+use Rattle.rules.specs.Stations.{Which, Both, own, officeOf, callOf}
+use Rattle.rules.specs.Desks as Desks
+use Rattle.rules.specs.Desks.{Desk, freshDesk, stepOf, Event, Arrive, Ask, deskBy, answerTo}
 use Rattle.rules.specs.Survey.{surveyOf}
+use Rattle.rules.specs.declared.Answer.{Answer}
 use Rattle.rules.specs.declared.Answer.the-variants.{Accepted}
+use Rattle.rules.specs.declared.Edit.{Edit}
 use Rattle.rules.specs.declared.Unit.{Unit}
 use Rattle.command.specs.Reading.{pathOf, commandIn}
 use Rattle.command.specs.declared.Command.{Command}
-use Rattle.command.specs.declared.Command.the-variants.{Nothing, Unknown, Load, Export, Alter, Show, Points, Page, Why, Send, Roughness, Office}
-use Rattle.listing.specs.Listing.{shown, refusal, done, valued, explained, told, failed}
+use Rattle.command.specs.declared.Command.the-variants.{Nothing, Unknown, Load, Export, Alter, Show, Points, Page, Why, Send, Roughness, Office, Queue, Step}
+use Rattle.listing.specs.Listing.{shown, refusal, done, valued, explained, told, stepped, failed}
 use Rattle.pages.specs.Printed.{pageHeld, longestPage}
-use Rattle.station.specs.Kept.{KeepsBoth}
+use Rattle.desk.specs.Kept.{KeepsDesk}
 use Rattle.station.specs.Questions.{whyFor, roughnessFor}
 use Rattle.panel.specs.declared.Console.{Console}
 use Rattle.panel.specs.declared.Turn.{Turn}
@@ -29,24 +33,31 @@ use Rattle.panel.specs.declared.Turn.{Turn}
 abbrev pub longestAnswer : ℕ
 longestAnswer = longestPage
 
--- what the console goes by: what both offices hold, and the number of the office that calls name
+-- what the console goes by: a desk, and the number of the office that calls name
 pub record State : Type 0 where
-  pub held : Both Held
+  pub desk : Desk
   pub office : ℕ
 
-abbrev pub stateOf : Both Held → ℕ → State
-stateOf b n = record { held = b; office = n }
+abbrev pub stateOf : Desk → ℕ → State
+stateOf d n = record { desk = d; office = n }
 
 -- before the first line
 abbrev pub start : State
-start = stateOf freshBoth 1
+start = stateOf freshDesk 1
 
--- what a call of the office that is named does, and what the console goes by then
-abbrev pub outcome : State → OfficeCall → StationOutcome
-outcome s c = stationOutcome (s .held) (callOf (s .office) c)
+-- a call of the office that is named, and an edit of it that is to wait
+abbrev pub asking : State → OfficeCall → Event
+asking s c = Ask (callOf (s .office) c)
 
-abbrev pub called : State → OfficeCall → State
-called s c = stateOf (outcome s c .held) (s .office)
+abbrev pub queueing : State → ℕ → Edit → Event
+queueing s n e = Arrive n (record { office = s .office; edit = e })
+
+-- what an event answers, and what the console goes by then
+abbrev pub answered : State → Event → Answer
+answered s e = answerTo (s .desk) e
+
+abbrev pub happened : State → Event → State
+happened s e = stateOf (deskBy (s .desk) e) (s .office)
 
 -- ---- commands without a file; a load and an export have theirs below
 
@@ -55,8 +66,8 @@ abbrev pub printedFor : Option Which → (Unit → List ℕ) → Both Held → L
 printedFor none print b = refusal noSuchOffice
 printedFor (some w) print b = print (own w b .unit)
 
-abbrev pub printed : (Unit → List ℕ) → State → List ℕ
-printed print s = printedFor (officeOf (s .office)) print (s .held)
+abbrev pub printed : (Unit → List ℕ) → Both Held → ℕ → List ℕ
+printed print b n = printedFor (officeOf n) print b
 
 -- the points of a survey are no office's
 unfoldable pub said : State → Command → List ℕ
@@ -64,14 +75,16 @@ said s Nothing = []
 said s Unknown = text "unknown command\n"
 said s Load = []
 said s Export = []
-said s (Alter e) = done (outcome s (Plan (Lists.Alter e)) .answer)
-said s Show = printed shown s
+said s (Alter e) = done (answered s (asking s (Plan (Lists.Alter e))))
+said s Show = printed shown (s .desk .held) (s .office)
 said s (Points c d e x) = valued (text "points ") (surveyOf c d e x)
-said s Page = printed pageHeld s
-said s (Why i j) = explained (whyFor (officeOf (s .office)) (s .held) i j)
-said s (Send x) = done (outcome s (Offices.Send x) .answer)
-said s Roughness = told (roughnessFor (officeOf (s .office)) (s .held))
+said s Page = printed pageHeld (s .desk .held) (s .office)
+said s (Why i j) = explained (whyFor (officeOf (s .office)) (s .desk .held) i j)
+said s (Send x) = done (answered s (asking s (Offices.Send x)))
+said s Roughness = told (roughnessFor (officeOf (s .office)) (s .desk .held))
 said s (Office n) = text "ok\n"
+said s (Queue n e) = done (answered s (queueing s n e))
+said s Step = stepped (stepOf (s .desk) .console) (answered s Desks.Step)
 
 -- any number can be named; a call then tells whether an office has it
 unfoldable pub after : State → Command → State
@@ -79,28 +92,37 @@ after s Nothing = s
 after s Unknown = s
 after s Load = s
 after s Export = s
-after s (Alter e) = called s (Plan (Lists.Alter e))
+after s (Alter e) = happened s (asking s (Plan (Lists.Alter e)))
 after s Show = s
 after s (Points c d e x) = s
 after s Page = s
 after s (Why i j) = s
-after s (Send x) = called s (Offices.Send x)
+after s (Send x) = happened s (asking s (Offices.Send x))
 after s Roughness = s
-after s (Office n) = stateOf (s .held) n
+after s (Office n) = stateOf (s .desk) n
+after s (Queue n e) = happened s (queueing s n e)
+after s Step = happened s Desks.Step
 
 -- ---- commands with a file: what the file held, and whether one could be written, no contract can tell
 
+-- a load of a file's bytes, and an export into a buffer
+abbrev pub loading : State → List ℕ → Event
+loading s file = asking s (Plan (Lists.Load file))
+
+abbrev pub exporting : State → List ℕ → Event
+exporting s buffer = asking s (Plan (ExportTo buffer))
+
 -- a load leads from s to another state and says some bytes: the answer to the bytes that were read, or that none were
 pub data Loads (s : State) (path : List ℕ) : State → List ℕ → Type 0 where
-  read : (file : List ℕ) → Loads s path (called s (Plan (Lists.Load file))) (done (outcome s (Plan (Lists.Load file)) .answer))
+  read : (file : List ℕ) → Loads s path (happened s (loading s file)) (done (answered s (loading s file)))
   unopened : Loads s path s (failed (text "cannot open ") path)
   unread : Loads s path s (failed (text "cannot read ") path)
 
 -- an export leaves all as it is; every file of a district has room in the longest, and none is made where the call is refused
 pub data Exports (s : State) (path : List ℕ) : State → List ℕ → Type 0 where
-  written : (buffer : List ℕ) → length buffer ≡ longestFile → Exports s path s (valued (text "ok ") (outcome s (Plan (ExportTo buffer)) .answer))
+  written : (buffer : List ℕ) → length buffer ≡ longestFile → Exports s path s (valued (text "ok ") (answered s (exporting s buffer)))
   unwritten :
-      (buffer : List ℕ) (n : ℕ) → length buffer ≡ longestFile → outcome s (Plan (ExportTo buffer)) .answer ≡ Accepted n
+      (buffer : List ℕ) (n : ℕ) → length buffer ≡ longestFile → answered s (exporting s buffer) ≡ Accepted n
       → Exports s path s (failed (text "cannot write ") path)
 
 -- ---- lines
@@ -116,7 +138,7 @@ pub data LineLeads (s : State) (line : List ℕ) : State → List ℕ → Type 0
 -- ---- and in the console
 
 pub record KeepsState (c : Console) (s : State) : Type 0 where
-  pub station : KeepsBoth (c .station) (s .held)
+  pub desk : KeepsDesk (c .desk) (s .desk)
   pub office : c .office ≡ s .office
 
 -- the console c, and bs over the front of a buffer that held `old` and then holds `new`

@@ -1,21 +1,23 @@
--- The lines of the input, one after another, from offices that calls lead to.
+-- The lines of the input, one after another, from a desk that events lead to.
 use Prim.Native.Nat.{ℕ, _+_, _≤_}
 use mathlib.Core.List.{List, [], _∷_, _++_}
 use mathlib.Core.Path.{_≡_}
 use lib.ListN.{length, take}
 use Rattle.rules.specs.Calls.{showOf}
 use Rattle.rules.specs.Demands.{Sound}
-use Rattle.rules.specs.Stations.{Which, StationCall, stationAfter}
-use Rattle.station.specs.Kept.{officeIn, KeepsBoth}
+use Rattle.rules.specs.Desks.{Event, deskAfter}
+use Rattle.rules.specs.Stations.{Which}
+use Rattle.station.specs.Kept.{officeIn}
+use Rattle.desk.specs.Kept.{KeepsDesk}
 use Rattle.command.specs.Reading.{longestLine}
 use Rattle.panel.specs.Console.{State, LineLeads, KeepsState}
 use Rattle.panel.specs.declared.Console.{Console}
 use Rattle.panel.specs.declared.Turn.{Turn}
 
--- a console whose offices keep what a list of calls leads to
-pub record ByCalls (c : Console) : Type 0 where
-  pub calls : List StationCall
-  pub keeps : KeepsBoth (c .station) (stationAfter calls)
+-- a console whose desk keeps what a list of events leads to
+pub record ByEvents (c : Console) : Type 0 where
+  pub events : List Event
+  pub keeps : KeepsDesk (c .desk) (deskAfter events)
 
 -- a console that keeps a state that R is said of
 pub record Keeping (R : State → Type 0) (c : Console) : Type 0 where
@@ -30,11 +32,11 @@ pub record Leads (s : State) (line : List ℕ) (t : State) : Type 0 where
 
 -- p is the console after a line
 pub record Answered (c : Console) (line : List ℕ) (p : Console) : Type 0 where
-  -- it keeps what the line leads to, from all that may be held before, and calls lead to it too
+  -- it keeps what the line leads to, from all that may be held before, and events lead to it too
   pub led : (s : State) → KeepsState c s → Keeping (Leads s line) p
-  pub reached : ByCalls p
+  pub reached : ByEvents p
   -- demand 3 of each office, of the programme that a show prints
-  pub sound : (w : Which) → Sound (officeIn w (c .station) .unit .district) (showOf (officeIn w (c .station) .unit))
+  pub sound : (w : Which) → Sound (officeIn w (c .desk .station) .unit .district) (showOf (officeIn w (c .desk .station) .unit))
 
 -- of a line only the first bytes are kept: enough to know that it is too long
 abbrev pub keptBytes : ℕ
@@ -65,4 +67,4 @@ FedTo s line bytes last t = Feeds s line bytes t last
 pub record Fed (c : Console) (line bytes buffer : List ℕ) (r : Turn) : Type 0 where
   pub within : r .length ≤ length buffer
   pub fed : (s : State) → KeepsState c s → Keeping (FedTo s line bytes (take (r .length) buffer)) (r .console)
-  pub reached : ByCalls (r .console)
+  pub reached : ByEvents (r .console)

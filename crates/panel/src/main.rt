@@ -1,33 +1,38 @@
-// A console over two offices on one unit, fresh at its start: each line of standard input is a command, answered on
-// standard output. The end of the input ends it.
+// A console over a desk, two offices on one unit with four queues before them, fresh at its start: each line of standard
+// input is a command, answered on standard output. The end of the input ends it.
 mod files;
 
 ghost use Prim.Native.Nat.{_≤_};
 ghost use mathlib.Core.Path.{_≡_};
 ghost use lib.ListN.{length, take};
 ghost use Rattle.base.specs.Text.{Put};
+ghost use Rattle.command.specs.declared.Command.the-variants.{Step};
 ghost use Rattle.listing.specs.Listing.{shown, done, failed as Listing·failed};
 ghost use Rattle.pages.specs.Printed.{pageHeld};
+ghost use Rattle.rules.specs.Desks as Desks;
 ghost use Rattle.rules.specs.Offices.{Held};
 ghost use Rattle.rules.specs.Stations.{Both};
 ghost use Rattle.station.specs.Kept.{KeepsBoth};
+ghost use Rattle.desk.specs.Kept.{KeepsDesk};
 ghost use Rattle.panel.specs.Console.{longestAnswer, State, start as Console·start, stateOf, printed, said, after, Loads, Exports, LineLeads, KeepsState, Says, Tells, Turns};
-ghost use Rattle.panel.specs.Lines.{keptBytes, ByCalls, Answered, Grows, Fed};
+ghost use Rattle.panel.specs.Lines.{keptBytes, ByEvents, Answered, Grows, Fed};
 use command::Command;
+use desk::Desk;
+use desk::DeskReply;
 use libc::STDIN_FILENO;
 use libc::STDOUT_FILENO;
 use rules::Answer;
+use rules::Waiting;
 use rules::records::LONGEST_FILE;
 use rules::refusals::NO_SUCH_OFFICE;
 use station::Station;
-use station::StationReply;
 
 // Of a line so many bytes are kept: enough to know that it is too long.
 const KEPT: usize = command::LONGEST_LINE + 1;
 
-// The offices, and the number of the one that calls name.
+// The desk, and the number of the office that calls name.
 pub struct Console {
-    pub station: Station,
+    pub desk: Desk,
     pub office: usize,
 }
 
@@ -41,22 +46,37 @@ pub struct Turn {
 fn start() -> Console
     ensures { λ r. ⌜ KeepsState r Console·start ⌝ }
 {
-    let station = station::fresh();
-    Console { station, office: 1 }
+    let desk = desk::fresh();
+    Console { desk, office: 1 }
 }
 
 // ---- commands without a file
 
-// What a call of office n replied.
-fn conclude(n: usize, reply: StationReply, out: &mut [u8]) -> Turn
+// What an event replied, where calls name office n.
+fn conclude(n: usize, reply: DeskReply, out: &mut [u8]) -> Turn
     requires { ⌜ longestAnswer ≤ length (now out) ⌝ }
-    ensures { λ r. ⌜ Says (record { station = reply .station; office = n }) (done (reply .answer)) (now (out .entry)) (now (out .exit)) r ⌝ }
+    ensures { λ r. ⌜ Says (record { desk = reply .desk; office = n }) (done (reply .answer)) (now (out .entry)) (now (out .exit)) r ⌝ }
 {
     let answer = reply.answer;
-    let station = reply.station;
+    let desk = reply.desk;
     let length = listing::put_done(out, answer);
     Turn {
-        console: Console { station, office: n },
+        console: Console { desk, office: n },
+        length,
+    }
+}
+
+// A step, whatever office calls name.
+fn step(d: Desk, office: usize, out: &mut [u8]) -> Turn
+    requires { ⌜ longestAnswer ≤ length (now out) ⌝ }
+    ensures { λ r. ⌜ ((h : Desks.Desk) → KeepsDesk d h → Tells (after (stateOf h office) Step) (said (stateOf h office) Step) (now (out .entry)) (now (out .exit)) r) ⌝ }
+{
+    let stepped = desk::step(d);
+    let answer = stepped.answer;
+    let desk = stepped.desk;
+    let length = listing::put_stepped(out, stepped.console, answer);
+    Turn {
+        console: Console { desk, office },
         length,
     }
 }
@@ -64,7 +84,7 @@ fn conclude(n: usize, reply: StationReply, out: &mut [u8]) -> Turn
 // The programme of office n.
 fn show(s: Station, n: usize, out: &mut [u8]) -> usize
     requires { ⌜ longestAnswer ≤ length (now out) ⌝ }
-    ensures { λ r. ⌜ ((b : Both Held) → KeepsBoth s b → Put (printed shown (stateOf b n)) (now (out .entry)) (now (out .exit)) r) ⌝ }
+    ensures { λ r. ⌜ ((b : Both Held) → KeepsBoth s b → Put (printed shown b n) (now (out .entry)) (now (out .exit)) r) ⌝ }
 {
     if station::is_office(n) {
         let o = station::own(s, n);
@@ -76,7 +96,7 @@ fn show(s: Station, n: usize, out: &mut [u8]) -> usize
 // The page of office n.
 fn page(s: Station, n: usize, out: &mut [u8]) -> usize
     requires { ⌜ longestAnswer ≤ length (now out) ⌝ }
-    ensures { λ r. ⌜ ((b : Both Held) → KeepsBoth s b → Put (printed pageHeld (stateOf b n)) (now (out .entry)) (now (out .exit)) r) ⌝ }
+    ensures { λ r. ⌜ ((b : Both Held) → KeepsBoth s b → Put (printed pageHeld b n) (now (out .entry)) (now (out .exit)) r) ⌝ }
 {
     if station::is_office(n) {
         let o = station::own(s, n);
@@ -96,18 +116,20 @@ fn silent(c: Console) -> Turn
 
 fn obey(c: Console, command: Command, out: &mut [u8]) -> Turn
     requires { ⌜ longestAnswer ≤ length (now out) ⌝ }
-    ensures { λ r. ⌜ ((b : Both Held) → KeepsBoth (c .station) b → Tells (after (stateOf b (c .office)) command) (said (stateOf b (c .office)) command) (now (out .entry)) (now (out .exit)) r) ⌝ }
+    ensures { λ r. ⌜ ((h : Desks.Desk) → KeepsDesk (c .desk) h → Tells (after (stateOf h (c .office)) command) (said (stateOf h (c .office)) command) (now (out .entry)) (now (out .exit)) r) ⌝ }
 {
-    let s = c.station;
+    let d = c.desk;
+    let s = d.station;
     let n = c.office;
     match command {
-        Command::Alter(e) => conclude(n, station::alter(s, n, e), out),
-        Command::Send(sent) => conclude(n, station::send(s, n, sent), out),
+        Command::Alter(e) => conclude(n, desk::alter(d, n, e), out),
+        Command::Send(sent) => conclude(n, desk::send(d, n, sent), out),
+        Command::Queue(m, edit) => {
+            conclude(n, desk::arrive(d, m, Waiting { office: n, edit }), out)
+        }
+        Command::Step => step(d, n, out),
         Command::Office(m) => Turn {
-            console: Console {
-                station: s,
-                office: m,
-            },
+            console: Console { desk: d, office: m },
             length: listing::put(out, b"ok\n"),
         },
         Command::Show => Turn {
@@ -158,7 +180,7 @@ fn failed(c: Console, what: &[u8], path: &[u8], out: &mut [u8]) -> Turn
 
 fn load(c: Console, path: &[u8], out: &mut [u8]) -> Turn
     requires { ⌜ (length (now path) ≤ keptBytes) × (longestAnswer ≤ length (now out)) ⌝ }
-    ensures { λ r. ⌜ ((b : Both Held) → KeepsBoth (c .station) b → Turns (Loads (stateOf b (c .office)) (now (path .entry))) (now (out .entry)) (now (out .exit)) r) ⌝ }
+    ensures { λ r. ⌜ ((h : Desks.Desk) → KeepsDesk (c .desk) h → Turns (Loads (stateOf h (c .office)) (now (path .entry))) (now (out .entry)) (now (out .exit)) r) ⌝ }
 {
     let fd = os::open_read(path);
     if fd < 0 {
@@ -172,15 +194,16 @@ fn load(c: Console, path: &[u8], out: &mut [u8]) -> Turn
     }
     let count = got.count;
     let n = c.office;
-    conclude(n, station::load(c.station, n, &file[..count]), out)
+    conclude(n, desk::load(c.desk, n, &file[..count]), out)
 }
 
 fn export(c: Console, path: &[u8], out: &mut [u8]) -> Turn
-    requires { ⌜ (length (now path) ≤ keptBytes) × (longestAnswer ≤ length (now out)) × ByCalls c ⌝ }
-    ensures { λ r. ⌜ ((b : Both Held) → KeepsBoth (c .station) b → Turns (Exports (stateOf b (c .office)) (now (path .entry))) (now (out .entry)) (now (out .exit)) r) ⌝ }
+    requires { ⌜ (length (now path) ≤ keptBytes) × (longestAnswer ≤ length (now out)) × ByEvents c ⌝ }
+    ensures { λ r. ⌜ ((h : Desks.Desk) → KeepsDesk (c .desk) h → Turns (Exports (stateOf h (c .office)) (now (path .entry))) (now (out .entry)) (now (out .exit)) r) ⌝ }
 {
     let mut file = [0u8; LONGEST_FILE];
-    let answer = station::export(c.station, c.office, &mut file);
+    let d = c.desk;
+    let answer = station::export(d.station, c.office, &mut file);
     if let Answer::Accepted(n) = answer {
         if !files::save(path, &file[..n]) {
             return failed(c, b"cannot write ", path, out);
@@ -195,7 +218,7 @@ fn export(c: Console, path: &[u8], out: &mut [u8]) -> Turn
 // ---- lines
 
 fn respond(c: Console, line: &[u8], out: &mut [u8]) -> Turn
-    requires { ⌜ (length (now line) ≤ keptBytes) × (longestAnswer ≤ length (now out)) × ByCalls c ⌝ }
+    requires { ⌜ (length (now line) ≤ keptBytes) × (longestAnswer ≤ length (now out)) × ByEvents c ⌝ }
     ensures { λ r. ⌜ ((s : State) → KeepsState c s → Turns (LineLeads s (now (line .entry))) (now (out .entry)) (now (out .exit)) r) ⌝ }
 {
     let command = command::parse(line);
@@ -208,7 +231,7 @@ fn respond(c: Console, line: &[u8], out: &mut [u8]) -> Turn
 
 // The answer to a line goes to standard output.
 fn answer(c: Console, line: &[u8]) -> Console
-    requires { ⌜ (length (now line) ≤ keptBytes) × ByCalls c ⌝ }
+    requires { ⌜ (length (now line) ≤ keptBytes) × ByEvents c ⌝ }
     ensures { λ r. ⌜ Answered c (now (line .entry)) r ⌝ }
 {
     let mut out = [0u8; pages::LONGEST_PAGE];
@@ -232,7 +255,7 @@ fn keep(line: &mut [u8], kept: usize, byte: u8) -> usize
 
 // What was read goes to the line, and each line that ends is answered.
 fn feed(c: Console, line: &mut [u8], kept: usize, bytes: &[u8]) -> Turn
-    requires { ⌜ (kept ≤ length (now line)) × (length (now line) ≡ keptBytes) × ByCalls c ⌝ }
+    requires { ⌜ (kept ≤ length (now line)) × (length (now line) ≡ keptBytes) × ByEvents c ⌝ }
     ensures { λ r. ⌜ Fed c (take kept (now (line .entry))) (now (bytes .entry)) (now (line .exit)) r ⌝ }
 {
     let mut console = c;

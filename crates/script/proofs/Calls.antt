@@ -7,16 +7,19 @@ use native.Mathlib.Omega.{arith}
 use lib.ListN.{length, take, replicate, length-replicate}
 use Rattle.rules.specs.Lists.{Call, Show}
 use Rattle.rules.specs.Offices.{Plan}
-use Rattle.rules.specs.Stations.{callOf}
+use Rattle.rules.specs.Desks.{Ask}
+use Rattle.rules.specs.Stations.{StationCall, callOf}
 use Rattle.rules.specs.declared.Answer.{Answer}
 use Rattle.rules.specs.declared.Edit.{Edit}
 use Rattle.rules.specs.declared.Sent.{Sent}
 use Rattle.command.specs.declared.Command as Command
 use Rattle.command.specs.declared.Command.{Command}
 use Rattle.station.specs.Kept.{RepliesTo, Lends}
-use Rattle.station.specs.declared.Station.{Station}
-use Rattle.station.specs.declared.StationReply.{StationReply}
 use Rattle.station.proofs.Replies.{lent-replies}
+use Rattle.desk.specs.Kept.{Happens}
+use Rattle.desk.specs.declared.Desk.{Desk}
+use Rattle.desk.specs.declared.DeskReply.{DeskReply}
+use Rattle.desk.proofs.Calls.{call-happens}
 use Rattle.script.specs.Script.{commanded}
 
 -- a command without a call of its own
@@ -36,11 +39,17 @@ shown-else Command.Roughness n file l x a p w s r = absurd (r refl)
 shown-else Command.Nothing n file l x a p w s r = refl
 shown-else Command.Unknown n file l x a p w s r = refl
 shown-else (Command.Office office) n file l x a p w s r = refl
+shown-else (Command.Queue console e) n file l x a p w s r = refl
+shown-else Command.Step n file l x a p w s r = refl
 
--- the reply of a call that leaves the station as it is
-pub answered-replies : {s : Station} {n : ℕ} {c : Call} {answer : Answer} {bytes : List ℕ} {r : StationReply} → r ≡ record { answer = answer; station = s }
-    → Lends s n c answer bytes → RepliesTo s (callOf n (Plan c)) r
-answered-replies {s} {n} {c} {answer} {bytes} e lends = rw e (lent-replies s n c answer bytes lends)
+-- a call that leaves the desk as it is
+pub answered-happens : {d : Desk} {c : StationCall} {answer : Answer} {r : DeskReply} → r ≡ record { answer = answer; desk = d }
+    → RepliesTo (d .station) c (record { answer = answer; station = d .station }) → Happens d (Ask c) r
+answered-happens {d} {c} {answer} e replies = rw e (call-happens d (record { answer = answer; desk = d }) c (record { reply = replies; queues = refl }))
+
+pub lent-happens : {d : Desk} {n : ℕ} {c : Call} {answer : Answer} {bytes : List ℕ} {r : DeskReply} → r ≡ record { answer = answer; desk = d }
+    → Lends (d .station) n c answer bytes → Happens d (Ask (callOf n (Plan c))) r
+lent-happens {d} {n} {c} {answer} {bytes} e lends = answered-happens e (lent-replies (d .station) n c answer bytes lends)
 
 -- ---- zeros
 

@@ -20,7 +20,7 @@ fn answer(script: &[u8], out: &mut [u8]) -> usize
     let answer = last.answer;
     let n = ran.office;
     if station::is_office(n) {
-        let o = station::own(last.station, n);
+        let o = station::own(last.desk.station, n);
         return listing::put_planned(out, answer, o.unit);
     }
     listing::put_refusal(out, NO_SUCH_OFFICE)

@@ -10,17 +10,19 @@
 
 use reference::calls::Call;
 use reference::console::Console;
+use reference::desk::{Desk, CONSOLES};
 use reference::district::{District, Segment};
 use reference::listing;
 use reference::make;
 use reference::options::Given;
 use reference::random::Random;
+use reference::refusal::Refusal;
 use reference::station::{same_tables, Station};
 use reference::tables::Tables;
 use reference::turn::{self, Way};
 use reference::unit::{plan, Plan};
 use reference::{calls, deck, decks, example, file, frames, lists, page, rating};
-use std::collections::BTreeMap;
+use std::collections::{BTreeMap, BTreeSet, VecDeque};
 use std::fs;
 use std::io::{Read, Write};
 use std::path::{Path, PathBuf};
@@ -423,6 +425,10 @@ impl Run {
                 let words: Vec<&str> = text.split_whitespace().take(2).collect();
                 tally.see(match words[0] {
                     _ if line == b"roughness" => format!("roughness: {}", words.join(" ")),
+                    _ if line.starts_with(b"queue ") => format!("queue: {}", words.join(" ")),
+                    "console" => {
+                        format!("step: {}", text.split_whitespace().skip(2).collect::<Vec<_>>().join(" "))
+                    }
                     "ok" | "points" => words[0].to_string(),
                     _ => words.join(" "),
                 });
@@ -512,6 +518,7 @@ fn worked(tally: &mut Tally, list: &[u8]) -> Vec<u8> {
     tally.see_if("20 calls or more", calls.len() >= 20);
     tally.see(if printed.starts_with("refused") { printed.trim_end() } else { "planned" });
     office_features(tally, &calls);
+    desk_features(tally, &calls);
     printed.into_bytes()
 }
 
@@ -519,18 +526,18 @@ fn worked(tally: &mut Tally, list: &[u8]) -> Vec<u8> {
 /// the tables, and 17 anywhere in it.
 fn office_features(tally: &mut Tally, calls: &[(u32, Call)]) {
     tally.see_if("both offices", [1, 2].iter().all(|&office| calls.iter().any(|call| call.0 == office)));
-    let mut station = Station::fresh();
+    let mut desk = Desk::fresh();
     let mut seen = [false; 4];
     for (office, call) in calls {
-        let before = station.clone();
-        let refusal = call.make(*office, &mut station).err().map_or(0, |refusal| refusal.number());
+        let before = desk.station.clone();
+        let refusal = call.make(*office, &mut desk).err().map_or(0, |refusal| refusal.number());
         seen[0] |= refusal == 16;
         seen[1] |= refusal == 17;
         if let (Call::Load(_), 0) = (call, refusal) {
             let held =
                 |station: &Station, office: u32| station.office(office.into()).map(|unit| unit.district().clone());
             let (Ok(old), Ok(new), Ok(other)) =
-                (held(&before, *office), held(&station, *office), held(&before, 3 - office))
+                (held(&before, *office), held(&desk.station, *office), held(&before, 3 - office))
             else {
                 continue;
             };
@@ -542,6 +549,54 @@ fn office_features(tally: &mut Tally, calls: &[(u32, Call)]) {
     let features =
         ["16 among them", "17 among them", "tables changed, limits lost", "equal tables, both with segments"];
     features.iter().zip(seen).for_each(|(feature, seen)| tally.see_if(feature, seen));
+}
+
+/// Notes what a list has that concerns the four consoles: arrivals that are refused,
+/// steps where nothing waits, what edits come to in their steps, and whether that is
+/// what they would have come to on arrival.
+fn desk_features(tally: &mut Tally, calls: &[(u32, Call)]) {
+    let mut desk = Desk::fresh();
+    let mut seen = BTreeSet::new();
+    // Whether each edit that waits would have been accepted on arrival.
+    let mut sound: [VecDeque<bool>; CONSOLES] = Default::default();
+    for (office, call) in calls {
+        let feature = match call {
+            Call::Queue(console, edit) => {
+                let unit = desk.station.office((*office).into()).cloned();
+                let answer = desk.arrive((*office).into(), (*console).into(), *edit);
+                if answer.is_ok() {
+                    let at_once = unit.and_then(|mut unit| edit.make(&mut unit));
+                    sound[*console as usize - 1].push_back(at_once.is_ok());
+                }
+                outcome("arrivals", answer)
+            }
+            Call::Step => match desk.step() {
+                None => "idle steps".to_string(),
+                Some(step) => {
+                    match (sound[step.console - 1].pop_front(), step.answer) {
+                        (Some(true), Err(_)) => seen.insert("edits sound on arrival only".to_string()),
+                        (Some(false), Ok(())) => seen.insert("edits sound in their steps only".to_string()),
+                        _ => false,
+                    };
+                    outcome("steps", step.answer)
+                }
+            },
+            _ => {
+                let _ = call.make(*office, &mut desk);
+                continue;
+            }
+        };
+        seen.insert(feature);
+    }
+    seen.into_iter().for_each(|feature| tally.see(feature));
+}
+
+/// What was asked for, and its refusal where it got one.
+fn outcome(asked: &str, answer: Result<(), Refusal>) -> String {
+    match answer {
+        Ok(()) => asked.to_string(),
+        Err(refusal) => format!("{asked} refused {}", refusal.number()),
+    }
 }
 
 /// Notes what a district and its plan have that is worth having tested.

@@ -23,6 +23,10 @@ returns-2 : tie.Need-returns-2
 unfolding numbersOf taken
 returns-2 c = rw (c .before .before .enum-told .given .1, c .is-path .ensures ∙ ap isPath (c .before .path .ensures), at-front 0 _ (blank-all 4))
 
+returns-3 : tie.Need-returns-3
+unfolding numbersOf taken
+returns-3 c = rw (c .enum-told2 .given .1)
+
 pub take-spec : {M : Type 1} → statement M
 take-spec =
     tie.close
@@ -33,5 +37,7 @@ take-spec =
     (λ c. search needs)
     (λ c κs. search needs)
     (λ c κs. search needs)
+    (λ c. search needs)
     returns
-    returns-2)
+    returns-2
+    returns-3)

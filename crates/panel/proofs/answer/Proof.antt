@@ -1,7 +1,7 @@
 -- `panel::answer` meets its contract.
 use Rattle.base.proofs.Text.{put-within, put-part}
 use Rattle.panel.proofs.Says.{turned}
-use Rattle.panel.proofs.ByCalls.{known, known-kept, by-calls-line, sound-at}
+use Rattle.panel.proofs.ByEvents.{known, known-kept, by-events-line, sound-at}
 use borrow.Author.Needs.{needs}
 use Rattle.panel.proofs.answer.Statement.{statement}
 use Rattle.panel.proofs.answer.Tie as tie
@@ -20,7 +20,7 @@ returns : tie.Need-returns
 returns c =
     let k = c .before .before .before .before .before .before .before .pre .1 in
     let respond = c .before .before .before .before .respond in
-    record { led = λ s h. turned (respond .ensures s h); reached = by-calls-line (λ s h. turned (respond .ensures s h)) k; sound = sound-at k }
+    record { led = λ s h. turned (respond .ensures s h); reached = by-events-line (λ s h. turned (respond .ensures s h)) k; sound = sound-at k }
 
 pub answer-spec : {M : Type 1} → statement M
 answer-spec =

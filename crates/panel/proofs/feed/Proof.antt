@@ -6,7 +6,7 @@ use mathlib.Core.Path.{_≡_, refl, sym, ap, _∙_}
 use lib.ListN.{length, take, drop, getD}
 use lib.Seq.{length-take-le}
 use Rattle.panel.specs.Console.{State, KeepsState}
-use Rattle.panel.specs.Lines.{ByCalls, Keeping, keeping}
+use Rattle.panel.specs.Lines.{ByEvents, Keeping, keeping}
 use Rattle.panel.proofs.Feeds.{fed-all, fed-line, fed-byte, Ahead}
 use borrow.Author.Needs.{needs}
 use Rattle.panel.proofs.feed.Statement.{statement}
@@ -14,7 +14,7 @@ use Rattle.panel.proofs.feed.Tie as tie
 
 abbrev Inv-loop : tie.InvT-loop
 Inv-loop line₀ kept bytes console₀ n₀ i₀ line console n i =
-    (i ≤ length bytes) × (n ≤ length line) × (length line ≡ length line₀) × ByCalls console
+    (i ≤ length bytes) × (n ≤ length line) × (length line ≡ length line₀) × ByEvents console
     × ((s : State) → KeepsState console₀ s → Keeping (Ahead s (take n₀ line₀) bytes (take n line) (drop i bytes)) console)
 
 abbrev μ-loop : tie.MeasureT-loop

@@ -1,23 +1,23 @@
--- `panel::main` is safe and ends: the number of reads that are left falls, and calls always lead to what the console keeps.
+-- `panel::main` is safe and ends: the number of reads that are left falls, and events always lead to what the console keeps.
 use native.Mathlib.Omega.{arith}
 use Prim.Native.Nat.{_≤_}
 use mathlib.Core.Path.{_≡_, refl, sym, _∙_}
 use lib.ListN.{length}
 use lib.Seq.{length-take-le}
-use Rattle.panel.specs.Lines.{keptBytes, ByCalls}
-use Rattle.panel.proofs.ByCalls.{by-calls-start}
+use Rattle.panel.specs.Lines.{keptBytes, ByEvents}
+use Rattle.panel.proofs.ByEvents.{by-events-start}
 use borrow.Author.Needs.{needs}
 use Rattle.panel.proofs.main.Statement.{statement}
 use Rattle.panel.proofs.main.Tie as tie
 
 abbrev Inv-loop : tie.InvT-loop
-Inv-loop console₀ line₀ n₀ turns₀ console line n turns = (length line ≡ keptBytes) × (n ≤ keptBytes) × ByCalls console
+Inv-loop console₀ line₀ n₀ turns₀ console line n turns = (length line ≡ keptBytes) × (n ≤ keptBytes) × ByEvents console
 
 abbrev μ-loop : tie.MeasureT-loop
 μ-loop console₀ line₀ n₀ turns₀ console line n turns = turns
 
 loop-holds : tie.Need-loop-holds Inv-loop μ-loop
-loop-holds c = (refl, omega arith, by-calls-start (c .start .ensures))
+loop-holds c = (refl, omega arith, by-events-start (c .start .ensures))
 
 slice-aggregate-feed : tie.Need-slice-aggregate-feed Inv-loop μ-loop
 slice-aggregate-feed c = sym (c .before .before .before .before .before .before .before .before .before .loop .inv .0)

@@ -30,7 +30,7 @@ returns-2 c =
 
 -- the places of the other commands among all
 abbrev others : List ℕ
-others = 0 ∷ 1 ∷ 4 ∷ 5 ∷ 6 ∷ 7 ∷ 8 ∷ 9 ∷ 10 ∷ 11 ∷ []
+others = 0 ∷ 1 ∷ 4 ∷ 5 ∷ 6 ∷ 7 ∷ 8 ∷ 9 ∷ 10 ∷ 11 ∷ 12 ∷ 13 ∷ []
 
 returns-3 : tie.Need-returns-3
 returns-3 c =

@@ -6,7 +6,7 @@ use borrow.Author.Needs.{needs}
 use Rattle.rules.specs.File.{longestFile}
 use Rattle.rules.specs.Lists.{ExportTo}
 use Rattle.station.specs.Kept.{Lends}
-use Rattle.script.proofs.Calls.{same-room, answered-replies}
+use Rattle.script.proofs.Calls.{same-room, lent-happens}
 use Rattle.script.proofs.exported.Statement.{statement}
 use Rattle.script.proofs.exported.Tie as tie
 
@@ -18,8 +18,8 @@ returns c =
     let call = c .before .before in
     let a = call .before .before .before .args in
     let zeros = same-room 0 _ (a .room) longestFile (call .before .before .smaller .ensures) .1 in
-    answered-replies (c .answered .ensures)
-    (subst (λ (bs : List ℕ). Lends (a .s) (a .n) (ExportTo bs) (call .export .result) (call .export .last .1 .1 .0)) zeros (call .export .ensures))
+    lent-happens (c .answered .ensures)
+    (subst (λ (bs : List ℕ). Lends (a .d .station) (a .n) (ExportTo bs) (call .export .result) (call .export .last .1 .1 .0)) zeros (call .export .ensures))
 
 pub exported-spec : {M : Type 1} → statement M
 exported-spec = tie.close (tie.spec (λ c κs. search needs) (λ c. search needs) slice-aggregate-export (λ c κs. search needs) (λ c κs. search needs) returns)

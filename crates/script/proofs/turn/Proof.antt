@@ -3,7 +3,7 @@ use Prim.Native.Nat.{ℕ}
 use mathlib.Core.List.{List, [], _∷_}
 use types.Run.{miss}
 use borrow.Author.Needs.{needs}
-use Rattle.station.proofs.Replies.{plans-replies}
+use Rattle.desk.proofs.Calls.{plan-happens, send-happens}
 use Rattle.script.specs.Script.{commanded}
 use Rattle.script.proofs.Calls.{shown-else}
 use Rattle.script.proofs.turn.Statement.{statement}
@@ -11,7 +11,7 @@ use Rattle.script.proofs.turn.Tie as tie
 
 returns : tie.Need-returns
 unfolding commanded
-returns c = rw (c .before .enum-told .given .1) (plans-replies _ _ _ _ (c .load .ensures))
+returns c = rw (c .before .enum-told .given .1) (plan-happens _ _ _ _ (c .load .ensures))
 
 returns-2 : tie.Need-returns-2
 unfolding commanded
@@ -19,7 +19,7 @@ returns-2 c = rw (c .before .enum-told2 .given .1) (c .exported .ensures)
 
 returns-3 : tie.Need-returns-3
 unfolding commanded
-returns-3 c = rw (c .before .before .command .given .1) (plans-replies _ _ _ _ (c .alter .ensures))
+returns-3 c = rw (c .before .before .command .given .1) (plan-happens _ _ _ _ (c .alter .ensures))
 
 returns-4 : tie.Need-returns-4
 unfolding commanded
@@ -31,7 +31,7 @@ returns-5 c = rw (c .before .before .command2 .given .1) (c .asked .ensures)
 
 returns-6 : tie.Need-returns-6
 unfolding commanded
-returns-6 c = rw (c .before .before .command3 .given .1) (c .send .ensures .reports)
+returns-6 c = rw (c .before .before .command3 .given .1) (send-happens _ _ _ _ (c .send .ensures))
 
 returns-7 : tie.Need-returns-7
 unfolding commanded
@@ -39,7 +39,7 @@ returns-7 c = rw (c .before .enum-told4 .given .1) (c .rough .ensures)
 
 -- the places of the other commands among all
 abbrev others : List ℕ
-others = 0 ∷ 1 ∷ 5 ∷ 6 ∷ 11 ∷ []
+others = 0 ∷ 1 ∷ 5 ∷ 6 ∷ 11 ∷ 12 ∷ 13 ∷ []
 
 returns-8 : tie.Need-returns-8
 returns-8 c =

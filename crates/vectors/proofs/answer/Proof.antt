@@ -1,8 +1,8 @@
 -- `vectors::answer` meets its contract.
 use mathlib.Core.Path.{refl, sym, _∙_}
 use borrow.Author.Needs.{needs}
-use Rattle.rules.specs.Stations.{stationAfter}
-use Rattle.script.specs.Script.{callsOf}
+use Rattle.rules.specs.Desks.{deskAfter}
+use Rattle.script.specs.Script.{entriesOf, eventsOf}
 use Rattle.listing.specs.Listing.{planned}
 use Rattle.station.proofs.Numbers.{nobody-named, of-unit}
 use Rattle.vectors.specs.Worked.{workedFor, worked}
@@ -16,10 +16,10 @@ returns c =
     let asked = own .before .before in
     let run = asked .before .before .run in
     let last = run .result .last in
-    let held = stationAfter (callsOf (asked .before .before .before .before .before .args .script .now)) in
+    let held = deskAfter (eventsOf (entriesOf (asked .before .before .before .before .before .args .script .now))) .held in
     let is = sym (asked .is-office .ensures) ∙ own .before .if1 .taken in
     let told = of-unit (planned (last .answer)) (λ w. workedFor w held (last .answer))
-    (last .station) (run .result .office) (own .own .result) (own .own .ensures) is held (run .ensures .0) (λ w. refl) in
+    (last .desk .station) (run .result .office) (own .own .result) (own .own .ensures) is held (run .ensures .0 .station) (λ w. refl) in
     rw (← run .ensures .1 .0, ← run .ensures .1 .1 .0, ← told) (c .before .before .put-planned .ensures)
 
 returns-2 : tie.Need-returns-2
