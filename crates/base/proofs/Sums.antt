@@ -2,7 +2,7 @@
 use Prim.Native.Nat.{ℕ, zero, suc, ◌+◌, ◌*◌, ◌≤◌, ◌<◌, max}
 use mathlib.Core.Path.{◌≡◌, refl, ap, sym, ◌∙◌}
 use mathlib.Core.Logic.{⊎_elim}
-use native.Mathlib.Nat.{mul-zero, zero-mul, mul-add, add-mul, suc-mul, le-max_left, le-max_right, le_trans, max_le, eq-or-lt_of_le}
+use native.Mathlib.Nat.{mul-zero, zero-mul, mul-add, add-mul, suc-mul, le-max_left, le-max_right, le_trans, max-le, eq-or-lt_of_le}
 use native.Mathlib.Numerals.{add-one}
 use native.Mathlib.Omega.{arith}
 use Rattle.base.specs.Over.{sum, most}
@@ -132,7 +132,7 @@ most_part (suc n) f k l h =
 pub most_bound : (n m : ℕ) (f : ℕ → ℕ) → ((k : ℕ) → 1 ≤ k → k ≤ n → f k ≤ m) → most n f ≤ m
 unfolding most
 most_bound zero m f h = omega arith
-most_bound (suc n) m f h = max_le (most_bound n m f (λ k l u. h k l (omega arith))) (h (suc n) (omega arith) (omega arith))
+most_bound (suc n) m f h = max-le (most_bound n m f (λ k l u. h k l (omega arith))) (h (suc n) (omega arith) (omega arith))
 
 pub most_cong : (n : ℕ) (f g : ℕ → ℕ) → ((k : ℕ) → 1 ≤ k → k ≤ n → f k ≡ g k) → most n f ≡ most n g
 unfolding most

@@ -1,5 +1,7 @@
 // The first cards of a deck in the report's layout, read for any bytes: the title, the counts and the segments. Each
 // function computes the rules' definition of nearly the same name (rules/specs/Deck.antt).
+#![tactic(auto)]
+
 mod columns;
 mod fields;
 mod lines;
@@ -24,18 +26,18 @@ pub const LONGEST_DECK: usize = (lines::PER_LINE + 1) * (MOST_SEGMENTS + 2);
 const ROWS_BEFORE_SEGMENT: usize = PER_CARD;
 
 // The number of the refusal, or 0 and the numbers of the card.
-#[derive(Drop)]
+#[derive(Clone, Copy)]
 pub struct Card {
     pub refusal: usize,
     pub numbers: [usize; PER_CARD],
 }
 
 // Length, width, highway type, traffic and environment.
-#[derive(Drop)]
+#[derive(Clone, Copy)]
 pub struct Segment(pub [usize; PER_CARD]);
 
 // The number of the refusal, or 0, the counts, which are N, S, T, D and Y, and the segments.
-#[derive(Drop)]
+#[derive(Clone, Copy)]
 pub struct Deck {
     pub refusal: usize,
     pub counts: [usize; PER_CARD],

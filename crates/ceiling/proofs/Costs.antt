@@ -3,7 +3,7 @@ use Prim.Native.Nat.{ℕ, suc, ◌+◌, ◌-◌, ◌*◌, ◌^◌, ◌≤◌, �
 use mathlib.Core.Path.{◌≡◌, refl, ap, sym, ◌∙◌}
 use mathlib.Core.Bool.{Bool, true, false}
 use mathlib.Core.List.{List}
-use native.Mathlib.Nat.{mul-le-mul, le_trans, sub_le, max-eq_left, min-eq_right, mul-div_cancel}
+use native.Mathlib.Nat.{mul-le-mul, le_trans, sub-le, max-eq_left, min-eq_right, mul-div_cancel}
 use native.Mathlib.Omega.{arith}
 use borrow.Author.Tests.{lt-ltb, le-ltb, eqb-true, eqb-false}
 use lib.Dec.{ltb, eqb}
@@ -70,7 +70,7 @@ module _ {z : Size} {b d : List ℕ} (sized : Sized z b d) where
   unfolding margin net
   margin_small p i =
       most_bound z.strategies (2 ^ 40) (net (priced_table z b d) p i)
-      (λ j l h. omega (arith, sub_le (get_or b (entry i j) 0) (cost (priced_table z b d) p i j), sized.benefit_small (entry i j)))
+      (λ j l h. omega (arith, sub-le (get_or b (entry i j) 0) (cost (priced_table z b d) p i j), sized.benefit_small (entry i j)))
 
   pub ceiling_small : {p : List ℕ} → Prices p → ceiling_at (priced_table z b d) p < 2 ^ 62
   unfolding ceiling_at
@@ -112,7 +112,7 @@ module _ {z : Size} {b d p : List ℕ} {r price : ℕ} (m : Trial z b d p r pric
   pub margin_passes : (i j : ℕ) {best : ℕ} → best ≡ most j (net t new i) → get_or b (entry i (j + 1)) 0 ≤ best → best ≡ most (j + 1) (net t new i)
   unfolding net
   margin_passes i j {best} e low =
-      sym (max-eq_left (le_trans (sub_le (get_or b (entry i (j + 1)) 0) (cost t new i (j + 1))) low)) ∙ most_next j (net t new i) e
+      sym (max-eq_left (le_trans (sub-le (get_or b (entry i (j + 1)) 0) (cost t new i (j + 1))) low)) ∙ most_next j (net t new i) e
 
   pub margin_takes : (i j : ℕ) {best x y cost' : ℕ} → best ≡ most j (net t new i) → cost' ≡ cost t new i (j + 1) → y ≡ get_or b (entry i (j + 1)) 0 - cost' → x ≡ max best y → x ≡ most (j + 1) (net t new i)
   unfolding net

@@ -1,4 +1,6 @@
 // The ceiling: the search for prices, with each candidate's cost kept from trial to trial.
+#![tactic(auto)]
+
 ghost use Rattle.std.specs.Prelude.{◌≡◌, ◌+◌, ◌*◌, ◌-◌, ◌≤◌, ◌<◌, ◌^◌, min, set};
 ghost use Rattle.base.specs.Over.{sum};
 ghost use Rattle.tables.specs.Arrays.{columns};

@@ -1,4 +1,6 @@
 // A line of the panel as a command, for any bytes at all and any number of them.
+#![tactic(auto)]
+
 ghost use Rattle.std.specs.Prelude.{◌≡◌, ◌∷◌, ◌+◌, ◌≤◌, ◌<◌, length, drop};
 ghost use Rattle.std.proofs.Math.Option.{some};
 ghost use Rattle.base.specs.Same.{same as Same·same};
@@ -14,7 +16,7 @@ pub const LONGEST_LINE: usize = 512;
 // It ends a word.
 const BLANK: u8 = 32;
 
-#[derive(Drop)]
+#[derive(Clone, Copy)]
 pub enum Command {
     // A line to pass over, and one that is no command.
     Nothing,
@@ -36,7 +38,7 @@ pub enum Command {
     Step,
 }
 
-#[derive(Drop)]
+#[derive(Clone, Copy)]
 pub enum Name {
     Load,
     Export,
@@ -59,7 +61,7 @@ pub enum Name {
 }
 
 // What a word takes: so many numbers, a path, or a number and an edit.
-#[derive(Drop)]
+#[derive(Clone, Copy)]
 pub enum Takes {
     Numbers(usize),
     Path,
@@ -67,7 +69,7 @@ pub enum Takes {
 }
 
 // A word, with blanks behind it up to 9 bytes; what it names; and what it takes.
-#[derive(Drop)]
+#[derive(Clone, Copy)]
 pub struct Row(pub [u8; 9], pub Name, pub Takes);
 
 const WORDS: usize = 18;
@@ -93,14 +95,14 @@ const ROWS: [Row; WORDS] = [
     Row(*b"step     ", Name::Step, Takes::Numbers(0)),
 ];
 
-#[derive(Drop)]
+#[derive(Clone, Copy)]
 pub enum Kind {
     Space,
     Named,
 }
 
 // The numbers, where there are as many as the word takes; 0 behind them.
-#[derive(Drop)]
+#[derive(Clone, Copy)]
 pub struct Arguments {
     pub fit: bool,
     pub numbers: [usize; 4],

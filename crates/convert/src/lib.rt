@@ -1,5 +1,7 @@
 // A file turned from one form into the other: up, to the form with leaders, of which none is set, and down, to the
 // one without. Both settle any bytes and any buffer.
+#![tactic(auto)]
+
 ghost use Rattle.std.specs.Prelude.{◌≡◌, ◌≤◌, length};
 ghost use Rattle.rules.specs.Answers.{or_later};
 ghost use Rattle.rules.specs.Conversions.{lost_leader, turned_into, up_of, down_of};

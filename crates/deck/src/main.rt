@@ -1,5 +1,7 @@
 // Reads the first cards of a deck from standard input, and prints the counts and a line for each segment, or the
 // refusal. What stands behind the cards of the most segments is not read.
+#![tactic(auto)]
+
 ghost use Rattle.std.specs.Prelude.{List, ◌≡◌, ℕ, ◌≤◌, length};
 ghost use Rattle.base.specs.Text.{Put};
 ghost use Rattle.listing.specs.Listing.{lines_from};

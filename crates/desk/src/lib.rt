@@ -1,5 +1,7 @@
 // A desk: a station, and the queues of four consoles before it. It goes in by value and comes back; an edit arrives at a
 // console, a step carries one out, and the station's own calls go on as ever.
+#![tactic(auto)]
+
 ghost use Rattle.std.specs.Prelude.{◌≡◌};
 ghost use Rattle.rules.specs.DeskDemands.{EveryCall, EveryArrival, EveryStep, OnceInOrder, NobodyStarves, CarriedInTime, EveryRun, EveryDesk};
 ghost use Rattle.rules.specs.Desks.{fresh_desk};
@@ -14,21 +16,21 @@ use rules::refusals::NO_SUCH_OFFICE;
 use rules::{Answer, Edit, Sent, Waiting};
 use station::{Station, StationReply};
 
-#[derive(Drop)]
+#[derive(Clone, Copy)]
 pub struct Desk {
     pub station: Station,
     pub queues: Queues,
 }
 
 // An answer and the desk as the call leaves it.
-#[derive(Drop)]
+#[derive(Clone, Copy)]
 pub struct DeskReply {
     pub answer: Answer,
     pub desk: Desk,
 }
 
 // What a step returns: the console and its edit's answer, or 0 and 0; and the desk then.
-#[derive(Drop)]
+#[derive(Clone, Copy)]
 pub struct Stepped {
     pub console: usize,
     pub answer: Answer,

@@ -1,5 +1,7 @@
 // The edits of a district: what refuses each, and the district with the one value altered. Every function is total, for
 // any numbers and any value of the type, so that no call relies on a check made before it.
+#![tactic(auto)]
+
 ghost use Rattle.std.specs.Prelude.{◌≡◌, ◌+◌, ◌-◌, ◌<◌, get_or, set};
 ghost use Rattle.base.specs.Bits.{set_bit, clear_bit};
 ghost use Rattle.base.specs.Over.{between};

@@ -1,4 +1,6 @@
 // The district's file: loading, for any bytes, and export, into any buffer.
+#![tactic(auto)]
+
 pub mod bytes;
 pub mod forms;
 mod ranges;
@@ -20,7 +22,7 @@ use rules::records::{LONGEST_FILE, RECORDS};
 use rules::{Answer, District, refusals};
 
 // The number of the refusal, or 0 and the district of the file.
-#[derive(Drop)]
+#[derive(Clone, Copy)]
 pub struct Loaded {
     pub refusal: usize,
     pub district: District,

@@ -10,7 +10,7 @@ use crate::bytes;
 use rules::{District, Slot, refusals};
 
 // Where reading goes on, or the number of the refusal.
-#[derive(Drop)]
+#[derive(Clone, Copy)]
 pub enum Reading {
     At(usize),
     Refused(usize),

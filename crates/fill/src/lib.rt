@@ -1,5 +1,7 @@
 // The arrays that the phases and the ceiling read, filled once for a plan from a district. What has an entry for each segment
 // is filled for the district's own segments: the arrays are zeros before, and what the district does not have counts 0.
+#![tactic(auto)]
+
 ghost use Rattle.std.specs.Prelude.{◌≡◌, ℕ, ◌+◌, ◌-◌, ◌*◌, ◌/◌, ◌^◌, ◌<◌, ◌≤◌, length, get_or, replicate};
 ghost use Rattle.base.specs.Over.{listed, divide_up};
 ghost use Rattle.tables.specs.Arrays.{columns, entries, use_entries};

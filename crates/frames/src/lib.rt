@@ -1,11 +1,13 @@
 // Frames on standard input: a length of 4 bytes, low byte first, and that many bytes.
+#![tactic(auto)]
+
 ghost use Rattle.std.specs.Prelude.{◌≡◌};
 ghost use Rattle.io.specs.Counts.{IsPrefixLen};
 
 use libc::STDIN_FILENO;
 
 // How many bytes a frame has, and whether it was read whole.
-#[derive(Drop)]
+#[derive(Clone, Copy)]
 pub struct Frame {
     pub whole: bool,
     pub length: usize,

@@ -1,5 +1,7 @@
 // The grammar of a district's file: its records in order, and for each of their numbers how many bytes and what range
 // it has. Each function computes the rules' definition of nearly the same name (rules/specs/Format.antt).
+#![tactic(auto)]
+
 ghost use Rattle.std.specs.Prelude.{◌≡◌, List, ℕ, ◌<◌, ◌-◌, ◌^◌, min};
 ghost use Rattle.base.specs.Choice.{pick};
 ghost use Rattle.rules.specs.Format.{number, absent, inside, slot, slot_of, present, count_field, limit_field, greatest_field, rows_field, strategy_field, pavement_field, rating_field, leader_field, segment_field, kind_field, field_at};

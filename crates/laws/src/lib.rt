@@ -1,1 +1,2 @@
 // Laws of the rules' definitions that code and theorems share; they are in proofs/.
+#![tactic(auto)]

@@ -1,5 +1,7 @@
 // What the programs print, written to the front of a lent buffer. Each writer takes what remains of the buffer, and
 // says how many bytes it wrote.
+#![tactic(auto)]
+
 ghost use Rattle.std.specs.Prelude.{◌≡◌, ◌+◌, ◌≤◌, min, length, take};
 ghost use Rattle.base.specs.Text.{decimal, Writes, Put};
 ghost use Rattle.listing.specs.Listing.{named, ended, line, segment_line, segment_lines, steps_line, results, listing, shown, refusal, done, carried, stepped, planned, valued, pair_line, over_line, reason_line, explained, told, failed, longest_refusal, longest_stepped, longest_reason, longest_roughness, longest_listing};

@@ -1,4 +1,6 @@
 // The roughness meter's window: the last readings, 32-bit floats, with their exact sum; and the points for it.
+#![tactic(auto)]
+
 ghost use Rattle.std.specs.Prelude.{◌≡◌, ℕ, ◌+◌, ◌*◌, ◌/◌, ◌<◌, ◌≤◌, min, false, List, length, from_bits};
 ghost use Rattle.std.specs.Float.{binary32};
 ghost use Rattle.std.specs.Float.Ieee.Exact.{HasValue};
@@ -11,7 +13,7 @@ use rules::refusals::{NO_READING, WINDOW_EMPTY};
 use rules::{Answer, Roughness, Sent};
 
 // A record of the van with its float.
-#[derive(Drop)]
+#[derive(Clone, Copy)]
 pub enum Record {
     Index(f32),
     Marker(f32),
@@ -22,7 +24,7 @@ pub const WINDOW_SIZE: usize = 64;
 
 // The last readings since the last marker, in a ring whose unused places are 0; `next`, modulo 64, is the place
 // of the next one. The marker's bits are kept beside its float, which forgets a NaN's.
-#[derive(Drop)]
+#[derive(Clone, Copy)]
 pub struct Window {
     pub readings: [f32; WINDOW_SIZE],
     pub sum: f32,
@@ -33,7 +35,7 @@ pub struct Window {
 }
 
 // An answer and the window as the record leaves it.
-#[derive(Drop)]
+#[derive(Clone, Copy)]
 pub struct Stepped {
     pub answer: Answer,
     pub window: Window,

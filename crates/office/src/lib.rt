@@ -1,5 +1,7 @@
 // An office: its planning unit and, beside it, the window of its roughness meter. Neither sees what is asked of the
 // other.
+#![tactic(auto)]
+
 ghost use Rattle.std.specs.Prelude.{◌≡◌};
 ghost use Rattle.rules.specs.Demands.{EveryOfficeAnswer, EveryRoughness, EveryOffice};
 ghost use Rattle.rules.specs.Lists.{Call, outcome_of};
@@ -10,14 +12,14 @@ ghost use Rattle.office.specs.Kept.{Keeps, Makes, Sends};
 use meter::Window;
 use rules::{Answer, Reply, Roughness, Sent, Unit};
 
-#[derive(Drop)]
+#[derive(Clone, Copy)]
 pub struct Office {
     pub unit: Unit,
     pub window: Window,
 }
 
 // An answer and the office as the call leaves it.
-#[derive(Drop)]
+#[derive(Clone, Copy)]
 pub struct OfficeReply {
     pub answer: Answer,
     pub office: Office,

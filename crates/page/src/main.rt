@@ -1,5 +1,7 @@
 // Prints the page of the district whose file comes from standard input, with its programme, or the refusal. No more
 // than 4,096 bytes are read.
+#![tactic(auto)]
+
 ghost use Rattle.std.specs.Prelude.{◌≤◌, length};
 ghost use Rattle.base.specs.Text.{Put};
 ghost use Rattle.pages.specs.Printed.{longest_page};

@@ -6,7 +6,7 @@ ghost use Rattle.pages.specs.Printed.{line_bytes};
 ghost use Rattle.pages.specs.Cells.{text_of, longest_text, texts};
 
 // What stands in a column: nothing, a number, or hundredths of a mile in miles.
-#[derive(Drop)]
+#[derive(Clone, Copy)]
 pub enum Cell {
     Blank,
     Number(usize),

@@ -1,4 +1,6 @@
 // The page for the wall: a heading, a line for each segment, the total with the summed uses, and the limits.
+#![tactic(auto)]
+
 mod cells;
 mod rows;
 

@@ -4,7 +4,7 @@ ghost use Rattle.base.specs.Text.{text, Put};
 ghost use Rattle.io.specs.Counts.{IsPrefixLen};
 ghost use Rattle.panel.specs.Lines.{kept_bytes};
 
-#[derive(Drop)]
+#[derive(Clone, Copy)]
 pub struct Got {
     pub failed: bool,
     pub count: usize,

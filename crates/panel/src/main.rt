@@ -1,5 +1,7 @@
 // A console over a desk, two offices on one unit with four queues before them, fresh at its start: each line of standard
 // input is a command, answered on standard output. The end of the input ends it.
+#![tactic(auto)]
+
 mod files;
 
 ghost use Rattle.std.specs.Prelude.{◌≤◌, ◌≡◌, length, take};
@@ -27,14 +29,14 @@ use station::Station;
 const KEPT: usize = command::LONGEST_LINE + 1;
 
 // The desk, and the number of the office that calls name.
-#[derive(Drop)]
+#[derive(Clone, Copy)]
 pub struct Console {
     pub desk: Desk,
     pub office: usize,
 }
 
 // The console after some input, and how many bytes an answer has, or a line that has not ended.
-#[derive(Drop)]
+#[derive(Clone, Copy)]
 pub struct Turn {
     pub console: Console,
     pub length: usize,

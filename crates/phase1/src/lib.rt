@@ -1,5 +1,7 @@
 // Phase 1: each segment takes its top candidate; while some limit does not hold, the weakest segment steps down. A segment
 // whose leader has nothing has nothing.
+#![tactic(auto)]
+
 ghost use Rattle.std.specs.Prelude.{◌≡◌, false, List, ℕ, ◌+◌, ◌-◌, ◌*◌, ◌/◌, ◌^◌, ◌<◌, ◌≤◌, get_or, length};
 ghost use Rattle.std.proofs.Math.Option.{some};
 ghost use Rattle.base.specs.Over.{sum};
@@ -26,7 +28,7 @@ use rules::places::{MOST_RESOURCES, MOST_SEGMENTS};
 use tables::{COLUMNS, Size};
 
 // A segment with its ratio; segment 0 is none.
-#[derive(Drop)]
+#[derive(Clone, Copy)]
 pub struct Weak {
     pub segment: usize,
     pub ratio: u64,

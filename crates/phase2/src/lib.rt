@@ -1,4 +1,6 @@
 // Phase 2: segments with nothing are picked up, the greatest benefit that fits first, until none fits; none before its leader.
+#![tactic(auto)]
+
 ghost use Rattle.std.specs.Prelude.{◌≡◌, ◌&&◌, ◌≤◌, eqb, length};
 ghost use Rattle.rules.specs.District.{most_segments};
 ghost use Rattle.rules.specs.Table.{Table};

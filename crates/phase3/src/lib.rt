@@ -1,4 +1,6 @@
 // Phase 3: changes of one segment or two that raise the total, keep the limits and respect leaders, until none is left.
+#![tactic(auto)]
+
 ghost use Rattle.std.specs.Prelude.{◌≡◌, ℕ, ◌+◌, ◌-◌, ◌^◌, ◌<◌, ◌≤◌, min, true, false, List, get_or, set, length};
 ghost use Rattle.base.specs.Over.{most};
 ghost use Rattle.rules.specs.District.{most_segments, most_strategies, most_resources};
@@ -24,7 +26,7 @@ const OFFSET: u64 = 1 << 48;
 const UNREACHED: u64 = 1 << 50;
 
 // A change: none, segment i gets strategy a, or segments i and k get strategies a and b.
-#[derive(Drop)]
+#[derive(Clone, Copy)]
 pub enum Change {
     Nothing,
     One(usize, usize),

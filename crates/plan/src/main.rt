@@ -1,5 +1,7 @@
 // Plans the district whose file comes from standard input, and prints the programme, or the refusal. No more than
 // 4,096 bytes are read.
+#![tactic(auto)]
+
 ghost use Rattle.std.specs.Prelude.{◌≤◌, length};
 ghost use Rattle.base.specs.Text.{Put};
 ghost use Rattle.listing.specs.Listing.{longest_listing};

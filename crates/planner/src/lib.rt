@@ -1,4 +1,6 @@
 // The plan of a district: its tables filled once, the three phases one after another, and the ceiling.
+#![tactic(auto)]
+
 ghost use Rattle.std.specs.Prelude.{true, ◌≡◌, ◌≤◌, length};
 ghost use Rattle.phase1.specs.Reduce.{Shares};
 ghost use Rattle.laws.specs.Tables.{FitAlone};

@@ -1,5 +1,7 @@
 // Four queues of edits, one for each console, and whose turn it is (rules, specs/Desks.antt). They go in by value and come
 // back; nothing here knows of districts.
+#![tactic(auto)]
+
 ghost use Rattle.std.specs.Prelude.{◌≡◌, [], ◌∷◌, ◌++◌, ℕ, ◌<◌, length, drop};
 ghost use Rattle.std.proofs.Math.Option.{some};
 ghost use Rattle.base.specs.Search.{or_else};
@@ -12,13 +14,13 @@ use rules::{Answer, Console, Edit, Waiting};
 pub const MOST_WAITING: usize = 8;
 
 // The edits that wait are the first `count`, the oldest at place 0.
-#[derive(Drop)]
+#[derive(Clone, Copy)]
 pub struct Queue {
     pub places: [Waiting; MOST_WAITING],
     pub count: usize,
 }
 
-#[derive(Drop)]
+#[derive(Clone, Copy)]
 pub struct Queues {
     pub one: Queue,
     pub two: Queue,
@@ -28,21 +30,21 @@ pub struct Queues {
 }
 
 // The console of a number, where one has it.
-#[derive(Drop)]
+#[derive(Clone, Copy)]
 pub enum Named {
     Is(Console),
     Nobody,
 }
 
 // The answer to an arrival, and the queues then.
-#[derive(Drop)]
+#[derive(Clone, Copy)]
 pub struct Arrival {
     pub answer: Answer,
     pub queues: Queues,
 }
 
 // Where one waits, the edit that is taken, its console, and the queues then.
-#[derive(Drop)]
+#[derive(Clone, Copy)]
 pub struct Taken {
     pub found: bool,
     pub console: Console,

@@ -1,4 +1,6 @@
 // Document 01, "Rating and benefit", of one segment and one strategy of a district. The district is lent.
+#![tactic(auto)]
+
 ghost use Rattle.std.specs.Prelude.{◌≡◌, ℕ, ◌+◌, ◌-◌, ◌*◌, ◌≤◌, nat_abs};
 ghost use Rattle.base.specs.Choice.{pick};
 ghost use Rattle.base.specs.Over.{sum, sum_z, min_z, max_z};

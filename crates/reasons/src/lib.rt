@@ -1,5 +1,7 @@
 // Document 02, request 4: why a segment has, or has not, a strategy. Each search goes through all that it is over, and
 // what it finds first stays.
+#![tactic(auto)]
+
 ghost use Rattle.std.specs.Prelude.{List, ◌≡◌, ℕ, ◌≤◌};
 ghost use Rattle.base.specs.Choice.{only};
 ghost use Rattle.base.specs.Search.{or_else, first};
@@ -16,7 +18,7 @@ use rules::places::*;
 use rules::{District, Edit, Reason, Why};
 
 // What a search for a reason comes to.
-#[derive(Drop)]
+#[derive(Clone, Copy)]
 pub enum Found {
     One(Reason),
     Nothing,

@@ -1,4 +1,5 @@
 // The types that the rules speak of. The rules themselves, document 01 as definitions, are in specs/.
+#![tactic(auto)]
 
 pub mod places;
 pub mod records;
@@ -9,7 +10,7 @@ pub type District = [usize; places::DISTRICT_PLACES];
 
 // One number of a record: how many bytes it has, and its range. Where hi < lo it is a signed byte, from lo to 255 and
 // from 0 to hi.
-#[derive(Drop)]
+#[derive(Clone, Copy)]
 pub struct Field {
     pub width: usize,
     pub lo: usize,
@@ -18,7 +19,7 @@ pub struct Field {
 
 // A record of the file: the file's form, the record's kind, how many places its numbers have in a district, and which
 // of its kind it is, from 0.
-#[derive(Drop)]
+#[derive(Clone, Copy)]
 pub struct Slot {
     pub form: usize,
     pub kind: usize,
@@ -28,7 +29,7 @@ pub struct Slot {
 
 // How a number is written on a card: in a whole-number field, in a decimal field, which is read in hundredths, or in a
 // decimal field whose value is whole.
-#[derive(Drop)]
+#[derive(Clone, Copy)]
 pub enum Notation {
     Whole,
     Hundredths,
@@ -37,12 +38,12 @@ pub enum Notation {
 
 // Columns of a card: the first and the last, from 1, how their number is written, and which number it is of which kind
 // of the file's records.
-#[derive(Drop)]
+#[derive(Clone, Copy)]
 pub struct Columns(pub usize, pub usize, pub Notation, pub usize, pub usize);
 
 // The result of planning: which strategy each of 64 places gets (0 is nothing), three sums, and how much work each
 // phase did.
-#[derive(Drop)]
+#[derive(Clone, Copy)]
 pub struct Programme {
     pub strategies: [usize; places::MOST_SEGMENTS],
     pub total: u64,
@@ -54,7 +55,7 @@ pub struct Programme {
 }
 
 // The planning unit: the district held and the programme worked out for it.
-#[derive(Drop)]
+#[derive(Clone, Copy)]
 pub struct Unit {
     pub district: District,
     pub programme: Programme,
@@ -62,7 +63,7 @@ pub struct Unit {
 
 // What may be altered of the district held, with the numbers as they are handed in: segment and strategy; segment and
 // strategy; resource and limit; segment, distress and rating; segment and leader.
-#[derive(Drop)]
+#[derive(Clone, Copy)]
 pub enum Edit {
     Bar(usize, usize),
     Unbar(usize, usize),
@@ -72,14 +73,14 @@ pub enum Edit {
 }
 
 // An edit that waits to be carried out, and the number of its office, both as they are handed in.
-#[derive(Drop)]
+#[derive(Clone, Copy)]
 pub struct Waiting {
     pub office: usize,
     pub edit: Edit,
 }
 
 // The consoles at which edits arrive.
-#[derive(Drop)]
+#[derive(Clone, Copy)]
 pub enum Console {
     One,
     Two,
@@ -89,7 +90,7 @@ pub enum Console {
 
 // Why a segment has, or has not, a strategy. A minimum missed names distress and year, a limit passed the resource:
 // passed by the strategy alone, or beside what the other segments have.
-#[derive(Drop)]
+#[derive(Clone, Copy)]
 pub enum Reason {
     InProgramme,
     Barred,
@@ -103,14 +104,14 @@ pub enum Reason {
 }
 
 // What the question why returns: a reason, or the number of a refusal.
-#[derive(Drop)]
+#[derive(Clone, Copy)]
 pub enum Why {
     Because(Reason),
     Refused(usize),
 }
 
 // A record from the survey van: an index or a mile marker, with the 32 bits of its float, or a lost sample.
-#[derive(Drop)]
+#[derive(Clone, Copy)]
 pub enum Sent {
     Index(u32),
     Marker(u32),
@@ -118,21 +119,21 @@ pub enum Sent {
 }
 
 // What the call for roughness points returns: the points and the bits of the last marker, or the number of a refusal.
-#[derive(Drop)]
+#[derive(Clone, Copy)]
 pub enum Roughness {
     Points(usize, u32),
     Refused(usize),
 }
 
 // What a call returns: a value (0, a length, points), or the number of a refusal.
-#[derive(Drop)]
+#[derive(Clone, Copy)]
 pub enum Answer {
     Accepted(usize),
     Refused(usize),
 }
 
 // An answer and the unit as the call leaves it.
-#[derive(Drop)]
+#[derive(Clone, Copy)]
 pub struct Reply {
     pub answer: Answer,
     pub unit: Unit,

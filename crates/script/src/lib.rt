@@ -1,4 +1,6 @@
 // A list of calls, read from bytes and made one after the other from the fresh desk (specs/Script.antt).
+#![tactic(auto)]
+
 ghost use Rattle.std.specs.Prelude.{◌≡◌, ◌+◌, ◌≤◌, min, length, replicate};
 ghost use Rattle.pages.specs.Printed.{longest_page};
 ghost use Rattle.rules.specs.Calls.{show_of};
@@ -21,7 +23,7 @@ use rules::records::LONGEST_FILE;
 use rules::{Answer, Roughness, Waiting, Why};
 
 // What the last call of a list replied, and which office it named.
-#[derive(Drop)]
+#[derive(Clone, Copy)]
 pub struct Ran {
     pub last: DeskReply,
     pub office: usize,

@@ -1,5 +1,7 @@
 // What two offices on one unit share of a district: the counts other than N, the greatest ratings, the strategies and
 // the pavement types (rules/specs/District.antt).
+#![tactic(auto)]
+
 ghost use Rattle.std.specs.Prelude.{◌≡◌};
 ghost use Rattle.rules.specs.District.{value_at, is_shared, shared_tables, same_tables};
 

@@ -1,5 +1,7 @@
 // A station: two offices on one unit, which share tables. Every call names its office by number and settles every number
 // by itself; one office's call leaves the other's part as it is, but for a load that changes the shared tables.
+#![tactic(auto)]
+
 ghost use Rattle.std.specs.Prelude.{List, [], ◌≡◌, ℕ};
 ghost use Rattle.rules.specs.Calls.{load_refusal, district_in, unit_of};
 ghost use Rattle.rules.specs.District.{shared_tables};
@@ -17,21 +19,21 @@ use rules::places::SEGMENT_COUNT;
 use rules::refusals::{NO_SUCH_OFFICE, TABLES_IN_USE};
 use rules::{Answer, District, Edit, Programme, Roughness, Sent, Unit, Why};
 
-#[derive(Drop)]
+#[derive(Clone, Copy)]
 pub struct Station {
     pub first: Office,
     pub second: Office,
 }
 
 // An answer and the station as the call leaves it.
-#[derive(Drop)]
+#[derive(Clone, Copy)]
 pub struct StationReply {
     pub answer: Answer,
     pub station: Station,
 }
 
 // The answer of a show and, where it is accepted, the programme; else one with nothing in it.
-#[derive(Drop)]
+#[derive(Clone, Copy)]
 pub struct Shown {
     pub answer: Answer,
     pub programme: Programme,

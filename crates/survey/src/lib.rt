@@ -1,4 +1,6 @@
 // Survey points: the deduct points of Table 1 of the report.
+#![tactic(auto)]
+
 ghost use Rattle.std.specs.Prelude.{◌≡◌, [], ◌<◌, ◌≤◌, length, get_or};
 ghost use Rattle.survey.specs.Blocks.{Distinct, stored_as, table_from};
 ghost use Rattle.rules.specs.Survey.{deduct_points, block_of, survey_of};

@@ -1,4 +1,6 @@
 // A district's table held in arrays: reads, tests of the limits, and changes of a programme.
+#![tactic(auto)]
+
 ghost use Rattle.std.specs.Prelude.{◌≡◌, ℕ, ◌<◌, ◌≤◌, max, List, length};
 ghost use Rattle.base.specs.Over.{all};
 ghost use Rattle.rules.specs.District.{most_segments, most_resources};
@@ -17,7 +19,7 @@ pub const ENTRIES: usize = MOST_SEGMENTS * COLUMNS;
 pub const USE_ENTRIES: usize = MOST_RESOURCES * ENTRIES;
 
 // How many segments, strategies and resources there are.
-#[derive(Drop)]
+#[derive(Clone, Copy)]
 pub struct Size {
     pub segments: usize,
     pub strategies: usize,

@@ -1,10 +1,12 @@
 // Reading of bytes, as many as there are: parts of them, and what digits stand for.
+#![tactic(auto)]
+
 ghost use Rattle.std.specs.Prelude.{◌≡◌, ◌≤◌, length, take as ListN·take, drop as ListN·drop};
 ghost use Rattle.base.specs.Text.{up_to, on_from, skipped, value_from, going_on, held};
 ghost use Rattle.text.specs.Numbers.{value_of};
 
 // A number, or no number of 64 bits.
-#[derive(Drop)]
+#[derive(Clone, Copy)]
 pub enum Number {
     Is(usize),
     Not,

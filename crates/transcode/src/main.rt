@@ -1,6 +1,8 @@
 // Loads and exports files, for a comparison with other decoders. Standard input holds frames, and each frame any bytes.
 // For each, standard output gets the refusal's number or 0, and after a 0 the length, in 4 bytes, and the bytes of the
 // exported file. A frame that is cut short or longer than 65,536 ends the run.
+#![tactic(auto)]
+
 ghost use Rattle.std.specs.Prelude.{◌≡◌, ◌+◌, ◌≤◌, length};
 ghost use Rattle.base.specs.Text.{Put};
 ghost use Rattle.rules.specs.File.{encode, longest_file};

@@ -1,5 +1,7 @@
 // The planning unit's calls. A call takes a unit and gives one back. It settles every input by itself:
 // its contract is an equality with the rules, refusals included, and has no `requires`.
+#![tactic(auto)]
+
 ghost use Rattle.std.specs.Prelude.{◌≡◌};
 ghost use Rattle.rules.specs.Calls.{fresh_unit, unit_of, answered, load_of, alter_of, export_of, page_of, show_of, why_of};
 ghost use Rattle.rules.specs.Demands.{EveryAnswer, EveryPoints, TheRules, EveryFile, OneClaim};

@@ -1,5 +1,7 @@
 // Turns the file from standard input into the form with leaders, of which none is set, and prints the new file, or the
 // refusal. No more than 4,096 bytes are read.
+#![tactic(auto)]
+
 ghost use Rattle.std.specs.Prelude.{◌≤◌, length};
 ghost use Rattle.base.specs.Text.{Put};
 ghost use Rattle.rules.specs.File.{longest_file};

@@ -2,6 +2,8 @@
 // For each, standard output gets the refusal of its last call or, where that is accepted, the programme of the office that
 // it named.
 // A frame that is cut short or longer than 65,536 ends the run.
+#![tactic(auto)]
+
 ghost use Rattle.std.specs.Prelude.{◌≤◌, length};
 ghost use Rattle.base.specs.Text.{Put};
 ghost use Rattle.listing.specs.Listing.{longest_listing};
