@@ -1,0 +1,7 @@
+-- `queues::fresh` meets its contract.
+use Rattle.rules.specs.Desks.{fresh_queues}
+use Rattle.queues.proofs.fresh.Goals as goal
+
+pub returns : goal.returns
+unfolding fresh_queues
+returns c = rw c.empty-queue.ensures
