@@ -26,7 +26,7 @@ use Rattle.grammar.proofs.Forms.{range_form}
 use Rattle.grammar.proofs.Slots.{start_next, ready}
 use Rattle.file.specs.Readings.{loaded_from}
 use Rattle.file.specs.declared.Loaded.{Loaded}
-use Rattle.file.proofs.TwoForms.{form_in, form_kept}
+use Rattle.file.proofs.TwoForms.{form_in_lem, form_kept}
 use Rattle.file.proofs.Refusals.{refusals_as}
 use Rattle.file.proofs.Steps.{widths_none, widths_take, header_there, header_none, record_none, records_found, records_refused}
 
@@ -250,8 +250,8 @@ encode_decode_as form f file d rest e =
 pub encode_decode : (file d rest : List ℕ) → decode file ≡ found d rest → (Bytes file → (eqb (form_in file) leader_form && leaderless d) ≡ false → encode d ≡ file) × (in_range d ≡ true) × (rest ≡ [])
 unfolding decode encode
 encode_decode file d rest e =
-    let k = encode_decode_as (form_in file) (form_in file) file d rest e in
-    ((λ h t. ap (λ (g : ℕ). encode_as g d) (form_kept (form_in file) (form_in file) d k.2 t) ∙ k.0 h), k.1, k.3)
+    let k = encode_decode_as (form_in file) (form_in_lem file) file d rest e in
+    ((λ h t. ap (λ (g : ℕ). encode_as g d) (form_kept (form_in file) (form_in_lem file) d k.2 t) ∙ k.0 h), k.1, k.3)
 
 -- ---- what a file loads as
 
@@ -265,7 +265,7 @@ found_as form f file e = go (decode_as form file) refl
 
 pub loads_as : (file : List ℕ) → load_refusal file ≡ 0 → (Bytes file → led_by_none file ≡ false → encode (district_in file) ≡ file) × (in_range (district_in file) ≡ true)
 unfolding load_refusal district_in decode
-loads_as file e = let k = encode_decode file _ [] (found_as (form_in file) (form_in file) file e) in (k.0, k.1)
+loads_as file e = let k = encode_decode file _ [] (found_as (form_in file) (form_in_lem file) file e) in (k.0, k.1)
 
 -- what is loaded is in the file's ranges too
 pub loaded_ranged : (file : List ℕ) → {r : Loaded} → r ≡ loaded_from file → (r ≡ loaded_from file) × (r.refusal ≡ 0 → in_range r.district ≡ true)

@@ -19,8 +19,8 @@ use Rattle.grammar.specs.Places.{Form, Suits}
 use Rattle.grammar.proofs.Slots.{form_all}
 use Rattle.file.proofs.Steps.{records_refused}
 
-pub form_in : (file : List ℕ) → Form (form_in file)
-form_in file = pick_all Form (eqb (kind_in file) leader_form) leader_form plain_form (inr refl) (inl refl)
+pub form_in_lem : (file : List ℕ) → Form (form_in file)
+form_in_lem file = pick_all Form (eqb (kind_in file) leader_form) leader_form plain_form (inr refl) (inl refl)
 
 pub form_of_lem : (d : District) → Form (form_of d)
 unfolding form_of
@@ -62,7 +62,7 @@ short_as form f file h =
 
 pub read_short : (form : ℕ) → Form form → (file : List ℕ) → length file < 4 → decode_as form file ≡ decode file
 unfolding decode
-read_short form f file h = short_as form f file h ∙ sym (short_as (form_in file) (form_in file) file h)
+read_short form f file h = short_as form f file h ∙ sym (short_as (form_in file) (form_in_lem file) file h)
 
 pub read_as : (form : ℕ) (file : List ℕ) → form_in file ≡ form → decode_as form file ≡ decode file
 unfolding decode

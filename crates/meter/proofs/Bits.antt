@@ -47,15 +47,15 @@ bits_read bits = rw (field bits 8 23) (fields_read (is_negative bits) (exponent_
 
 -- ---- which are no number
 
-is_nan : (x : Float) → is_nan x ≡ true → nan ≡ x
+is_nan_lem : (x : Float) → is_nan x ≡ true → nan ≡ x
 unfolding is_nan
-is_nan nan h = refl
-is_nan (inf s) h = absurd (true≢false (sym h))
-is_nan (fin s m e) h = absurd (true≢false (sym h))
+is_nan_lem nan h = refl
+is_nan_lem (inf s) h = absurd (true≢false (sym h))
+is_nan_lem (fin s m e) h = absurd (true≢false (sym h))
 
 pub no_number : (bits : ℕ) → 2139095040 < bits % 2147483648 → nan ≡ of_bits binary32 bits
 no_number bits h =
-    is_nan (of_bits binary32 bits)
+    is_nan_lem (of_bits binary32 bits)
     (sym (nan_bits_is binary32 bits) ∙ nan_bits_above binary32 bits ∙ lt-ltb 2139095040 (bits % 2147483648) h)
 
 pub a_number : (bits : ℕ) → bits % 2147483648 ≤ 2139095040 → nan_bits binary32 bits ≡ false

@@ -406,13 +406,11 @@ pub fn reduce(
     choice: &mut [usize],
     sums: &mut [u64],
 ) -> u64
-    ghost t: { Table }
-    requires limits_value { tables z benefits.now uses.now limits.now ≡ t }
     requires leaders { Leaders leaders.now }
     requires held { Held z benefits.now uses.now limits.now shares.now choice.old sums.old }
     ensures running { Running z uses.now choice.new sums.new }
-    ensures choice_after { choice.new ≡ (phase1 t (leader_in leaders.now) choice.old).last }
-    ensures value { result ≡ (phase1 t (leader_in leaders.now) choice.old).count }
+    ensures choice_after { let t = tables z benefits.now uses.now limits.now in choice.new ≡ (phase1 t (leader_in leaders.now) choice.old).last }
+    ensures value { let t = tables z benefits.now uses.now limits.now in result ≡ (phase1 t (leader_in leaders.now) choice.old).count }
 {
     let mut steps: u64 = 0;
     let led = last_led(z.segments, leaders);

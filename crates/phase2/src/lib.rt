@@ -19,11 +19,9 @@ fn offer_of(
     sums: &[u64],
     i: usize,
 ) -> usize
-    ghost t: { Table }
-    requires limits_value { tables z benefits.now uses.now limits.now ≡ t }
     requires benefits { Benefits benefits.now × Limits limits.now × Running z uses.now choice.now sums.now }
     requires le_i { (1 ≤ i) × (i ≤ z.segments) }
-    ensures { result ≡ offer t choice.now i }
+    ensures { let t = tables z benefits.now uses.now limits.now in result ≡ offer t choice.now i }
 {
     let mut top: usize = 0;
     let mut most: u64 = 0;
@@ -63,10 +61,8 @@ fn best_offer(
     choice: &[usize],
     sums: &[u64],
 ) -> usize
-    ghost t: { Table }
-    requires limits_value { tables z benefits.now uses.now limits.now ≡ t }
-    requires benefits { Benefits benefits.now × Limits limits.now × Running z uses.now choice.now sums.now × Leaders leaders.now }
-    ensures { result ≡ best_offer t (leader_in leaders.now) choice.now }
+    requires { Benefits benefits.now × Limits limits.now × Running z uses.now choice.now sums.now × Leaders leaders.now }
+    ensures { let t = tables z benefits.now uses.now limits.now in result ≡ best_offer t (leader_in leaders.now) choice.now }
 {
     let mut top: usize = 0;
     let mut most: u64 = 0;
@@ -95,12 +91,10 @@ pub fn pick_up(
     choice: &mut [usize],
     sums: &mut [u64],
 ) -> u64
-    ghost t: { Table }
-    requires limits_value { tables z benefits.now uses.now limits.now ≡ t }
-    requires benefits { Benefits benefits.now × Limits limits.now × Running z uses.now choice.old sums.old × Leaders leaders.now }
+    requires { Benefits benefits.now × Limits limits.now × Running z uses.now choice.old sums.old × Leaders leaders.now }
     ensures running { Running z uses.now choice.new sums.new }
-    ensures choice_after { choice.new ≡ (phase2 t (leader_in leaders.now) choice.old).last }
-    ensures value { result ≡ (phase2 t (leader_in leaders.now) choice.old).count }
+    ensures choice_after { let t = tables z benefits.now uses.now limits.now in choice.new ≡ (phase2 t (leader_in leaders.now) choice.old).last }
+    ensures value { let t = tables z benefits.now uses.now limits.now in result ≡ (phase2 t (leader_in leaders.now) choice.old).count }
 {
     let mut picks: u64 = 0;
     loop {

@@ -247,11 +247,9 @@ fn with_may_count(
     row: &mut [u64],
     asked: usize,
 ) -> bool
-    ghost t: { Table }
-    requires limits_value { tables z benefits.now uses.now limits.now ≡ t }
     requires setting { Setting z benefits.now uses.now limits.now choice.now sums.now given.now i k × Tops z benefits.now tops.now × (length row.old ≡ row_places) }
     requires a_le_strategies { a ≤ z.strategies }
-    ensures { WithTest t choice.now i k a row.old row.new result }
+    ensures { let t = tables z benefits.now uses.now limits.now in WithTest t choice.now i k a row.old row.new result }
 {
     if !is_another(benefits, choice, i, a) {
         return false;
@@ -335,11 +333,9 @@ fn counts_one(
     i: usize,
     a: usize,
 ) -> bool
-    ghost t: { Table }
-    requires limits_value { tables z benefits.now uses.now limits.now ≡ t }
     requires benefits { Benefits benefits.now × Limits limits.now × Running z uses.now choice.now sums.now × Leaders leaders.now }
     requires le_i { (1 ≤ i) × (i ≤ z.segments) × (a ≤ z.strategies) }
-    ensures { result ≡ counts_one t (leader_in leaders.now) choice.now i a }
+    ensures { let t = tables z benefits.now uses.now limits.now in result ≡ counts_one t (leader_in leaders.now) choice.now i a }
 {
     if tables::benefit(benefits, i, a) <= tables::chosen_benefit(benefits, choice, i) {
         return false;
@@ -369,11 +365,9 @@ fn counts_two(
     row: &mut [u64],
     asked: &mut usize,
 ) -> bool
-    ghost t: { Table }
-    requires limits_value { tables z benefits.now uses.now limits.now ≡ t }
-    requires setting { Setting z benefits.now uses.now limits.now choice.now sums.now given.now i k × (length row.old ≡ row_places) × (another t choice.now i a ≡ true) × Leaders leaders.now }
+    requires setting { let t = tables z benefits.now uses.now limits.now in Setting z benefits.now uses.now limits.now choice.now sums.now given.now i k × (length row.old ≡ row_places) × (another t choice.now i a ≡ true) × Leaders leaders.now }
     requires a_le_strategies { (a ≤ z.strategies) × (b ≤ z.strategies) }
-    ensures { PairTest t (leader_in leaders.now) choice.now i k a b row.old row.new result }
+    ensures { let t = tables z benefits.now uses.now limits.now in PairTest t (leader_in leaders.now) choice.now i k a b row.old row.new result }
 {
     let new = tables::benefit(benefits, i, a) + tables::benefit(benefits, k, b);
     if new <= present_benefit(benefits, choice, i, k) {
@@ -399,10 +393,8 @@ fn first_one(
     choice: &[usize],
     sums: &[u64],
 ) -> Change
-    ghost t: { Table }
-    requires limits_value { tables z benefits.now uses.now limits.now ≡ t }
-    requires benefits { Benefits benefits.now × Limits limits.now × Running z uses.now choice.now sums.now × Leaders leaders.now }
-    ensures { Found z choice.now result (first_single t (leader_in leaders.now) choice.now) }
+    requires { Benefits benefits.now × Limits limits.now × Running z uses.now choice.now sums.now × Leaders leaders.now }
+    ensures { let t = tables z benefits.now uses.now limits.now in Found z choice.now result (first_single t (leader_in leaders.now) choice.now) }
 {
     let mut found = Change::Nothing;
     let segments_end = z.segments + 1;
@@ -445,12 +437,10 @@ fn search_pair(
     row: &mut [u64],
     asked: &mut usize,
 ) -> Change
-    ghost t: { Table }
-    requires limits_value { tables z benefits.now uses.now limits.now ≡ t }
-    requires setting { Setting z benefits.now uses.now limits.now choice.now sums.now given.now i k × Tops z benefits.now tops.now × Searching t (leader_in leaders.now) choice.now i k row.old 0 × Leaders leaders.now }
-    ensures found { Found z choice.now result (pairs_of t (leader_in leaders.now) choice.now i k) }
+    requires { let t = tables z benefits.now uses.now limits.now in Setting z benefits.now uses.now limits.now choice.now sums.now given.now i k × Tops z benefits.now tops.now × Searching t (leader_in leaders.now) choice.now i k row.old 0 × Leaders leaders.now }
+    ensures found { let t = tables z benefits.now uses.now limits.now in Found z choice.now result (pairs_of t (leader_in leaders.now) choice.now i k) }
     ensures row_len { length row.new ≡ row_places }
-    ensures holds { Holds t (leader_in leaders.now) i k (numbers row.new) }
+    ensures holds { let t = tables z benefits.now uses.now limits.now in Holds t (leader_in leaders.now) i k (numbers row.new) }
 {
     let mut found = Change::Nothing;
     let strategies_end = z.strategies + 1;
@@ -505,13 +495,11 @@ fn look(
     row: &mut [u64],
     asked: &mut usize,
 ) -> Change
-    ghost t: { Table }
-    requires limits_value { tables z benefits.now uses.now limits.now ≡ t }
     requires benefits { Benefits benefits.now × Limits limits.now × Running z uses.now choice.now sums.now × Tops z benefits.now tops.now × (length row.old ≡ row_places) × Leaders leaders.now }
     requires le_i { (1 ≤ i) × (i < k) × (k ≤ z.segments) }
-    ensures found { Found z choice.now result (pairs_of t (leader_in leaders.now) choice.now i k) }
+    ensures found { let t = tables z benefits.now uses.now limits.now in Found z choice.now result (pairs_of t (leader_in leaders.now) choice.now i k) }
     ensures row_len { length row.new ≡ row_places }
-    ensures holds { Holds t (leader_in leaders.now) i k (numbers row.new) }
+    ensures holds { let t = tables z benefits.now uses.now limits.now in Holds t (leader_in leaders.now) i k (numbers row.new) }
 {
     let given = both_give_up(z, uses, limits, choice, i, k);
     clear(z.resources, mark_of(choice, i, k), row);
@@ -565,12 +553,10 @@ fn first_of_pair(
     memory: &mut [u64],
     asked: &mut usize,
 ) -> Change
-    ghost t: { Table }
-    requires limits_value { tables z benefits.now uses.now limits.now ≡ t }
-    requires benefits { Benefits benefits.now × Limits limits.now × Running z uses.now choice.now sums.now × Tops z benefits.now tops.now × Slacks z.resources limits.now sums.now slacks.now × Memory t (leader_in leaders.now) memory.old × Leaders leaders.now }
+    requires benefits { let t = tables z benefits.now uses.now limits.now in Benefits benefits.now × Limits limits.now × Running z uses.now choice.now sums.now × Tops z benefits.now tops.now × Slacks z.resources limits.now sums.now slacks.now × Memory t (leader_in leaders.now) memory.old × Leaders leaders.now }
     requires le_i { (1 ≤ i) × (i < k) × (k ≤ z.segments) }
-    ensures found { Found z choice.now result (pairs_of t (leader_in leaders.now) choice.now i k) }
-    ensures memory { Memory t (leader_in leaders.now) memory.new }
+    ensures found { let t = tables z benefits.now uses.now limits.now in Found z choice.now result (pairs_of t (leader_in leaders.now) choice.now i k) }
+    ensures memory { let t = tables z benefits.now uses.now limits.now in Memory t (leader_in leaders.now) memory.new }
 {
     if !pair_may_rise(benefits, choice, tops, i, k) {
         return Change::Nothing;
@@ -612,12 +598,10 @@ fn first_two(
     tops: &[u64],
     memory: &mut [u64],
 ) -> Change
-    ghost t: { Table }
-    requires limits_value { tables z benefits.now uses.now limits.now ≡ t }
     requires benefits { Benefits benefits.now × Limits limits.now × Running z uses.now choice.now sums.now × Leaders leaders.now }
-    requires tops { Tops z benefits.now tops.now × Memory t (leader_in leaders.now) memory.old }
-    ensures found { Found z choice.now result (first_pair t (leader_in leaders.now) choice.now) }
-    ensures memory { Memory t (leader_in leaders.now) memory.new }
+    requires tops { let t = tables z benefits.now uses.now limits.now in Tops z benefits.now tops.now × Memory t (leader_in leaders.now) memory.old }
+    ensures found { let t = tables z benefits.now uses.now limits.now in Found z choice.now result (first_pair t (leader_in leaders.now) choice.now) }
+    ensures memory { let t = tables z benefits.now uses.now limits.now in Memory t (leader_in leaders.now) memory.new }
 {
     let mut found = Change::Nothing;
     let mut asked: usize = 0;
@@ -649,12 +633,10 @@ fn first_change(
     tops: &[u64],
     memory: &mut [u64],
 ) -> Change
-    ghost t: { Table }
-    requires limits_value { tables z benefits.now uses.now limits.now ≡ t }
     requires benefits { Benefits benefits.now × Limits limits.now × Running z uses.now choice.now sums.now × Leaders leaders.now }
-    requires tops { Tops z benefits.now tops.now × Memory t (leader_in leaders.now) memory.old }
-    ensures found { Found z choice.now result (change t (leader_in leaders.now) choice.now) }
-    ensures memory { Memory t (leader_in leaders.now) memory.new }
+    requires tops { let t = tables z benefits.now uses.now limits.now in Tops z benefits.now tops.now × Memory t (leader_in leaders.now) memory.old }
+    ensures found { let t = tables z benefits.now uses.now limits.now in Found z choice.now result (change t (leader_in leaders.now) choice.now) }
+    ensures memory { let t = tables z benefits.now uses.now limits.now in Memory t (leader_in leaders.now) memory.new }
 {
     let one = first_one(z, leaders, benefits, uses, limits, choice, sums);
     if is_nothing(one) {
@@ -694,12 +676,10 @@ pub fn improve(
     choice: &mut [usize],
     sums: &mut [u64],
 ) -> u64
-    ghost t: { Table }
-    requires limits_value { tables z benefits.now uses.now limits.now ≡ t }
-    requires benefits { Benefits benefits.now × Limits limits.now × Running z uses.now choice.old sums.old × Leaders leaders.now }
+    requires { Benefits benefits.now × Limits limits.now × Running z uses.now choice.old sums.old × Leaders leaders.now }
     ensures running { Running z uses.now choice.new sums.new }
-    ensures choice_after { choice.new ≡ (phase3 t (leader_in leaders.now) choice.old).last }
-    ensures value { result ≡ (phase3 t (leader_in leaders.now) choice.old).count }
+    ensures choice_after { let t = tables z benefits.now uses.now limits.now in choice.new ≡ (phase3 t (leader_in leaders.now) choice.old).last }
+    ensures value { let t = tables z benefits.now uses.now limits.now in result ≡ (phase3 t (leader_in leaders.now) choice.old).count }
 {
     let mut tops: [u64; MOST_SEGMENTS] = [0; MOST_SEGMENTS];
     fill_tops(z, benefits, &mut tops);

@@ -26,13 +26,11 @@ fn begin(
     choice: &mut [usize],
     sums: &mut [u64],
 ) -> u64
-    ghost t: { Table }
-    requires limits_value { tables z benefits.now uses.now limits.now ≡ t }
-    requires tabled { Tabled z benefits.now uses.now limits.now × FitAlone t × Shares z benefits.now uses.now limits.now shares.now × Leaders leaders.now }
+    requires tabled { let t = tables z benefits.now uses.now limits.now in Tabled z benefits.now uses.now limits.now × FitAlone t × Shares z benefits.now uses.now limits.now shares.now × Leaders leaders.now }
     requires choice_len { (length choice.old ≡ most_segments) × (length sums.old ≡ most_resources) }
     ensures running { Running z uses.now choice.new sums.new }
-    ensures choice_after { choice.new ≡ (reduced t (leader_in leaders.now)).last }
-    ensures value { result ≡ (reduced t (leader_in leaders.now)).count }
+    ensures choice_after { let t = tables z benefits.now uses.now limits.now in choice.new ≡ (reduced t (leader_in leaders.now)).last }
+    ensures value { let t = tables z benefits.now uses.now limits.now in result ≡ (reduced t (leader_in leaders.now)).count }
 {
     phase1::start(z, leaders, benefits, uses, choice, sums);
     phase1::reduce(z, leaders, benefits, uses, limits, shares, choice, sums)
@@ -50,11 +48,9 @@ fn finish(
     steps: u64,
     bound: u64,
 ) -> Programme
-    ghost t: { Table }
-    requires limits_value { tables z benefits.now uses.now limits.now ≡ t }
     requires benefits { Benefits benefits.now × Limits limits.now × Running z uses.now begun used × Leaders leaders.now }
-    requires bound_value { bound ≡ ceiling t }
-    ensures { result ≡ programme_from t (leader_in leaders.now) (record { last = begun; count = steps }) }
+    requires bound_value { let t = tables z benefits.now uses.now limits.now in bound ≡ ceiling t }
+    ensures { let t = tables z benefits.now uses.now limits.now in result ≡ programme_from t (leader_in leaders.now) (record { last = begun; count = steps }) }
 {
     let mut choice = begun;
     let mut sums = used;
@@ -83,11 +79,9 @@ fn phases(
     shares: &[u64],
     bound: u64,
 ) -> Programme
-    ghost t: { Table }
-    requires limits_value { tables z benefits.now uses.now limits.now ≡ t }
-    requires tabled { Tabled z benefits.now uses.now limits.now × FitAlone t × Shares z benefits.now uses.now limits.now shares.now × Leaders leaders.now }
-    requires bound_value { bound ≡ ceiling t }
-    ensures { result ≡ programme_of t (leader_in leaders.now) }
+    requires tabled { let t = tables z benefits.now uses.now limits.now in Tabled z benefits.now uses.now limits.now × FitAlone t × Shares z benefits.now uses.now limits.now shares.now × Leaders leaders.now }
+    requires bound_value { let t = tables z benefits.now uses.now limits.now in bound ≡ ceiling t }
+    ensures { let t = tables z benefits.now uses.now limits.now in result ≡ programme_of t (leader_in leaders.now) }
 {
     let mut choice = [0usize; MOST_SEGMENTS];
     let mut sums = [0u64; MOST_RESOURCES];

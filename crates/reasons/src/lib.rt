@@ -96,7 +96,7 @@ fn missed_minimum(d: &District, i: usize, j: usize) -> Found
 // The first resource of which the strategy alone uses more than the limit.
 fn over_alone(d: &District, i: usize, j: usize) -> Found
     requires { Ranges d.now × SegmentOf d.now i × Strategy j }
-    ensures* { λ r. ⌜ ((c : List ℕ) → option_of r ≡ first (resources_of d.now) (λ r. Reasons·given d.now c i j (OverAlone r))) ⌝ }
+    ensures { (c : List ℕ) → option_of result ≡ first (resources_of d.now) (λ r. Reasons·given d.now c i j (OverAlone r)) }
 {
     let resources = d[RESOURCE_COUNT];
     let mut found = Found::Nothing;
@@ -123,7 +123,7 @@ fn asked(c: [usize; MOST_SEGMENTS], i: usize, j: usize) -> [usize; MOST_SEGMENTS
 // The first resource of which that programme uses more than the limit.
 fn over_beside(d: &District, c: [usize; MOST_SEGMENTS], i: usize, j: usize) -> Found
     requires { Ranges d.now × SegmentOf d.now i }
-    ensures* { λ r. ⌜ option_of r ≡ first (resources_of d.now) (λ r. Reasons·given d.now c i j (OverBeside r)) ⌝ }
+    ensures { option_of result ≡ first (resources_of d.now) (λ r. Reasons·given d.now c i j (OverBeside r)) }
 {
     let resources = d[RESOURCE_COUNT];
     let e = asked(c, i, j);

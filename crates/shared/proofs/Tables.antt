@@ -55,9 +55,9 @@ pub tables_twice : (d : District) → shared_tables (shared_tables d) ≡ shared
 unfolding shared_tables
 tables_twice d = shared_twice d 0
 
-pub same_tables : (d e : District) → same_tables d e ≡ true → shared_tables d ≡ shared_tables e
+pub same_tables_lem : (d e : District) → same_tables d e ≡ true → shared_tables d ≡ shared_tables e
 unfolding same_tables
-same_tables d e t = same_is (shared_tables d) (shared_tables e) t
+same_tables_lem d e t = same_is (shared_tables d) (shared_tables e) t
 
 -- ---- a number that is not shared
 

@@ -13,7 +13,7 @@ use Rattle.grammar.proofs.InRanges.{in_ranges}
 use Rattle.demands.proofs.Lists.{after_in}
 use Rattle.stations.proofs.Districts.{after_kept}
 use Rattle.stations.proofs.Reached.{Reached, Each, fresh_each, next_reached}
-use Rattle.shared.proofs.Tables.{tables_twice, same_tables}
+use Rattle.shared.proofs.Tables.{tables_twice, same_tables_lem}
 use Rattle.stations.proofs.Shared.{edit_shared}
 
 few : (d : District) → Reached d → resources_of d ≤ most_resources
@@ -26,7 +26,7 @@ module _ (d e : District) (same : shared_tables d ≡ shared_tables e) (reached 
   tables_next (Load file) ok = go (same_tables d (district_in file)) refl
     where
       go : (t : Bool) → same_tables d (district_in file) ≡ t → shared_tables (district_in file) ≡ shared_tables (pick (not t) (shared_tables (district_in file)) e)
-      go true q = sym (same_tables d (district_in file) q) ∙ same
+      go true q = sym (same_tables_lem d (district_in file) q) ∙ same
       go false q = sym (tables_twice (district_in file))
   tables_next (Alter x) ok = edit_shared d x (few d reached) ok ∙ same
   tables_next (ExportTo buffer) ok = same

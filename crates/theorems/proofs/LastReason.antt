@@ -42,9 +42,9 @@ module _
     (d : District) (p : Programme) (i j : ℕ) (sound : Sound d p) (worth : leaders_worth d (strategy_at p.strategies) ≡ true)
     (room : segments_of d ≤ length p.strategies)
     (l : 1 ≤ i) (h : i ≤ segments_of d) (lj : 1 ≤ j) (hj : j ≤ strategies_of d)
-    (None-found : hindrance d p.strategies i j ≡ none) where
+    (none_found : hindrance d p.strategies i j ≡ none) where
   free : (q : Reason) → names d q ≡ true → number q ≤ 8 → holds d p.strategies i j q ≡ false
-  free = none_holds d p.strategies i j None-found
+  free = none_holds d p.strategies i j none_found
 
   abbrev rival : List ℕ
   rival = asked d p.strategies i j
@@ -119,4 +119,4 @@ module _
       (T_true _ (sound.neighbours (strategy_at rival) rival_rival i i rival_apart).le)
 
   pub last_explained : Explained d p.strategies i j NoGreaterTotal
-  last_explained = explained_last d p.strategies i j None-found last_holds
+  last_explained = explained_last d p.strategies i j none_found last_holds

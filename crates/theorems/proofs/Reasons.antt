@@ -237,10 +237,10 @@ module _ (d : District) (c : List ℕ) (i j : ℕ) where
       record { named = w.1.named; holding = w.1.holding; earlier = none_before r w.0 }
 
   -- or none, and then the last is the reason if it holds
-  module _ (None-found : hindrance d c i j ≡ none) where
+  module _ (none_found : hindrance d c i j ≡ none) where
     pub none_holds : (q : Reason) → names d q ≡ true → number q ≤ 8 → holds d c i j q ≡ false
-    none_holds q named h = none_before NoGreaterTotal (reached_none None-found) q named (before_last q h)
+    none_holds q named h = none_before NoGreaterTotal (reached_none none_found) q named (before_last q h)
 
     pub explained_last : holds d c i j NoGreaterTotal ≡ true → Explained d c i j NoGreaterTotal
     unfolding names
-    explained_last e = record { named = refl; holding = e; earlier = none_before NoGreaterTotal (reached_none None-found) }
+    explained_last e = record { named = refl; holding = e; earlier = none_before NoGreaterTotal (reached_none none_found) }

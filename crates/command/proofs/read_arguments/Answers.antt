@@ -25,11 +25,11 @@ left c =
     let one : a.n - l.i ≡ suc (a.n - (l.i + 1)) = omega arith in
     rw one at l.invariant.3
 
-fits : (c : tie.After-first-length invariant-loop decreases-loop) → c.before.before.before.before.before.before.before.before.loop.at + c.first-length.result ≤ length c.before.before.before.before.before.before.before.before.before.before.args.line.now
+fits : (c : tie.After-first-length invariant-loop decreases-loop) → c.before.before.before.before.before.before.before.before.loop.at + c.first_length.result ≤ length c.before.before.before.before.before.before.before.before.before.before.args.line.now
 fits c =
     let s = c.before.before.before.before.before.before.before.before.before.before.args.line.now in
     let at = c.before.before.before.before.before.before.before.before.loop.at in
-    omega (arith, c.before.before.before.before.before.before.before.before.loop.invariant.1, c.first-length.ensures.0, ap length (whole_tail s at), length-drop at s)
+    omega (arith, c.before.before.before.before.before.before.before.before.loop.invariant.1, c.first_length.ensures.0, ap length (whole_tail s at), length-drop at s)
 
 pub loop-i-init : goal.loop-i-init
 loop-i-init c = (omega arith, omega (arith, c.requires), refl, rw sub-zero (sym (prefixed_none _)), blank_all 4)

@@ -22,8 +22,8 @@ returns-then-shared_value c =
     let two = c.shared_value-in-loop-place.ensures in
     sym
     (l.invariant.1
-    ∙ same_next (shared_tables a.t1) (shared_tables a.t2) l.place (rw tables_length (omega arith)) (rw tables_length (omega arith))
-    ∙ rw (ne_eqb (value_at (shared_tables a.t1) l.place) (value_at (shared_tables a.t2) l.place) (λ e. c.if-shared_value.true (one ∙ e ∙ sym two))))
+    ∙ same_next (shared_tables a.d) (shared_tables a.e) l.place (rw tables_length (omega arith)) (rw tables_length (omega arith))
+    ∙ rw (ne_eqb (value_at (shared_tables a.d) l.place) (value_at (shared_tables a.e) l.place) (λ e. c.if-shared_value.true (one ∙ e ∙ sym two))))
 
 pub loop-place-preserved : goal.loop-place-preserved
 loop-place-preserved c =
@@ -33,8 +33,8 @@ loop-place-preserved c =
     let two = c.shared_value-in-loop-place.ensures in (
       omega arith,
       l.invariant.1
-          ∙ same_next (shared_tables a.t1) (shared_tables a.t2) l.place (rw tables_length (omega arith)) (rw tables_length (omega arith))
-          ∙ rw (eq-eqb (value_at (shared_tables a.t1) l.place) (value_at (shared_tables a.t2) l.place) (sym one ∙ c.if-shared_value.false ∙ two)),
+          ∙ same_next (shared_tables a.d) (shared_tables a.e) l.place (rw tables_length (omega arith)) (rw tables_length (omega arith))
+          ∙ rw (eq-eqb (value_at (shared_tables a.d) l.place) (value_at (shared_tables a.e) l.place) (sym one ∙ c.if-shared_value.false ∙ two)),
     )
 
 pub returns : goal.returns
@@ -44,4 +44,4 @@ returns c =
     let a = c.args in
     sym
     (l.invariant.1
-    ∙ rw (drop_of_length-le (shared_tables a.t1) {i = l.place} (rw tables_length (omega arith)), drop_of_length-le (shared_tables a.t2) {i = l.place} (rw tables_length (omega arith))))
+    ∙ rw (drop_of_length-le (shared_tables a.d) {i = l.place} (rw tables_length (omega arith)), drop_of_length-le (shared_tables a.e) {i = l.place} (rw tables_length (omega arith))))

@@ -16,13 +16,13 @@ loop-place-init c = (omega arith, written_none _ _)
 pub loop-place-preserved : goal.loop-place-preserved
 loop-place-preserved c =
     let l = c.loop-place in
-    let d = c.args.t1 in
+    let d = c.args.d in
     let next = drop_next (shared_tables d) l.place (rw tables_length (omega arith)) in
     (omega arith, rw c.shared_value.ensures (written_one _ _ (rw next at l.invariant.1) (omega (arith, l.invariant.1.same))))
 
 pub returns : goal.returns
 returns c =
     let l = c.loop-place in
-    let d = c.args.t1 in
+    let d = c.args.d in
     let all = (written_all l.invariant.1 (drop_of_length-le (shared_tables d) {i = l.place} (rw tables_length (omega arith)))).1 in
     all ∙ rw (drop_of_length-le {A = ℕ} (replicate district_places 0) {i = length (shared_tables d)} (rw tables_length (omega arith))) (append-nil (shared_tables d))
