@@ -13,12 +13,12 @@ small c i j = usage_lt c.requires.testable.uses i j c.args.r
 pub overflow_add-more : goal.overflow_add-more
 overflow_add-more c =
     let a = c.args in
-    omega (arith, small s a.i a.a, small s a.k a.b)
+    omega (arith, small (goal.at.overflow_add-more c).Start a.i a.a, small (goal.at.overflow_add-more c).Start a.k a.b)
 
 pub overflow_add-result : goal.overflow_add-result
 overflow_add-result c =
     let a = c.args in
-    omega (arith, small s a.i a.a, small s a.k a.b, c.requires.testable.sums_small a.r (omega arith) (omega arith))
+    omega (arith, small (goal.at.overflow_add-result c).Start a.i a.a, small (goal.at.overflow_add-result c).Start a.k a.b, c.requires.testable.sums_small a.r (omega arith) (omega arith))
 
 pub returns : goal.returns
 unfolding room_for

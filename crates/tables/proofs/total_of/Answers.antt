@@ -1,7 +1,6 @@
 -- `tables::total_of` meets its contract: the sum so far is that of the segments passed.
-use Prim.Native.Nat.{◌+◌, ◌-◌}
+use Prim.Native.Nat.{◌+◌}
 use native.Mathlib.Omega.{arith}
-use Rattle.base.specs.Over.{sum}
 use Rattle.base.proofs.Sums.{sum_none, sum_next, sum_end}
 use Rattle.rules.specs.Phases.{strategy_at, chosen_benefit, total}
 use Rattle.tables.proofs.Arrays.{benefit_lt, benefits_le, cell_of}
