@@ -1,5 +1,4 @@
 -- `shared::same_tables` meets its contract: what is still to be compared says whether all is the same.
-use Prim.Native.Nat.{◌-◌}
 use mathlib.Core.Path.{refl, sym, ◌∙◌}
 use native.Mathlib.Omega.{arith}
 use lib.ListN.{drop_of_length-le}
