@@ -81,11 +81,12 @@ module _ (u : District) (s : Slot) where
             ∙ ap (λ (y : List ℕ). y ++ drop w bs) (sym (front_bytes w bs h l))
             ∙ ap (λ (y : List ℕ). bytes_of w x ++ y) (ih.bytes (bytes_drop w bs h))
             ∙ sym (append_assoc (bytes_of w x) (value_bytes u s (n + 1) ih.ws) rest);
-        good = λ i. elim i [
-          | zero ↦ λ q. rw add-zero t
-          | suc j ↦ λ q. let y : n + 1 + j ≡ n + suc j = omega arith in rw y at (ih.good j (omega arith))
-        ];
+        good = every;
       }
+    where
+      every : (i : ℕ) → i < suc m → inside (field_at u s (n + i)) (get_or (value (field_at u s n) bs ∷ ih.ws) i 0) ≡ true
+      every zero q = rw add-zero t
+      every (suc j) q = let y : n + 1 + j ≡ n + suc j = omega arith in rw y at (ih.good j (omega arith))
 
   numbers_forth : (m n : ℕ) (vs bs all rest : List ℕ) → widths m u s n ≤ length bs → read_numbers m u s n vs bs ≡ found all rest → Took u s m n vs bs all rest
   unfolding value_bytes read_numbers

@@ -1,0 +1,65 @@
+-- `write_numbers` meets its contract: what is written so far and what is to come is the whole.
+use Prim.Native.Nat.{ℕ, ◌+◌, ◌-◌, ◌≤◌}
+use mathlib.Core.Path.{◌≡◌, ap}
+use mathlib.Core.List.{◌++◌}
+use native.Mathlib.Nat.{sub-zero, add-zero}
+use native.Mathlib.Omega.{arith}
+use lib.ListN.{length, get_or, length-drop}
+use Rattle.base.proofs.Bytes.{length_bytes}
+use Rattle.base.proofs.Buffers.{Written, written_none, written_all, written_more, tail_room, whole_tail}
+use Rattle.base.specs.Bytes.{bytes_of}
+use Rattle.rules.specs.File.{number_bytes}
+use Rattle.file.proofs.Steps.{numbers_step}
+use Rattle.file.proofs.writing.write_numbers.Goals as goal
+use Rattle.file.proofs.writing.write_numbers.Goals.{After-field_at-f}
+
+now : (c : After-field_at-f) → let l = c.loop-i in let a = c.args in Written a.out.now (number_bytes a.slot.places a.d.now a.slot 0 a.place) (bytes_of c.field_at-f.result.width (get_or a.d.now (a.place + l.i) 0) ++ number_bytes (a.slot.places - (l.i + 1)) a.d.now a.slot (l.i + 1) (a.place + (l.i + 1))) l.at l.out
+now c =
+    let l = c.loop-i in
+    let a = c.args in
+    rw (numbers_step a.slot.places a.d.now a.slot l.i a.place c.field_at-f.result (omega arith) c.field_at-f.ensures) at l.invariant.1
+
+room : (c : After-field_at-f) → let l = c.loop-i in l.at + c.field_at-f.result.width ≤ length l.out
+room c =
+    let l = c.loop-i in
+    let a = c.args in
+    let w = c.field_at-f.result.width in
+    omega (arith, tail_room (bytes_of w (get_or a.d.now (a.place + l.i) 0)) _ (now c) c.requires.place_in_bounds, length_bytes w (get_or a.d.now (a.place + l.i) 0))
+
+pub loop-i-init : goal.loop-i-init
+loop-i-init c = (omega arith, rw (sub-zero, add-zero) (written_none _ _))
+
+pub slice_bounds-put-count : goal.slice_bounds-put-count
+slice_bounds-put-count c = omega (arith, c.loop-i.invariant.1.room)
+
+pub slice_bounds-put-start : goal.slice_bounds-put-start
+slice_bounds-put-start c = omega (arith, c.loop-i.invariant.1.room)
+
+pub put-requires : goal.put-requires
+put-requires c =
+    let l = c.loop-i in
+    rw (whole_tail l.out l.at) (simp length-drop (omega (arith, room (goal.at.put-requires c).After-field_at-f)))
+
+pub overflow_add-at : goal.overflow_add-at
+overflow_add-at c = omega (arith, room (goal.at.overflow_add-at c).After-field_at-f)
+
+pub loop-i-preserved : goal.loop-i-preserved
+loop-i-preserved c =
+    let l = c.loop-i in
+    let f = c.field_at-f in
+    let a = c.args in
+    let w = f.result.width in
+    let bs = bytes_of w (get_or a.d.now (a.place + l.i) 0) in
+    let n : length bs ≡ w = length_bytes w (get_or a.d.now (a.place + l.i) 0) in
+    let p = c.put in
+    let more = written_more bs (number_bytes (a.slot.places - (l.i + 1)) a.d.now a.slot (l.i + 1) (a.place + (l.i + 1))) (now (goal.at.loop-i-preserved c).After-field_at-f) c.requires.place_in_bounds p.new.out (rw n p.ensures) in
+    (omega arith, rw n at more)
+
+pub returns : goal.returns
+unfolding number_bytes
+returns c =
+    let l = c.loop-i in
+    let a = c.args in
+    let z : a.slot.places - l.i ≡ 0 = omega arith in
+    let w = written_all l.invariant.1 (ap (λ (m : ℕ). number_bytes m a.d.now a.slot l.i (a.place + l.i)) z) in
+    record { value = w.0; out_after = w.1 }
