@@ -8,4 +8,4 @@ use Rattle.survey.proofs.blocks.Goals as goal
 
 pub returns : goal.returns
 unfolding all stored_as table_from deduct_points
-returns c = (apart_distinct _ refl, (refl, refl))
+returns c = record { distinct = apart_distinct _ refl; table = refl; seven = refl }
