@@ -63,6 +63,7 @@ fn after_digits(field: &[u8]) -> &[u8]
     text::on_from(behind_point(field), BLANK)
 }
 
+#[tactic(auto, using(crate::proofs::Written::no_units, crate::proofs::Written::no_point, crate::proofs::Written::long_part))]
 fn has_decimal_form(field: &[u8]) -> bool
     ensures { result ≡ has_decimal_form field.now }
 {
