@@ -1,0 +1,40 @@
+-- `phase1::pull_by` meets its contract: the sum so far is that of the resources passed.
+use Prim.Native.Nat.{◌+◌, ◌-◌}
+use mathlib.Core.Path.{◌∙◌}
+use mathlib.Core.Logic.{⊎_elim}
+use native.Mathlib.Omega.{arith}
+use Rattle.base.proofs.Sums.{sum_none, sum_end}
+use Rattle.phase1.proofs.Pulls.{pull_turn, pull_skip, pull_le}
+use borrow.Author.Rules.{rules}
+use Rattle.phase1.proofs.pull_by.Goals as goal
+
+pub loop-r-init : goal.loop-r-init
+loop-r-init c = (search rules, sum_none _)
+
+pub overflow_mul-all : goal.overflow_mul-all
+overflow_mul-all c =
+    let a = c.args in
+    let l = c.loop-r in
+    let more = pull_turn a.row.now a.over.now l.r l.invariant.1 in
+    omega (arith, more, pull_le a.row.now a.over.now a.resources c.requires.resources_le_most_resources.0 c.requires.by_index.0 c.requires.by_index.1 (l.r + 1) (omega arith))
+
+pub overflow_add-all : goal.overflow_add-all
+overflow_add-all c =
+    let a = c.args in
+    let l = c.loop-r in
+    let more = pull_turn a.row.now a.over.now l.r l.invariant.1 in
+    omega (arith, more, pull_le a.row.now a.over.now a.resources c.requires.resources_le_most_resources.0 c.requires.by_index.0 c.requires.by_index.1 (l.r + 1) (omega arith))
+
+pub loop-r-preserved : goal.loop-r-preserved
+loop-r-preserved c =
+    let a = c.args in
+    let l = c.loop-r in (
+      search rules,
+      ⊎_elim
+          (λ w. w.2 ∙ pull_turn a.row.now a.over.now l.r l.invariant.1)
+          (λ w. w.1 ∙ pull_skip a.row.now a.over.now l.r l.invariant.1 w.0.left)
+          c.if-beyond-gt0.branch,
+    )
+
+pub returns : goal.returns
+returns c = sum_end _ _ _ c.loop-r.invariant.1 c.loop-r.invariant.0 (omega arith)

@@ -1,0 +1,11 @@
+use Prim.Native.Nat.{◌-◌, ◌≤◌}
+use mathlib.Core.Path.{◌≡◌}
+use Rattle.base.specs.Over.{sum}
+use Rattle.phase1.specs.Reduce.{row_pull}
+use Rattle.phase1.proofs.pull_by.Given as goal
+
+abbrev pub invariant-loop-r : goal.invariant-loop-r
+invariant-loop-r l = (l.r ≤ l.resources) × (l.all ≡ sum l.r (row_pull l.row l.over))
+
+abbrev pub decreases-loop-r : goal.decreases-loop-r
+decreases-loop-r l = l.resources - l.r
