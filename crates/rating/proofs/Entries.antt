@@ -1,11 +1,10 @@
 -- The table's entries, by cases: what the district has, and what it does not have.
-use Prim.Native.Nat.{ℕ, suc, ◌-◌, ◌*◌, ◌≤◌, ◌<◌}
+use Prim.Native.Nat.{ℕ, zero, suc, ◌*◌, ◌≤◌, ◌<◌}
 use mathlib.Core.Path.{◌≡◌, refl, sym, ◌∙◌}
 use mathlib.Core.Bool.{Bool, true, false, ◌&&◌, and-false}
 use native.Mathlib.Nat.{zero-mul}
 use native.Mathlib.Omega.{arith}
 use borrow.Author.Tests.{le-leb, lt-leb}
-use lib.Dec.{leb}
 use lib.IntN.{nat_abs}
 use Rattle.base.specs.Choice.{pick}
 use Rattle.base.specs.Over.{between}
@@ -21,6 +20,7 @@ use Rattle.rating.proofs.Bounds.{benefit_abs, usage_le, limit_le}
 -- of a strategy, which is not nothing
 pub usage_of : (d : District) (i j r : ℕ) → 1 ≤ j → area d i * requirement_of d j r ≡ usage d i j r
 unfolding usage
+usage_of d i zero r h = elim h [ ]
 usage_of d i (suc j) r h = refl
 
 pub has_in : (d : District) (i j : ℕ) → has d i j ≡ true → SegmentOf d i × ((1 ≤ j) × (j ≤ strategies_of d))

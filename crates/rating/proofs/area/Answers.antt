@@ -1,0 +1,17 @@
+-- `rating::area` meets its contract: at most 9,999 × 200.
+use mathlib.Core.Path.{ap₂}
+use Prim.Native.Nat.{◌*◌}
+use Rattle.base.proofs.Integers.{product_fits}
+use Rattle.rules.specs.District.{length_of, width_of}
+use Rattle.rules.specs.Rating.{area}
+use Rattle.rating.proofs.area.Goals as goal
+
+pub overflow_mul-result : goal.overflow_mul-result
+unfolding length_of width_of
+overflow_mul-result c =
+    let p = c.requires.1 in
+    product_fits _ _ 9_999 200 (rw c.segment_at.ensures (c.requires.0.mile_length _ p.0 p.1)) (rw c.segment_at-2.ensures (c.requires.0.width _ p.0 p.1)) tt
+
+pub returns : goal.returns
+unfolding area length_of width_of
+returns c = ap₂ ◌*◌ c.segment_at.ensures c.segment_at-2.ensures
