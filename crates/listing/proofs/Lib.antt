@@ -1,3 +1,4 @@
+pub mod Pieces
 pub mod Lines
 pub mod Lengths
 pub mod Card

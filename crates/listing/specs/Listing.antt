@@ -9,10 +9,8 @@ use Rattle.rules.specs.declared.Answer.{Answer}
 use Rattle.rules.specs.declared.Answer.TheVariants.{Accepted, Refused}
 use Rattle.rules.specs.declared.Reason.{Reason}
 use Rattle.rules.specs.declared.Reason.TheVariants.{InProgramme, Barred, MinimumMissed, OverallMissed, NoBenefit, LeaderHasNothing, OverAlone, OverBeside, NoGreaterTotal}
-use Rattle.rules.specs.declared.Roughness as Roughness
 use Rattle.rules.specs.declared.Roughness.{Roughness}
 use Rattle.rules.specs.declared.Roughness.TheVariants.{Points}
-use Rattle.rules.specs.declared.Why as Why
 use Rattle.rules.specs.declared.Why.{Why}
 use Rattle.rules.specs.declared.Why.TheVariants.{Because}
 

@@ -1,5 +1,5 @@
 -- `listing::put` meets its contract.
-use Prim.Native.Nat.{◌+◌, ◌-◌}
+use Prim.Native.Nat.{◌+◌}
 use mathlib.Core.Path.{◌≡◌}
 use mathlib.Core.List.{◌∷◌}
 use native.Mathlib.Numerals.{add-one}

@@ -1,42 +1,33 @@
 -- `listing::put_listing` meets its contract: the lines of the segments, then the results.
-use Prim.Native.Nat.{◌≤◌, min}
-use native.Mathlib.Omega.{arith}
-use lib.ListN.{length}
-use Rattle.base.proofs.Buffers.{Written}
-use Rattle.base.proofs.Text.{put_front, put_last, last_fits, front_fits}
+use Rattle.std.proofs.Common.{ℕ, ◌≡◌, ◌≤◌, ◌++◌, min, length, ap, arith}
 use Rattle.rules.specs.District.{most_segments}
-use Rattle.listing.specs.Listing.{segment_lines, results, listing}
+use Rattle.rules.specs.declared.Programme.{Programme}
+use Rattle.listing.specs.Listing.{segment_lines, results, listing, longest_listing}
 use Rattle.listing.proofs.Lengths.{listing_few}
+use Rattle.listing.proofs.Pieces.{second_fits, put_two}
+use Rattle.base.proofs.Text.{front_fits}
 use Rattle.listing.proofs.put_listing.Goals as goal
-use Rattle.listing.proofs.put_listing.Goals.{After-put_segment_lines-at}
 
-fits : (s : tie.Start) → length (listing s.args.p s.args.n) ≤ length s.args.out.now
-fits s = omega (arith, listing_few s.args.p s.args.n)
-
-front : (s : tie.Start) → length (segment_lines (min s.args.n most_segments) 1 s.args.p.strategies) ≤ length s.args.out.now
+-- as many lines as the district has segments, and the results behind them
+listed : (p : Programme) (n k : ℕ) → k ≡ min n most_segments → listing p n ≡ segment_lines k 1 p.strategies ++ results p
 unfolding listing
-front s = front_fits (segment_lines (min s.args.n most_segments) 1 s.args.p.strategies) (results s.args.p) (fits s)
+listed p n k e = rw e
 
-after-segments : (c : After-put_segment_lines-at) → let a = c.args in Written a.out.now (listing a.p a.n) (results a.p) c.put_segment_lines-at.result c.put_segment_lines-at.new.0
-unfolding listing
-after-segments c =
-    let p = rw c.line_count.ensures at c.put_segment_lines-at.ensures in
-    put_front (segment_lines (min c.args.n most_segments) 1 c.args.p.strategies) (results c.args.p) p (front s)
+fits : (p : Programme) (n k room : ℕ) → k ≡ min n most_segments → longest_listing ≤ room → length (segment_lines k 1 p.strategies ++ results p) ≤ room
+fits p n k room e h = omega (arith, listing_few p n, ap length (listed p n k e))
 
-pub put_segment_lines-at-requires : goal.put_segment_lines-at-requires
-put_segment_lines-at-requires c = record { n_le_most_segments = omega arith; strategies_in_bounds = rw c.line_count.ensures (front c.before.before.before.before) }
-
-pub slice_bounds-put_results-count : goal.slice_bounds-put_results-count
-slice_bounds-put_results-count c = (after-segments (goal.at.slice_bounds-put_results-count c).After-put_segment_lines-at).room
-
-pub slice_bounds-put_results-start : goal.slice_bounds-put_results-start
-slice_bounds-put_results-start c = omega (arith, (after-segments (goal.at.slice_bounds-put_results-start c).After-put_segment_lines-at).room)
+pub put_segment_lines-at-requires-clause-strategies_in_bounds : goal.put_segment_lines-at-requires-clause-strategies_in_bounds
+put_segment_lines-at-requires-clause-strategies_in_bounds c =
+    let p = c.args.p in
+    front_fits (segment_lines c.line_count.result 1 p.strategies) (results p) (fits p c.args.n _ _ c.line_count.ensures c.requires)
 
 pub put_results-requires : goal.put_results-requires
-put_results-requires c = last_fits (after-segments (goal.at.put_results-requires c).After-put_segment_lines-at) (fits c.before.before.before.before.before.before.before.before)
-
-pub overflow_add-result : goal.overflow_add-result
-overflow_add-result c = omega (arith, (returns c).count, fits s, s.well-formed)
+put_results-requires c =
+    let p = c.args.p in
+    second_fits (segment_lines c.line_count.result 1 p.strategies) (results p) (fits p c.args.n _ _ c.line_count.ensures c.requires) c.put_segment_lines-at.ensures
 
 pub returns : goal.returns
-returns c = put_last (after-segments (goal.at.returns c).After-put_segment_lines-at) (fits c.before.before.before.before.before.before.before.before.before.before.before) c.put_results.ensures
+returns c =
+    let p = c.args.p in
+    rw (listed p c.args.n _ c.line_count.ensures)
+    (put_two (segment_lines c.line_count.result 1 p.strategies) (results p) (fits p c.args.n _ _ c.line_count.ensures c.requires) c.put_segment_lines-at.ensures c.put_results.ensures)

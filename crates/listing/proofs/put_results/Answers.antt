@@ -1,62 +1,23 @@
 -- `listing::put_results` meets its contract: three pieces, one after another.
-use Prim.Native.Nat.{◌+◌, ◌-◌}
-use mathlib.Core.List.{◌++◌}
-use native.Mathlib.Omega.{arith}
-use lib.ListN.{length}
-use borrow.Rule.Slice.PartMut.{put_mid}
+use Rattle.std.proofs.Common.{◌++◌}
 use Rattle.base.specs.Text.{text}
 use Rattle.listing.specs.Listing.{line, steps_line, results}
-use Rattle.base.proofs.Buffers.{Written}
-use Rattle.base.proofs.Text.{put_front, put_more, put_last, tail_fits, last_fits, front_fits}
+use Rattle.base.proofs.Text.{front_fits}
+use Rattle.listing.proofs.Pieces.{second_of_three_fits, third_fits, put_three}
 use Rattle.listing.proofs.put_results.Goals as goal
-use Rattle.listing.proofs.put_results.Goals.{After-put_line-at, After-put_line-at-2}
-
-after_first : (c : After-put_line-at) → let a = c.args in Written a.out.now (results a.p) ((line (text "ceiling ") a.p.ceiling) ++ (steps_line a.p)) c.put_line-at.result c.put_line-at.new.0
-unfolding results text
-after_first c =
-    let a = c.args in
-    put_front (line (text "benefit ") a.p.total) ((line (text "ceiling ") a.p.ceiling) ++ (steps_line a.p)) c.put_line-at.ensures (front_fits (line (text "benefit ") a.p.total) ((line (text "ceiling ") a.p.ceiling) ++ (steps_line a.p)) c.requires)
-
-after-second : (c : After-put_line-at-2) → let a = c.args in let f = c.put_line-at in Written a.out.now (results a.p) (steps_line a.p) (f.result + c.put_line-at-2.result) (put_mid f.result (length f.new.0 - f.result) f.new.0 c.put_line-at-2.new.0)
-unfolding text
-after-second c =
-    let a = c.args in
-    put_more (line (text "ceiling ") a.p.ceiling) (steps_line a.p) (after_first c.before.before.before.before.before) c.requires c.put_line-at-2.ensures
 
 pub put_line-at-requires : goal.put_line-at-requires
 unfolding results text
-put_line-at-requires c =
-    let a = c.args in
-    front_fits (line (text "benefit ") a.p.total) ((line (text "ceiling ") a.p.ceiling) ++ (steps_line a.p)) c.requires
-
-pub slice_bounds-put_line-count : goal.slice_bounds-put_line-count
-slice_bounds-put_line-count c = (after_first (goal.at.slice_bounds-put_line-count c).After-put_line-at).room
-
-pub slice_bounds-put_line-start : goal.slice_bounds-put_line-start
-slice_bounds-put_line-start c = omega (arith, (after_first (goal.at.slice_bounds-put_line-start c).After-put_line-at).room)
+put_line-at-requires c = front_fits (line (text "benefit ") c.args.p.total) ((line (text "ceiling ") c.args.p.ceiling) ++ (steps_line c.args.p)) c.requires
 
 pub put_line-at-requires-2 : goal.put_line-at-requires-2
-unfolding text
-put_line-at-requires-2 c =
-    let a = c.args in
-    tail_fits (line (text "ceiling ") a.p.ceiling) (steps_line a.p) (after_first (goal.at.put_line-at-requires-2 c).After-put_line-at) c.requires
-
-pub overflow_add-at : goal.overflow_add-at
-overflow_add-at c = let w = after-second (goal.at.overflow_add-at c).After-put_line-at-2 in omega (arith, w.room, w.same, c.before.before.before.before.before.before.before.before.before.before.before.well-formed)
-
-pub slice_bounds-put_steps_line-count : goal.slice_bounds-put_steps_line-count
-slice_bounds-put_steps_line-count c = (after-second (goal.at.slice_bounds-put_steps_line-count c).After-put_line-at-2).room
-
-pub slice_bounds-put_steps_line-start : goal.slice_bounds-put_steps_line-start
-slice_bounds-put_steps_line-start c = omega (arith, (after-second (goal.at.slice_bounds-put_steps_line-start c).After-put_line-at-2).room)
+unfolding results text
+put_line-at-requires-2 c = second_of_three_fits (line (text "benefit ") c.args.p.total) (line (text "ceiling ") c.args.p.ceiling) (steps_line c.args.p) c.requires c.put_line-at.ensures
 
 pub put_steps_line-requires : goal.put_steps_line-requires
-unfolding text
-put_steps_line-requires c = last_fits (after-second (goal.at.put_steps_line-requires c).After-put_line-at-2) c.requires
-
-pub overflow_add-result : goal.overflow_add-result
-overflow_add-result c = omega (arith, (returns c).count, c.requires, s.well-formed)
+unfolding results text
+put_steps_line-requires c = third_fits (line (text "benefit ") c.args.p.total) (line (text "ceiling ") c.args.p.ceiling) (steps_line c.args.p) c.requires c.put_line-at.ensures c.put_line-at-2.ensures
 
 pub returns : goal.returns
-unfolding text
-returns c = put_last (after-second (goal.at.returns c).After-put_line-at-2) c.requires c.put_steps_line.ensures
+unfolding results text
+returns c = put_three (line (text "benefit ") c.args.p.total) (line (text "ceiling ") c.args.p.ceiling) (steps_line c.args.p) c.requires c.put_line-at.ensures c.put_line-at-2.ensures c.put_steps_line.ensures
