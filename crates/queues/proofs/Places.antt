@@ -1,10 +1,10 @@
 -- Eight places of which the first are taken: one joins behind the last, and the oldest leaves. The others move up, place by place.
-use Prim.Native.Nat.{ℕ, zero, suc, ◌+◌, ◌-◌, ◌≤◌, ◌<◌}
+use Prim.Native.Nat.{ℕ, zero, suc, ◌+◌, ◌<◌}
 use mathlib.Core.Path.{◌≡◌, refl, sym, ap, ap₂, ◌∙◌}
 use mathlib.Core.List.{List, [], ◌∷◌, ◌++◌}
 use native.Mathlib.Numerals.{add-one}
 use native.Mathlib.Omega.{arith}
-use lib.ListN.{length, take, drop, get_or, set, length-take, length-drop, length-set}
+use lib.ListN.{length, take, drop, get_or, set, length-drop, length-set}
 use lib.Seq.{take-suc, take-suc-set, drop-set-lt, drop-drop, get_or-drop}
 
 -- as many as are taken of the places there are

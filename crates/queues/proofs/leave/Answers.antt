@@ -15,7 +15,7 @@ pub loop-i-init : goal.loop-i-init
 loop-i-init c =
     let x = c.args.x in
     let size = c.size-n.ensures in
-    (search rules, omega (arith, size.0, size.1, length-take x.count x.places, c.if-n-eq0.false), size.1, record { same = refl; front = refl; back = refl })
+    (search rules, omega (arith, size.waits, size.places, length-take x.count x.places, c.if-n-eq0.false), size.places, record { same = refl; front = refl; back = refl })
 
 pub loop-i-preserved : goal.loop-i-preserved
 loop-i-preserved c =
