@@ -1,11 +1,11 @@
 -- `phase2::best_offer` meets its contract.
-use Prim.Native.Nat.{◌-◌, ◌+◌}
-use mathlib.Core.Logic.{⊎_elim}
+use Prim.Native.Nat.{◌+◌}
 use native.Mathlib.Omega.{arith}
 use borrow.Author.Rules.{rules}
 use Rattle.tables.proofs.Arrays.{cell_of}
 use Rattle.phase2.proofs.Offers.{offer_le, best_none, best_taken, best_kept, best_passed, best_end}
 use Rattle.phase2.proofs.best_offer.Goals as goal
+use Rattle.phase2.proofs.best_offer.Goals.{then-is_free+then-most-offered, then-is_free+else-most-offered, else-is_free}
 
 pub loop-i-init : goal.loop-i-init
 loop-i-init c = (search rules, best_none _ _ _ _ _ _)
@@ -28,12 +28,11 @@ loop-i-preserved c =
     let best = l.invariant.1 in
     let free = c.is_free.ensures in (
       search rules,
-      ⊎_elim
-          (λ w. rw (w.4, w.5) (best_taken _ _ _ _ _ _ l.i best free w.1.ensures w.2.ensures w.0.taken w.3.taken))
-          (⊎_elim
-          (λ w. rw (w.4, w.5) (best_kept _ _ _ _ _ _ l.i best free w.1.ensures w.2.ensures w.3.left))
-          (λ w. rw (w.1, w.2) (best_passed _ _ _ _ _ _ l.i best free w.0.left)))
-          c.if-is_free.branch,
+      elim c.if-is_free.branch [
+        | then-is_free+then-most-offered w ↦ rw (w.top-is, w.most-is) (best_taken _ _ _ _ _ _ l.i best free w.offer_of-j.ensures w.benefit-offered.ensures w.if-is_free.true w.if-most-offered.true)
+        | then-is_free+else-most-offered w ↦ rw (w.top-is, w.most-is) (best_kept _ _ _ _ _ _ l.i best free w.offer_of-j.ensures w.benefit-offered.ensures w.if-most-offered.false)
+        | else-is_free w ↦ rw (w.top-is, w.most-is) (best_passed _ _ _ _ _ _ l.i best free w.if-is_free.false)
+      ],
     )
 
 pub returns : goal.returns

@@ -1,12 +1,12 @@
 -- `phase2::offer_of` meets its contract.
-use Prim.Native.Nat.{◌-◌, ◌+◌}
-use mathlib.Core.Logic.{⊎_elim}
+use Prim.Native.Nat.{◌+◌}
 use mathlib.Core.Path.{sym, ◌∙◌}
 use native.Mathlib.Omega.{arith}
 use borrow.Author.Rules.{rules}
 use Rattle.tables.proofs.Arrays.{cell_of}
 use Rattle.phase2.proofs.Offers.{offer_none, offer_taken, offer_passed, offer_kept, offer_end}
 use Rattle.phase2.proofs.offer_of.Goals as goal
+use Rattle.phase2.proofs.offer_of.Goals.{then-most-value+then-fits_one, then-most-value+else-fits_one, else-most-value}
 
 pub loop-j-init : goal.loop-j-init
 loop-j-init c = (search rules, offer_none _ _ _ _ _ _)
@@ -24,12 +24,11 @@ loop-j-preserved c =
     let led = c.loop-j.invariant.1 in
     let is = c.benefit-value.ensures in (
       search rules,
-      ⊎_elim
-          (λ w. rw (w.3, w.4) (offer_taken _ _ _ _ _ i j is led w.0.taken (sym (w.1.ensures _) ∙ w.2.taken)))
-          (⊎_elim
-          (λ w. rw (w.3, w.4) (offer_passed _ _ _ _ _ i j is led (sym (w.1.ensures _) ∙ w.2.left)))
-          (λ w. rw (w.1, w.2) (offer_kept _ _ _ _ _ i j is led w.0.left)))
-          c.if-most-value.branch,
+      elim c.if-most-value.branch [
+        | then-most-value+then-fits_one w ↦ rw (w.top-is, w.most-is) (offer_taken _ _ _ _ _ i j is led w.if-most-value.true (sym (w.fits_one.ensures _) ∙ w.if-fits_one.true))
+        | then-most-value+else-fits_one w ↦ rw (w.top-is, w.most-is) (offer_passed _ _ _ _ _ i j is led (sym (w.fits_one.ensures _) ∙ w.if-fits_one.false))
+        | else-most-value w ↦ rw (w.top-is, w.most-is) (offer_kept _ _ _ _ _ i j is led w.if-most-value.false)
+      ],
     )
 
 pub returns : goal.returns

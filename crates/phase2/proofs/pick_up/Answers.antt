@@ -1,5 +1,4 @@
 -- `phase2::pick_up` meets its contract.
-use Prim.Native.Nat.{◌-◌}
 use mathlib.Core.Path.{sym, ◌∙◌}
 use native.Mathlib.Omega.{arith}
 use Rattle.phase2.proofs.Offers.{offer_le, best_le_segments, pick_none, picking_start, picking_end, picking_next}
