@@ -38,7 +38,7 @@ fuzz:
 
 compare:
 	@scripts/need rt cargo rustc
-	@rt check
+	@scripts/build plan page panel transcode vectors up down deck
 	@scripts/compare $(COUNT) $(SEED)
 
 bench:
