@@ -1,27 +1,27 @@
 -- Laws of what phase 3 remembers: a row that goes down still holds, and what it refuses is refused of every tight programme.
-use Prim.Native.Nat.{ℕ, zero, suc, ◌+◌, ◌-◌, ◌*◌, ◌^◌, ◌≤◌, ◌<◌, min}
-use mathlib.Core.Path.{◌≡◌, refl, sym, ap, subst, ◌∙◌}
+use Prim.Native.Nat.{ℕ, zero, suc, ◌+◌, ◌-◌, ◌≤◌, ◌<◌, min}
+use mathlib.Core.Path.{◌≡◌, refl, sym, ap, ◌∙◌}
 use mathlib.Core.Bool.{Bool, true, false, not, true≢false}
 use mathlib.Core.List.{List, [], ◌∷◌}
-use mathlib.Core.Option.{none, some}
+use mathlib.Core.Option.{none}
 use native.Mathlib.Omega.{arith}
 use borrow.Author.Count.{below_more}
 use borrow.Author.Tests.{lt-leb, leb-false, eqb-true, eqb-false}
-use lib.Dec.{leb, eqb}
+use lib.Dec.{eqb}
 use lib.ListN.{get_or, set, length, length-set}
 use lib.Seq.{get_or-set_same, get_or-set_other}
 use Rattle.base.specs.Over.{all}
 use Rattle.base.proofs.All.{all_fails}
-use Rattle.rules.specs.District.{most_strategies, most_resources}
+use Rattle.rules.specs.District.{most_strategies}
 use Rattle.rules.specs.Table.{Table}
-use Rattle.rules.specs.Phases.{strategy_at, give, is_candidate, chosen_usage, used, holds, within, respects, another, pair, pairs_with, pairs_of}
+use Rattle.rules.specs.Phases.{strategy_at, give, chosen_usage, used, holds, within, respects, another, pair, pairs_of}
 use Rattle.laws.proofs.Give.{kept, used_give}
 use Rattle.tables.specs.declared.Size.{Size}
 use Rattle.tables.specs.Arrays.{usage_at, limit_at, tables, Benefits, Limits, Running}
 use Rattle.tables.specs.Moves.{Budgets, room_for}
 use Rattle.tables.proofs.Arrays.{limit_at_lem, usage_lt, usage_nothing, benefit_nothing}
 use Rattle.tables.proofs.Moves.{places, two_fits}
-use Rattle.phase3.specs.Improve.{counts_two, top, present}
+use Rattle.phase3.specs.Improve.{top, present}
 use Rattle.phase3.specs.Memory.{
   offset,
   unreached,

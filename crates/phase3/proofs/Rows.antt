@@ -13,14 +13,14 @@ use lib.Seq.{get_or-append-add, get_or-take, get_or-drop, length-take-le}
 use Rattle.base.proofs.All.{all_at}
 use Rattle.base.proofs.Each.{each_replicate}
 use Rattle.base.specs.Over.{all}
-use Rattle.rules.specs.District.{most_segments, most_strategies, most_resources}
+use Rattle.rules.specs.District.{most_segments, most_resources}
 use Rattle.rules.specs.Table.{Table}
 use Rattle.rules.specs.Phases.{strategy_at, used, pairs_of}
 use Rattle.tables.specs.declared.Size.{Size}
 use Rattle.tables.specs.Arrays.{tables, Running}
 use Rattle.tables.proofs.Arrays.{limit_at_lem}
 use Rattle.tables.proofs.Moves.{places}
-use Rattle.phase3.specs.Memory.{offset, row_places, memory_places, row_at, mark, Slacks, Tight, Holds, numbers, numbers_at, Memory, below, holds_still}
+use Rattle.phase3.specs.Memory.{offset, row_places, memory_places, row_at, mark, Slacks, Holds, numbers, numbers_at, Memory, below, holds_still}
 use Rattle.phase3.proofs.Remembered.{tight_under}
 
 -- ---- a part of a list, and the list when the part is back

@@ -4,7 +4,7 @@ use Rattle.std.proofs.Math.Option.{Option, none, some}
 use Rattle.base.specs.Over.{most}
 use Rattle.rules.specs.District.{most_segments}
 use Rattle.rules.specs.Table.{Table}
-use Rattle.rules.specs.Phases.{strategy_at, give, within, another, counts}
+use Rattle.rules.specs.Phases.{strategy_at, give, another, counts}
 use Rattle.tables.specs.declared.Size.{Size}
 use Rattle.tables.specs.Arrays.{benefit_at, Benefits, Cell}
 use Rattle.phase3.specs.declared.Change.{Change}

@@ -8,9 +8,9 @@ use Rattle.rules.specs.District.{most_segments, most_strategies, most_resources}
 use Rattle.rules.specs.Table.{Table}
 use Rattle.rules.specs.Phases.{strategy_at, give, used, within, another, pair, pairs_with, pairs_of}
 use Rattle.tables.specs.declared.Size.{Size}
-use Rattle.tables.specs.Arrays.{columns, usage_at, tables, Benefits, Limits, Running}
+use Rattle.tables.specs.Arrays.{columns, usage_at, Benefits, Limits, Running}
 use Rattle.tables.specs.Moves.{Budgets}
-use Rattle.phase3.specs.Improve.{counts_two, Tops}
+use Rattle.phase3.specs.Improve.{counts_two}
 
 -- Slacks and excesses may be negative, so both are kept with this added; and a number that no slack reaches.
 abbrev pub offset : ℕ

@@ -1,5 +1,5 @@
 -- `phase3::clear` meets its contract: the numbers passed are unreached.
-use Prim.Native.Nat.{◌+◌, ◌-◌}
+use Prim.Native.Nat.{◌+◌}
 use mathlib.Core.Path.{◌≡◌, ◌∙◌}
 use native.Mathlib.Omega.{arith}
 use lib.ListN.{get_or, set, length-set}

@@ -26,9 +26,9 @@ returns-then-not-fits_one c =
 pub leaders_respected-requires : goal.leaders_respected-requires
 leaders_respected-requires c =
     let s = c.requires in
-    let g = s.0.2 in
+    let g = s.benefits.2 in
     let few = g.bounded.segments in
-    record { leaders = (s.0.3, g.chosen.places, omega (arith, few)); le_i = (s.1.0, omega (arith, s.1.1, few), s.1.0, omega (arith, s.1.1, few)) }
+    record { leaders = (s.benefits.3, g.chosen.places, omega (arith, few)); le_i = (s.le_i.0, omega (arith, s.le_i.1, few), s.le_i.0, omega (arith, s.le_i.1, few)) }
 
 pub returns : goal.returns
 returns c =

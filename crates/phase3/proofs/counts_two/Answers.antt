@@ -47,10 +47,10 @@ returns c =
     let a = c.args in
     let g = c.requires.setting.0 in
     let r = c.refused.ensures in
-    pair_test g _ _ _ _ _ _ (r.0 _ _ g) c.requires.setting.1
+    pair_test g _ _ _ _ _ _ (r.by_index_2 _ _ g) c.requires.setting.1
     (omega (arith, c.if-new-present_benefit.false, c.present_benefit.ensures a.z a.uses.now a.limits.now, c.benefit-2.ensures, c.benefit.ensures))
     c.requires.setting.2
     (sym (c.is_another.ensures _ _ _) ∙ c.if-not-is_another.false)
-    (r.1 _ _ g c.if-refused.false)
+    (r.by_index_3 _ _ g c.if-refused.false)
     _
     c.leaders_respected.ensures

@@ -1,5 +1,4 @@
 -- `phase3::fill_tops` meets its contract: the segments passed have their greatest benefits.
-use Prim.Native.Nat.{◌-◌}
 use mathlib.Core.Path.{◌≡◌, refl}
 use native.Mathlib.Omega.{arith}
 use lib.ListN.{length-set}

@@ -37,10 +37,10 @@ returns-then-not-pair_may_rise c =
 
 pub mark_of-requires : goal.mark_of-requires
 mark_of-requires c =
-    let s = c.requires in
-    let g = s.0.2 in
+    let g = c.requires.benefits.2 in
+    let m = c.requires.le_i in
     let from = from_cell g in
-    (g.chosen.places, from _ s.1.0 (omega (arith, s.1.1, s.1.2)), from _ (omega (arith, s.1.0, s.1.1)) s.1.2)
+    (g.chosen.places, from _ m.0 (omega (arith, m.1, m.2)), from _ (omega (arith, m.0, m.1)) m.2)
 
 pub returns-then-holds_still : goal.returns-then-holds_still
 returns-then-holds_still c =
@@ -55,9 +55,12 @@ returns-then-holds_still c =
 
 pub look-requires : goal.look-requires
 look-requires c =
-    let s = c.requires in
-    let p = s.0 in
-    record { benefits = (p.0, p.1, p.2, p.3, simp (length-take, length-drop) (omega (arith, p.5.places, p.2.bounded.segments, s.1.0, s.1.1, s.1.2)), p.6); le_i = s.1 }
+    let p = c.requires.benefits in
+    let m = c.requires.le_i in
+    record {
+      benefits = (p.0, p.1, p.2, p.3, simp (length-take, length-drop) (omega (arith, p.5.places, p.2.bounded.segments, m.0, m.1, m.2)), p.6);
+      le_i = m;
+    }
 
 pub returns : goal.returns
 returns c =
@@ -65,9 +68,9 @@ returns c =
     let m = c.requires.le_i in
     let at = row_at c.args.i c.args.k in
     let e = c.look.ensures in record {
-      found = e.0;
+      found = e.found;
       memory = memory_put p.5 p.2.bounded.segments p.2.bounded.resources _ _ m.0 m.1 m.2 (at + row_places - at) (omega arith)
-          c.look.new.1.1.1.1.1.1.1.1.1.1.0
-          e.1.0
-          e.1.1;
+          c.look.new.row
+          e.row_len
+          e.holds;
     }

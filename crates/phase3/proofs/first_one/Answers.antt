@@ -1,5 +1,4 @@
 -- `phase3::first_one` meets its contract: whatever the loops passed is no change.
-use Prim.Native.Nat.{◌-◌}
 use mathlib.Core.Path.{refl, sym, ◌∙◌}
 use borrow.Author.Count.{below_none, below_more}
 use native.Mathlib.Omega.{arith}

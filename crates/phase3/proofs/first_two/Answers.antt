@@ -1,5 +1,4 @@
 -- `phase3::first_two` meets its contract: whatever the loops passed is no change, and the memory holds.
-use Prim.Native.Nat.{◌-◌}
 use mathlib.Core.Path.{refl, sym, ◌∙◌}
 use borrow.Author.Count.{below_more}
 use native.Mathlib.Omega.{arith}
@@ -7,10 +6,6 @@ use Rattle.tables.proofs.Moves.{sums_le}
 use Rattle.phase3.proofs.ChangeSearch.{of_low, from_none, pairs_end, found_nothing, found_pair, nothing_is, no_turn}
 use borrow.Author.Rules.{rules}
 use Rattle.phase3.proofs.first_two.Goals as goal
-
-slice-aggregate-first-of-pair :
-    tie.Need-slice-aggregate-first-of-pair invariant-loop decreases-loop invariant-search decreases-search
-slice-aggregate-first-of-pair c = search rules
 
 pub overflow_add-segments_end : goal.overflow_add-segments_end
 overflow_add-segments_end c = omega (arith, c.requires.benefits.2.bounded.segments)
@@ -28,7 +23,9 @@ pub loop-k-init : goal.loop-k-init
 loop-k-init c = let l = c.search in (search rules, search rules, (λ p lp l. of_low _ _ _ _ _ lp), l.invariant.3, l.invariant.4)
 
 pub first_of_pair-found-requires : goal.first_of_pair-found-requires
-first_of_pair-found-requires c = let s = c.requires in record { benefits = (s.0.0, s.0.1, s.0.2, s.1.0, c.slacks_of-slacks.ensures, c.loop-k.invariant.4, s.0.3); le_i = (omega arith, omega arith, omega arith) }
+first_of_pair-found-requires c =
+    let p = c.requires.benefits in
+    record { benefits = (p.0, p.1, p.2, c.requires.tops.0, c.slacks_of-slacks.ensures, c.loop-k.invariant.4, p.3); le_i = (omega arith, omega arith, omega arith) }
 
 pub overflow_step-k-in-loop-k : goal.overflow_step-k-in-loop-k
 overflow_step-k-in-loop-k c = omega (arith, c.requires.benefits.2.bounded.segments, c.loop-k-test.true)
@@ -38,7 +35,7 @@ loop-k-preserved c =
     let l = c.loop-k in
     let e = c.first_of_pair-found.ensures in
     let q = sym c.is_nothing.ensures ∙ c.if-not-is_nothing.false in
-    (search rules, search rules, below_more _ _ l.invariant.2 (λ one. no_turn e.0 q), nothing_is _ q, e.1)
+    (search rules, search rules, below_more _ _ l.invariant.2 (λ one. no_turn e.found q), nothing_is _ q, e.memory)
 
 pub overflow_step-i : goal.overflow_step-i
 overflow_step-i c = omega (arith, c.requires.benefits.2.bounded.segments, c.search-test.true)
@@ -70,7 +67,7 @@ returns-then-not-is_nothing c =
     let l = c.search in
     let m = c.loop-k in
     let e = c.first_of_pair-found.ensures in record {
-      found = found_pair _ _ _ _ l.invariant.0 m.invariant.0 (omega arith) l.invariant.2 m.invariant.2 e.0
+      found = found_pair _ _ _ _ l.invariant.0 m.invariant.0 (omega arith) l.invariant.2 m.invariant.2 e.found
           (sym c.is_nothing.ensures ∙ c.if-not-is_nothing.true);
-      memory = e.1;
+      memory = e.memory;
     }

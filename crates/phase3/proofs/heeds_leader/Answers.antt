@@ -16,7 +16,7 @@ returns-then-strategy_after-eq0 c = sym (heeds_nothing _ _ _ (sym c.strategy_aft
 pub strategy_after-requires-2 : goal.strategy_after-requires-2
 strategy_after-requires-2 c =
     let s = c.requires in
-    record { choice_len = (s.0.1, omega arith, s.0.0.small _); le_i = s.1 }
+    record { choice_len = (s.leaders.1, omega arith, s.leaders.0.small _); le_i = s.le_i }
 
 pub returns : goal.returns
 unfolding heeds led

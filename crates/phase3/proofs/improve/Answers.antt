@@ -1,5 +1,4 @@
 -- `phase3::improve` meets its contract: after so many changes the programme is the one that the search reaches, and the memory holds.
-use Prim.Native.Nat.{◌-◌}
 use mathlib.Core.Path.{refl, sym, ◌∙◌}
 use native.Mathlib.Omega.{arith}
 use Rattle.phase3.specs.Memory.{memory_places}

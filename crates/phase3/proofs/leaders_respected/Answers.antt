@@ -1,7 +1,5 @@
 -- `phase3::leaders_respected` meets its contract: every segment that the loop passed heeds its leader.
-use Prim.Native.Nat.{◌-◌}
 use mathlib.Core.Path.{sym, ◌∙◌}
-use mathlib.Core.Bool.{true}
 use native.Mathlib.Omega.{arith}
 use Rattle.base.proofs.All.{all_none, all_next, all_fails, all_end}
 use Rattle.rules.specs.Phases.{respects}

@@ -26,14 +26,14 @@ returns-in-Nothing c = record { running_2 = c.requires.running; choice_after = r
 pub returns-in-One : goal.returns-in-One
 returns-in-One c =
     let m = c.make_one.ensures in
-    record { running_2 = m.0; choice_after = m.1 ∙ sym (ap (after c.args.choice.now) c.in-One.is) }
+    record { running_2 = m.running_2; choice_after = m.choice_after ∙ sym (ap (after c.args.choice.now) c.in-One.is) }
 
 pub returns-in-Two : goal.returns-in-Two
 returns-in-Two c =
     let m = c.make_one-in-Two-2.ensures in
-    let e = c.x-in-Two-1.given in record {
-      running_2 = m.0;
-      choice_after = m.1
-          ∙ ap (λ (l : List ℕ). give l e.0.1.0 e.0.1.1.1.0) c.make_one-in-Two.ensures.choice_after
-          ∙ sym (ap (after c.args.choice.now) e.1);
+    record {
+      running_2 = m.running_2;
+      choice_after = m.choice_after
+          ∙ ap (λ (l : List ℕ). give l c.in-Two.k c.in-Two.b) c.make_one-in-Two.ensures.choice_after
+          ∙ sym (ap (after c.args.choice.now) c.in-Two.is);
     }

@@ -12,7 +12,7 @@ returns-then-short-eq0 c =
 pub note-requires : goal.note-requires
 note-requires c =
     let s = c.requires in
-    let e = c.short_of-short.ensures in record { uses = (s.0.0.uses, s.0.1, s.0.0.budgets_length, s.0.2); cell = (s.1.0.0, s.1.0.1, omega arith, omega (arith, e.number, s.0.0.few)); r_bound = s.1.1 _ (omega arith) e.number }
+    let e = c.short_of-short.ensures in record { uses = (s.testable.0.uses, s.testable.1, s.testable.0.budgets_length, s.testable.2); cell = (s.cell.0, s.cell.1, omega arith, omega (arith, e.number, s.testable.0.few)); r_bound = s.by_index _ (omega arith) e.number }
 
 pub returns : goal.returns
 returns c =

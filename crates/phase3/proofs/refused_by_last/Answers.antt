@@ -9,15 +9,15 @@ pub returns-then-z-asked : goal.returns-then-z-asked
 returns-then-z-asked c = λ p d g. refusal_none g _ _ _
 
 pub room_in-requires : goal.room_in-requires
-room_in-requires c = let s = c.requires in record { testable = testable_part _ _ s.0.0 (omega arith); cell = (s.1.0.0, s.1.0.1, omega arith) }
+room_in-requires c = let s = c.requires in record { testable = testable_part _ _ s.testable.0 (omega arith); cell = (s.cell.0, s.cell.1, omega arith) }
 
 pub returns-then-room_in : goal.returns-then-room_in
 returns-then-room_in c = λ p d g. refusal_none g _ _ _
 
 pub note-requires : goal.note-requires
-note-requires c = let s = c.requires in record { uses = (s.0.0.uses, s.0.1, s.0.0.budgets_length, s.0.2); cell = (s.1.0.0, s.1.0.1, omega arith, omega (arith, s.0.0.few)); r_bound = s.1.1 _ (omega arith) (omega arith) }
+note-requires c = let s = c.requires in record { uses = (s.testable.0.uses, s.testable.1, s.testable.0.budgets_length, s.testable.2); cell = (s.cell.0, s.cell.1, omega arith, omega (arith, s.testable.0.few)); r_bound = s.by_index _ (omega arith) (omega arith) }
 
 pub returns : goal.returns
 returns c =
     let s = c.requires in
-    λ p d g. rw c.note.ensures (refusal_short g _ _ _ _ (omega arith) (omega arith) s.0.2 (sym c.room_in.ensures ∙ c.if-room_in.false))
+    λ p d g. rw c.note.ensures (refusal_short g _ _ _ _ (omega arith) (omega arith) s.testable.2 (sym c.room_in.ensures ∙ c.if-room_in.false))

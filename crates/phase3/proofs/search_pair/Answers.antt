@@ -1,14 +1,12 @@
 -- `phase3::search_pair` meets its contract: no pair that the loops passed counts, in this programme or any other that is tight.
-use Prim.Native.Nat.{◌-◌}
 use mathlib.Core.Path.{refl, sym, ◌∙◌}
-use mathlib.Core.Logic.{⊎_elim}
 use borrow.Author.Count.{below_none, below_more}
 use native.Mathlib.Omega.{arith}
-use Rattle.phase3.specs.Memory.{numbers}
 use Rattle.phase3.proofs.ChangeSearch.{of_found, found_nothing}
 use Rattle.phase3.proofs.Remembered.{searching_lower, passed_lower, searching_next, passed_with, alike, searching_none, searching_holds, unmarked_holds}
 use borrow.Author.Rules.{rules}
 use Rattle.phase3.proofs.search_pair.Goals as goal
+use Rattle.phase3.proofs.search_pair.Goals.{then-with_may_count+else-loop-b-test, else-with_may_count}
 
 pub overflow_add-strategies_end : goal.overflow_add-strategies_end
 overflow_add-strategies_end c = omega (arith, c.requires.0.running.bounded.strategies)
@@ -50,18 +48,21 @@ pub search-preserved : goal.search-preserved
 search-preserved c =
     let l = c.search in
     let t = c.with_may_count.ensures in
-    ⊎_elim
-    (λ w. (
-      search rules,
-      rw w.3 (searching_next _ _ _ _ _ w.1.inv.1 (passed_with _ _ c.args.choice.now _ _ w.1.row _ (λ v lv. w.1.inv.2 v (omega arith)))),
-      w.5 ∙ w.1.inv.3,
-    ))
-    (λ w. (
-      search rules,
-      rw w.1 (searching_next _ _ _ _ _ (searching_lower _ _ _ _ _ t.lower t.tight l.invariant.1) (t.passed w.0.left _)),
-      w.3 ∙ l.invariant.2,
-    ))
-    c.if-with_may_count.branch
+    elim c.if-with_may_count.branch [
+      | then-with_may_count+else-loop-b-test w ↦ (
+        search rules,
+        rw w.row-is
+            (searching_next _ _ _ _ _ w.loop-b.invariant.1
+            (passed_with _ _ c.args.choice.now _ _ w.loop-b.row _ (λ v lv. w.loop-b.invariant.2 v (omega arith)))),
+        w.found-is ∙ w.loop-b.invariant.3,
+      )
+      | else-with_may_count w ↦ (
+        search rules,
+        rw w.row-is
+            (searching_next _ _ _ _ _ (searching_lower _ _ _ _ _ t.lower t.tight l.invariant.1) (t.passed w.if-with_may_count.false _)),
+        w.found-is ∙ l.invariant.2,
+      )
+    ]
 
 pub shape_of-row-after-search : goal.shape_of-row-after-search
 shape_of-row-after-search c = c.search.invariant.1.places ∙ sym c.requires.2.places

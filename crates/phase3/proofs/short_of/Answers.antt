@@ -1,7 +1,5 @@
 -- `phase3::short_of` meets its contract: every resource that the loop passed suffices.
-use Prim.Native.Nat.{◌-◌}
 use mathlib.Core.Path.{sym, ◌∙◌}
-use mathlib.Core.Bool.{true}
 use native.Mathlib.Omega.{arith}
 use Rattle.base.proofs.All.{all_none, all_next, all_end}
 use Rattle.tables.proofs.Moves.{testable_part}

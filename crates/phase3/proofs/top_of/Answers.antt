@@ -1,5 +1,4 @@
 -- `phase3::top_of` meets its contract: the greatest so far is that of the strategies passed.
-use Prim.Native.Nat.{◌-◌}
 use native.Mathlib.Omega.{arith}
 use Rattle.base.proofs.Sums.{most_none, most_next, most_end}
 use borrow.Author.Rules.{rules}
