@@ -2,16 +2,18 @@
 // refusal. What stands behind the cards of the most segments is not read.
 #![tactic(auto)]
 
-ghost use Rattle.std.specs.Prelude.{List, ◌≡◌, ℕ, ◌≤◌, length};
+ghost use Rattle.std.specs.Prelude.{List, ◌≡◌, ℕ, ◌≤◌, OnOk, length};
 ghost use Rattle.base.specs.Text.{Put};
+ghost use Rattle.input.specs.Reading.{Prints};
 ghost use Rattle.listing.specs.Listing.{lines_from};
 ghost use Rattle.rules.specs.Deck.{longest_deck};
 ghost use Rattle.rules.specs.District.{most_segments, segments_of};
 ghost use Rattle.deck.specs.Printed.{numbers_line, counts_line, segment_line, numbers_at, held_lines, printed, NotRead, longest_printed};
 
 use cards::{Deck, LONGEST_DECK, PER_CARD, Segment};
-use libc::{STDIN_FILENO, STDOUT_FILENO};
 use rules::places::{MOST_SEGMENTS, SEGMENT_COUNT};
+use std::io;
+use std::io::{Read, Write};
 
 // The most bytes of what is printed: the counts and a line for each segment, with numbers of up to 20 digits.
 const LONGEST_PRINTED: usize = 112 + 126 * MOST_SEGMENTS;
@@ -96,10 +98,17 @@ fn room() -> [u8; LONGEST_DECK]
     [0u8; LONGEST_DECK]
 }
 
-fn main() {
+// What is printed for the first bytes of the input goes to the output.
+fn run<R: Read, W: Write>(input: &mut R, output: &mut W) -> io::Result<()>
+    ensures { OnOk result (Prints printed longest_deck (R.remaining input.old) (W.contents output.old) (W.contents output.new)) }
+{
     let mut bytes = room();
-    let n = io::read_full(STDIN_FILENO, &mut bytes);
+    let n = input::read_full(input, &mut bytes)?;
     let mut out = [0u8; LONGEST_PRINTED];
     let length = answer(&bytes[..n], &mut out);
-    io::write_all(STDOUT_FILENO, &out[..length]);
+    output.write_all(&out[..length])
+}
+
+fn main(rt: HostRuntime) -> io::Result<()> {
+    run(&mut rt.stdin(), &mut rt.stdout())
 }

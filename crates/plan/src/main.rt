@@ -2,12 +2,15 @@
 // 4,096 bytes are read.
 #![tactic(auto)]
 
-ghost use Rattle.std.specs.Prelude.{◌≤◌, length};
+ghost use Rattle.std.specs.Prelude.{◌≤◌, OnOk, length};
 ghost use Rattle.base.specs.Text.{Put};
+ghost use Rattle.input.specs.Reading.{most_read, Prints};
 ghost use Rattle.listing.specs.Listing.{longest_listing};
 ghost use Rattle.plan.specs.Printed.{printed};
 
-use libc::{STDIN_FILENO, STDOUT_FILENO};
+use input::MOST_READ;
+use std::io;
+use std::io::{Read, Write};
 
 // What is printed for a file, to the front of `out`.
 fn answer(file: &[u8], out: &mut [u8]) -> usize
@@ -20,10 +23,17 @@ fn answer(file: &[u8], out: &mut [u8]) -> usize
     listing::put_planned(out, answer, u)
 }
 
-fn main() {
-    let mut file = io::buffer();
-    let n = io::read_full(STDIN_FILENO, &mut file);
+// What is printed for the first bytes of the input goes to the output.
+fn run<R: Read, W: Write>(input: &mut R, output: &mut W) -> io::Result<()>
+    ensures { OnOk result (Prints printed most_read (R.remaining input.old) (W.contents output.old) (W.contents output.new)) }
+{
+    let mut file = [0u8; MOST_READ];
+    let n = input::read_full(input, &mut file)?;
     let mut out = [0u8; listing::LONGEST_LISTING];
     let length = answer(&file[..n], &mut out);
-    io::write_all(STDOUT_FILENO, &out[..length]);
+    output.write_all(&out[..length])
+}
+
+fn main(rt: HostRuntime) -> io::Result<()> {
+    run(&mut rt.stdin(), &mut rt.stdout())
 }
