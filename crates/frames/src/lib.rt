@@ -1,10 +1,14 @@
-// Frames on standard input: a length of 4 bytes, low byte first, and that many bytes.
+// Frames of an input: a length of 4 bytes, low byte first, and that many bytes.
 #![tactic(auto)]
 
-ghost use Rattle.std.specs.Prelude.{◌≡◌};
-ghost use Rattle.io.specs.Counts.{IsPrefixLen};
+ghost use Rattle.std.specs.Prelude.{◌≡◌, IfOk};
+ghost use Rattle.input.specs.Reading.{IsPrefixLen};
 
-use libc::STDIN_FILENO;
+use std::io;
+use std::io::Read;
+
+// No longer frame is read.
+pub const LONGEST_FRAME: usize = 65536;
 
 // How many bytes a frame has, and whether it was read whole.
 #[derive(Clone, Copy)]
@@ -24,26 +28,26 @@ fn missing() -> Frame
 }
 
 // A frame of this length, to the front of `space`.
-fn read_bytes(space: &mut [u8], length: usize) -> Frame
-    ensures { IsPrefixLen result.length space.new }
+fn read_bytes<R: Read>(input: &mut R, space: &mut [u8], length: usize) -> io::Result<Frame>
+    ensures { IfOk result (λ frame. IsPrefixLen frame.length space.new) }
 {
     if space.len() < length {
-        return missing();
+        return Ok(missing());
     }
-    let count = io::read_full(STDIN_FILENO, &mut space[..length]);
-    Frame {
+    let count = input::read_full(input, &mut space[..length])?;
+    Ok(Frame {
         whole: count == length,
         length,
-    }
+    })
 }
 
 // The next frame, to the front of `space`.
-pub fn read(space: &mut [u8]) -> Frame
-    ensures { IsPrefixLen result.length space.new }
+pub fn read<R: Read>(input: &mut R, space: &mut [u8]) -> io::Result<Frame>
+    ensures { IfOk result (λ frame. IsPrefixLen frame.length space.new) }
 {
     let mut header = [0u8; 4];
-    if io::read_full(STDIN_FILENO, &mut header) < 4 {
-        return missing();
+    if input::read_full(input, &mut header)? < 4 {
+        return Ok(missing());
     }
-    read_bytes(space, file::bytes::number(&header, 0, 4))
+    read_bytes(input, space, file::bytes::number(&header, 0, 4))
 }

@@ -8,9 +8,11 @@ ghost use Rattle.base.specs.Text.{Put};
 ghost use Rattle.rules.specs.File.{encode, longest_file};
 ghost use Rattle.transcode.specs.Transcoded.{head_of, head_bytes, framed, longest_framed, length_in, transcoded};
 
-use libc::STDOUT_FILENO;
+use frames::LONGEST_FRAME;
 use rules::records::LONGEST_FILE;
 use rules::{Answer, District};
+use std::io;
+use std::io::{Read, Write};
 
 // What stands before an exported file.
 const HEAD_BYTES: usize = 5;
@@ -73,22 +75,28 @@ fn answer(frame: &[u8], out: &mut [u8]) -> usize
 }
 
 // One frame; false where there is none.
-fn next_frame() -> bool {
-    let mut space = io::large_buffer();
-    let frame = frames::read(&mut space);
+fn next_frame<R: Read, W: Write>(input: &mut R, output: &mut W) -> io::Result<bool> {
+    let mut space = [0u8; LONGEST_FRAME];
+    let frame = frames::read(input, &mut space)?;
     if !frame.whole {
-        return false;
+        return Ok(false);
     }
     let n = frame.length;
     let mut out = [0u8; LONGEST_FRAMED];
     let length = answer(&space[..n], &mut out);
-    io::write_all(STDOUT_FILENO, &out[..length])
+    output.write_all(&out[..length])?;
+    Ok(true)
 }
 
-fn main() {
+fn run<R: Read, W: Write>(input: &mut R, output: &mut W) -> io::Result<()> {
     // A proved loop has to end, and nothing says that the input does: no run uses this number up.
     let mut turns = u64::MAX;
-    while turns > 0 && next_frame() {
+    while turns > 0 && next_frame(input, output)? {
         turns -= 1;
     }
+    Ok(())
+}
+
+fn main(rt: HostRuntime) -> io::Result<()> {
+    run(&mut rt.stdin(), &mut rt.stdout())
 }

@@ -9,8 +9,10 @@ ghost use Rattle.base.specs.Text.{Put};
 ghost use Rattle.listing.specs.Listing.{longest_listing};
 ghost use Rattle.vectors.specs.Worked.{worked};
 
-use libc::STDOUT_FILENO;
+use frames::LONGEST_FRAME;
 use rules::refusals::NO_SUCH_OFFICE;
+use std::io;
+use std::io::{Read, Write};
 
 // What is printed for a list of calls, to the front of `out`.
 fn answer(script: &[u8], out: &mut [u8]) -> usize
@@ -29,22 +31,28 @@ fn answer(script: &[u8], out: &mut [u8]) -> usize
 }
 
 // One frame; false where there is none.
-fn next_frame() -> bool {
-    let mut script = io::large_buffer();
-    let frame = frames::read(&mut script);
+fn next_frame<R: Read, W: Write>(input: &mut R, output: &mut W) -> io::Result<bool> {
+    let mut script = [0u8; LONGEST_FRAME];
+    let frame = frames::read(input, &mut script)?;
     if !frame.whole {
-        return false;
+        return Ok(false);
     }
     let n = frame.length;
     let mut out = [0u8; listing::LONGEST_LISTING];
     let length = answer(&script[..n], &mut out);
-    io::write_all(STDOUT_FILENO, &out[..length])
+    output.write_all(&out[..length])?;
+    Ok(true)
 }
 
-fn main() {
+fn run<R: Read, W: Write>(input: &mut R, output: &mut W) -> io::Result<()> {
     // A proved loop has to end, and nothing says that the input does: no run uses this number up.
     let mut turns = u64::MAX;
-    while turns > 0 && next_frame() {
+    while turns > 0 && next_frame(input, output)? {
         turns -= 1;
     }
+    Ok(())
+}
+
+fn main(rt: HostRuntime) -> io::Result<()> {
+    run(&mut rt.stdin(), &mut rt.stdout())
 }
