@@ -1,2 +1,3 @@
 pub mod Console
+pub mod Files
 pub mod Lines

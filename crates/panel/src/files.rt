@@ -1,50 +1,37 @@
 // Reading a file and putting another in its place.
-ghost use Rattle.std.specs.Prelude.{◌+◌, ◌≤◌, ◌++◌, length};
+ghost use Rattle.std.specs.Prelude.{◌≡◌, ◌+◌, ◌-◌, ◌≤◌, ◌++◌, All, IfOk, length, take};
+ghost use Rattle.std.specs.Io.{ReadsAtMost};
 ghost use Rattle.base.specs.Text.{text, Put};
-ghost use Rattle.io.specs.Counts.{IsPrefixLen};
+ghost use Rattle.input.specs.Reading.{IsPrefixLen};
+ghost use Rattle.panel.specs.Files.{IsLetterOrDigit, letters};
 ghost use Rattle.panel.specs.Lines.{kept_bytes};
 
+use std::fs::{File, OpenFile};
+use std::io::{ErrorKind, Write};
+use std::random::RandomSource;
+use std::rt::Files;
+use std::{fs, io, str};
+
+// What kept a file from being read.
 #[derive(Clone, Copy)]
-pub struct Got {
-    pub failed: bool,
-    pub count: usize,
+pub enum Failure {
+    Open,
+    Read,
 }
 
-fn read_some(fd: i32, file: &mut [u8]) -> Got
-    ensures { IsPrefixLen result.count file.new }
+// The first bytes of the file at the path, until the space is full or the file ends.
+pub fn read(rt: &impl Files, path: &[u8], space: &mut [u8]) -> Result<usize, Failure>
+    ensures { ReadsAtMost result space.new }
 {
-    let got = libc::read(fd, file);
-    Got {
-        failed: got < 0,
-        count: io::count(got, file),
-    }
-}
-
-// The file's first bytes, until the buffer is full or the file ends.
-pub fn read_all(fd: i32, file: &mut [u8]) -> Got
-    ensures { IsPrefixLen result.count file.new }
-{
-    let mut count: usize = 0;
-    while count < file.len() {
-        let got = read_some(fd, &mut file[count..]);
-        let more = got.count;
-        if got.failed {
-            return Got {
-                failed: true,
-                count,
-            };
-        }
-        if more == 0 {
-            return Got {
-                failed: false,
-                count,
-            };
-        }
-        count += more;
-    }
-    Got {
-        failed: false,
-        count,
+    let Ok(path) = str::from_utf8(path) else {
+        return Err(Failure::Open);
+    };
+    let Ok(mut file) = File::open(rt, path) else {
+        return Err(Failure::Open);
+    };
+    match input::read_full(&mut file, space) {
+        Ok(count) => Ok(count),
+        Err(_) => Err(Failure::Read),
     }
 }
 
@@ -60,48 +47,126 @@ fn new_name(path: &[u8], name: &mut [u8]) -> usize
     at + listing::put(&mut name[at..], b".XXXXXX")
 }
 
-// Makes a file under a name that no other file has, and puts that name for the X's. `create_temp` finds the name, but
-// its file is for the owner alone: so that one goes, and `create` makes another with the permissions of any new file.
-// It makes none, and touches none, where the name is taken in between.
-fn make(name: &mut [u8]) -> i32 {
-    let found = os::create_temp(name);
-    if found < 0 {
-        return found;
+// How many letters or digits stand for the X's.
+const LETTERS: usize = 6;
+
+// A name has room in as many bytes.
+const LONGEST_NAME: usize = 4096;
+
+// As many names are tried as C's `mkstemp` tries.
+const MOST_NAMES: usize = 62 * 62 * 62;
+
+fn letter(byte: u8) -> u8
+    ensures { IsLetterOrDigit result }
+{
+    let n = byte % 62;
+    if n < 10 {
+        b'0' + n
+    } else if n < 36 {
+        b'A' + (n - 10)
+    } else {
+        b'a' + (n - 36)
     }
-    libc::close(found);
-    os::unlink(name);
-    os::create(name)
 }
 
-// True where the bytes are on the disk. The file is closed either way.
-fn write_and_close(fd: i32, bytes: &[u8]) -> bool {
-    let is_written = io::write_all(fd, bytes);
-    let is_stored = libc::fsync(fd) == 0;
-    let is_closed = libc::close(fd) == 0;
-    is_written && is_stored && is_closed
+fn random_letters(rt: &impl RandomSource) -> io::Result<[u8; LETTERS]>
+    ensures { IfOk result (λ word. All IsLetterOrDigit word) }
+{
+    let mut bytes = [0u8; LETTERS];
+    rt.fill_bytes(&mut bytes)?;
+    let [a, b, c, d, e, f] = bytes;
+    Ok([
+        letter(a),
+        letter(b),
+        letter(c),
+        letter(d),
+        letter(e),
+        letter(f),
+    ])
+}
+
+// The letters go to the end of the name.
+fn put_letters(name: &mut [u8], word: [u8; LETTERS])
+    requires { letters ≤ length name.old }
+    ensures { name.new ≡ take (length name.old - letters) name.old ++ word }
+{
+    let at = name.len() - LETTERS;
+    name[at..].copy_from_slice(&word);
+}
+
+fn text_of(name: &[u8]) -> io::Result<&str>
+    ensures { IfOk result (λ text. text.now ≡ name.now) }
+{
+    match str::from_utf8(name) {
+        Ok(text) => Ok(text),
+        Err(_) => Err(io::Error::from(ErrorKind::InvalidInput)),
+    }
+}
+
+// A new file of this name; an error where one has it.
+fn create<R: Files>(rt: &R, name: &[u8]) -> io::Result<R::File> {
+    File::options()
+        .write(true)
+        .create_new(true)
+        .open(rt, text_of(name)?)
+}
+
+// Makes a file under a name that no other file has, with other letters at the name's end.
+fn make<R: Files + RandomSource>(rt: &R, name: &mut [u8]) -> io::Result<R::File>
+    requires { letters ≤ length name.old }
+{
+    for _ in 0..MOST_NAMES {
+        put_letters(name, random_letters(rt)?);
+        match create(rt, name) {
+            Ok(file) => return Ok(file),
+            Err(e) => {
+                if e.kind() != ErrorKind::AlreadyExists {
+                    return Err(e);
+                }
+            }
+        }
+    }
+    Err(io::Error::from(ErrorKind::AlreadyExists))
+}
+
+// After an `Ok` the bytes are on the disk. The file is closed either way.
+fn store<F: Write + OpenFile + Drop>(file: F, bytes: &[u8]) -> io::Result<()> {
+    let mut file = file;
+    file.write_all(bytes)?;
+    file.sync_all()
+}
+
+// Puts the bytes into the new file, and that in the place of the one at the path.
+fn place<R: Files>(rt: &R, file: R::File, name: &str, path: &str, bytes: &[u8]) -> io::Result<()> {
+    store(file, bytes)?;
+    fs::rename(rt, name, path)
 }
 
 // Makes the new file and renames it over the path. Where anything fails, the new file goes and the old one stays.
-fn replace(path: &[u8], name: &mut [u8], bytes: &[u8]) -> bool {
-    let fd = make(name);
-    if fd < 0 {
-        return false;
+fn replace<R: Files + RandomSource>(
+    rt: &R,
+    path: &[u8],
+    name: &mut [u8],
+    bytes: &[u8],
+) -> io::Result<()>
+    requires { letters ≤ length name.old }
+{
+    let path = text_of(path)?;
+    let file = make(rt, name)?;
+    let name = text_of(name)?;
+    let placed = place(rt, file, name, path, bytes);
+    if placed.is_err() {
+        let _ = fs::remove_file(rt, name);
     }
-    if write_and_close(fd, bytes) {
-        if os::rename(name, path) == 0 {
-            return true;
-        }
-    }
-    os::unlink(name);
-    false
+    placed
 }
 
 // Puts the bytes in the place of the file at the path. The old file stays as it was until all of the new one is on the
 // disk, and for good where that fails.
-pub fn save(path: &[u8], bytes: &[u8]) -> bool
+pub fn save<R: Files + RandomSource>(rt: &R, path: &[u8], bytes: &[u8]) -> io::Result<()>
     requires { length path.now ≤ kept_bytes }
 {
-    let mut name = io::buffer();
+    let mut name = [0u8; LONGEST_NAME];
     let n = new_name(path, &mut name);
-    replace(path, &mut name[..n], bytes)
+    replace(rt, path, &mut name[..n], bytes)
 }

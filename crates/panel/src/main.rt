@@ -3,6 +3,7 @@
 #![tactic(auto)]
 
 mod files;
+mod output;
 
 ghost use Rattle.std.specs.Prelude.{◌≤◌, ◌≡◌, length, take};
 ghost use Rattle.base.specs.Text.{Put};
@@ -19,11 +20,17 @@ ghost use Rattle.panel.specs.Lines.{kept_bytes, ByEvents, Answered, Grows, Fed};
 
 use command::Command;
 use desk::{Desk, DeskReply};
-use libc::{STDIN_FILENO, STDOUT_FILENO};
+use files::Failure;
+use input::MOST_READ;
+use output::Output;
 use rules::records::LONGEST_FILE;
 use rules::refusals::NO_SUCH_OFFICE;
 use rules::{Answer, Waiting};
 use station::Station;
+use std::io;
+use std::io::{Read, Write};
+use std::random::RandomSource;
+use std::rt::Files;
 
 // Of a line so many bytes are kept: enough to know that it is too long.
 const KEPT: usize = command::LONGEST_LINE + 1;
@@ -178,26 +185,22 @@ fn failed(c: Console, what: &[u8], path: &[u8], out: &mut [u8]) -> Turn
     }
 }
 
-fn load(c: Console, path: &[u8], out: &mut [u8]) -> Turn
+fn load(rt: &impl Files, c: Console, path: &[u8], out: &mut [u8]) -> Turn
     requires { (length path.now ≤ kept_bytes) × (longest_answer ≤ length out.old) }
     ensures { (h : Desks.Desk) → KeepsDesk c.desk h → Turns (Loads (state_of h c.office) path.now) out.old out.new result }
 {
-    let fd = os::open_read(path);
-    if fd < 0 {
-        return failed(c, b"cannot open ", path, out);
+    let mut file = [0u8; MOST_READ];
+    match files::read(rt, path, &mut file) {
+        Ok(count) => {
+            let n = c.office;
+            conclude(n, desk::load(c.desk, n, &file[..count]), out)
+        }
+        Err(Failure::Open) => failed(c, b"cannot open ", path, out),
+        Err(Failure::Read) => failed(c, b"cannot read ", path, out),
     }
-    let mut file = io::buffer();
-    let got = files::read_all(fd, &mut file);
-    libc::close(fd);
-    if got.failed {
-        return failed(c, b"cannot read ", path, out);
-    }
-    let count = got.count;
-    let n = c.office;
-    conclude(n, desk::load(c.desk, n, &file[..count]), out)
 }
 
-fn export(c: Console, path: &[u8], out: &mut [u8]) -> Turn
+fn export<H: Files + RandomSource>(rt: &H, c: Console, path: &[u8], out: &mut [u8]) -> Turn
     requires { (length path.now ≤ kept_bytes) × (longest_answer ≤ length out.old) × ByEvents c }
     ensures { (h : Desks.Desk) → KeepsDesk c.desk h → Turns (Exports (state_of h c.office) path.now) out.old out.new result }
 {
@@ -205,7 +208,7 @@ fn export(c: Console, path: &[u8], out: &mut [u8]) -> Turn
     let d = c.desk;
     let answer = station::export(d.station, c.office, &mut file);
     if let Answer::Accepted(n) = answer {
-        if !files::save(path, &file[..n]) {
+        if files::save(rt, path, &file[..n]).is_err() {
             return failed(c, b"cannot write ", path, out);
         }
     }
@@ -217,27 +220,32 @@ fn export(c: Console, path: &[u8], out: &mut [u8]) -> Turn
 
 // ---- lines
 
-fn respond(c: Console, line: &[u8], out: &mut [u8]) -> Turn
+fn respond<H: Files + RandomSource>(rt: &H, c: Console, line: &[u8], out: &mut [u8]) -> Turn
     requires { (length line.now ≤ kept_bytes) × (longest_answer ≤ length out.old) × ByEvents c }
     ensures { (s : State) → KeepsState c s → Turns (LineLeads s line.now) out.old out.new result }
 {
     let command = command::parse(line);
     match command {
-        Command::Load => load(c, command::path(line), out),
-        Command::Export => export(c, command::path(line), out),
+        Command::Load => load(rt, c, command::path(line), out),
+        Command::Export => export(rt, c, command::path(line), out),
         _ => obey(c, command, out),
     }
 }
 
-// The answer to a line goes to standard output.
-fn answer(c: Console, line: &[u8]) -> Console
+// The answer to a line goes to the output.
+fn answer<H: Files + RandomSource, W: Write>(
+    rt: &H,
+    output: &mut Output<W>,
+    c: Console,
+    line: &[u8],
+) -> Console
     requires { (length line.now ≤ kept_bytes) × ByEvents c }
     ensures { Answered c line.now result }
 {
     let mut out = [0u8; pages::LONGEST_PAGE];
-    let turn = respond(c, line, &mut out);
+    let turn = respond(rt, c, line, &mut out);
     let n = turn.length;
-    io::write_all(STDOUT_FILENO, &out[..n]);
+    output.put(&out[..n]);
     turn.console
 }
 
@@ -254,7 +262,14 @@ fn keep(line: &mut [u8], kept: usize, byte: u8) -> usize
 }
 
 // What was read goes to the line, and each line that ends is answered.
-fn feed(c: Console, line: &mut [u8], kept: usize, bytes: &[u8]) -> Turn
+fn feed<H: Files + RandomSource, W: Write>(
+    rt: &H,
+    output: &mut Output<W>,
+    c: Console,
+    line: &mut [u8],
+    kept: usize,
+    bytes: &[u8],
+) -> Turn
     requires { (kept ≤ length line.old) × (length line.old ≡ kept_bytes) × ByEvents c }
     ensures { Fed c (take kept line.old) bytes.now line.new result }
 {
@@ -263,7 +278,7 @@ fn feed(c: Console, line: &mut [u8], kept: usize, bytes: &[u8]) -> Turn
     let mut i = 0;
     while i < bytes.len() {
         if bytes[i] == 10 {
-            let next = answer(console, &line[..length]);
+            let next = answer(rt, output, console, &line[..length]);
             console = next;
             length = 0;
         } else {
@@ -274,25 +289,43 @@ fn feed(c: Console, line: &mut [u8], kept: usize, bytes: &[u8]) -> Turn
     Turn { console, length }
 }
 
-fn main() {
+// Answers each line of the input. A read that fails is the end of the input too, and is told of at the end.
+fn converse<H: Files + RandomSource, R: Read, W: Write>(
+    rt: &H,
+    input: &mut R,
+    output: &mut Output<W>,
+) -> io::Result<()> {
+    let mut ended = Ok(());
     let mut console = start();
     let mut line = [0u8; KEPT];
     let mut length: usize = 0;
     let mut turns = u64::MAX;
     while turns > 0 {
-        let mut bytes = io::buffer();
-        let got = libc::read(STDIN_FILENO, &mut bytes);
-        let n = io::count(got, &bytes);
+        let mut bytes = [0u8; MOST_READ];
+        let n = match input.read(&mut bytes) {
+            Ok(n) => n,
+            Err(e) => {
+                ended = Err(e);
+                0
+            }
+        };
         if n == 0 {
             break;
         }
-        let turn = feed(console, &mut line, length, &bytes[..n]);
+        let turn = feed(rt, output, console, &mut line, length, &bytes[..n]);
         let next = turn.console;
         console = next;
         length = turn.length;
         turns -= 1;
     }
     if length > 0 {
-        answer(console, &line[..length]);
+        answer(rt, output, console, &line[..length]);
     }
+    ended
+}
+
+fn main(rt: HostRuntime) -> io::Result<()> {
+    let mut output = Output::new(rt.stdout());
+    converse(&rt, &mut rt.stdin(), &mut output)?;
+    output.close()
 }
