@@ -1,5 +1,5 @@
 -- What the rules read in 32 bits is the float that they are.
-use Rattle.std.proofs.Common.{◌≡◌, ℕ, zero, suc, ◌+◌, ◌*◌, ◌/◌, ◌%◌, ◌^◌, ◌<◌, ◌≤◌, Bool, true, false, cond, not, T, eqb, ◌⊎◌, sym, refl, ◌∙◌, inl, inr, true≢false, mul-le-mul, mul-one, arith, pow_mono, le-ltb, lt-ltb, eqb-true}
+use Rattle.std.proofs.Common.{◌≡◌, ℕ, zero, suc, ◌+◌, ◌*◌, ◌%◌, ◌^◌, ◌<◌, ◌≤◌, Bool, true, false, cond, not, T, eqb, ◌⊎◌, sym, refl, ◌∙◌, inl, inr, true≢false, mul-le-mul, mul-one, arith, pow_mono, le-ltb, lt-ltb, eqb-true}
 use native.Mathlib.Nat.{pow-succ'}
 use lib.Dec.{eqb-suc-zero}
 use lib.Pow.{field}
@@ -15,6 +15,8 @@ abbrev pub Reads : ℕ → Float → Bool → ℕ → Type 0
 Reads part x s a = (T (not (finite x)) × (8192 * part ≤ a)) ⊎ HasValue x s a (1024 * part)
 
 twice : (x : Float) (s : Bool) (a c : ℕ) → HasValue x s a c → HasValue x s (2 * a) (2 * c)
+twice nan s a c v = elim v [ ]
+twice (inf _) s a c v = elim v [ ]
 twice (fin t m e) s a c v = (v.0, (let q = v.1 in omega arith))
 
 doubled : (q e : ℕ) → 2 * (q * 2 ^ e) ≡ q * 2 ^ suc e

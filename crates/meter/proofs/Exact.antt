@@ -1,6 +1,6 @@
 -- Sums and differences of floats that are whole 1024ths are exact, below 2 ^ 24 of them.
 use Rattle.std.proofs.Common.{◌≡◌, ℕ, ◌+◌, ◌-◌, ◌*◌, ◌^◌, ◌<◌, ◌≤◌, true, false, sym, ap, ◌∙◌, subst, true≢false, lt_of_lt_of_le, mul_assoc, mul_comm, mul-pos, mul_right_comm, arith, pow_mono, shl_lt, le-ltb}
-use lib.Ieee.{Float, fin, binary32, up, down, round, sum, add, sub, neg}
+use lib.Ieee.{Float, nan, inf, fin, binary32, up, down, round, sum, add, sub, neg}
 use lib.Ieee.Exact.{round_exact}
 use lib.Ieee.Scale.{round_same}
 use lib.Ieee.Fits.{down_pos}
@@ -19,7 +19,11 @@ scaled m u v w k e = mul_right_comm (m * u) w 1024 ∙ ap (λ (x : ℕ). x * w) 
 
 pub add_exact : (x y : Float) (k m : ℕ) → k + m < 2 ^ 24 → Counts x k → Counts y m → Counts (add binary32 x y) (k + m)
 unfolding add sum
+add_exact nan y k m h p q = elim p [ ]
+add_exact (inf _) y k m h p q = elim p [ ]
 add_exact (fin true a d) y k m h p q = absurd (true≢false p.0)
+add_exact (fin false a d) nan k m h p q = elim q [ ]
+add_exact (fin false a d) (inf _) k m h p q = elim q [ ]
 add_exact (fin false a d) (fin true b e) k m h p q = absurd (true≢false q.0)
 add_exact (fin false a d) (fin false b e) k m h p q =
     let l = scaled a (up d) (down d) (down e) k p.1 in
@@ -36,7 +40,11 @@ less x y c k m h C e g =
 
 pub sub_exact : (x y : Float) (k m : ℕ) → m ≤ k → k < 2 ^ 24 → Counts x k → Counts y m → Counts (sub binary32 x y) (k - m)
 unfolding sub add neg sum
+sub_exact nan y k m h l p q = elim p [ ]
+sub_exact (inf _) y k m h l p q = elim p [ ]
 sub_exact (fin true a d) y k m h l p q = absurd (true≢false p.0)
+sub_exact (fin false a d) nan k m h l p q = elim q [ ]
+sub_exact (fin false a d) (inf _) k m h l p q = elim q [ ]
 sub_exact (fin false a d) (fin true b e) k m h l p q = absurd (true≢false q.0)
 sub_exact (fin false a d) (fin false b e) k m h l p q =
     let x = a * up d * down e in

@@ -1,5 +1,5 @@
 -- The tests that `meter::is_reading` makes decide what the rules call a reading.
-use Rattle.std.proofs.Common.{◌≡◌, ℕ, zero, ◌*◌, ◌/◌, ◌%◌, ◌<◌, ◌≤◌, Bool, true, false, not, ◌&&◌, ◌||◌, T, eqb, ltb, pos, sym, refl, ap, ◌∙◌, inl, inr, true≢false, div-lt_iff_lt-mul, lt_of_mul-lt-mul_right, mul-lt-mul_of_pos_right, div-add-mod', arith, pow_pos, ltb-false, ltb-true, le-ltb, lt-ltb, eq-eqb, eqb-true}
+use Rattle.std.proofs.Common.{◌≡◌, ℕ, ◌*◌, ◌/◌, ◌%◌, ◌<◌, ◌≤◌, Bool, true, false, not, ◌&&◌, ◌||◌, T, eqb, ltb, pos, sym, refl, ap, ◌∙◌, inl, inr, true≢false, div-lt_iff_lt-mul, lt_of_mul-lt-mul_right, mul-lt-mul_of_pos_right, div-add-mod', arith, pow_pos, ltb-false, ltb-true, le-ltb, lt-ltb, eq-eqb, eqb-true}
 use native.Mathlib.Nat.{zero-mod, zero-div}
 use lib.Ieee.Nearest.{div_same}
 use lib.Ieee.{Float, nan, inf, fin, binary32, round, mul, lt, eq, fits, of_bits, of_int}
@@ -33,6 +33,8 @@ finite_not (fin s m e) f n = n
 -- of a value that a test finds above 0
 plain_sign : (x : Float) (s : Bool) (a c : ℕ) → lt 0f x ≡ true → HasValue x s a c → s ≡ false
 unfolding lt
+plain_sign nan s a c h v = elim v [ ]
+plain_sign (inf _) s a c h v = elim v [ ]
 plain_sign (fin true m e) s a c h v = absurd (true≢false (sym h))
 plain_sign (fin false m e) s a c h v = sym v.0
 

@@ -2,7 +2,7 @@
 use Rattle.std.proofs.Common.{◌≡◌, ℕ, ◌*◌, ◌<◌, Bool, true, false, ◌&&◌, ◌||◌, eqb, ltb, sym, refl, ap, ◌∙◌, true≢false, lt_of_mul-lt-mul_right, mul-lt-mul_of_pos_right, mul-pos, arith, ltb-true, lt-ltb, eq-eqb, eqb-true}
 use mathlib.Core.Bool.{beq}
 use native.Mathlib.Nat.{eq_of_mul-eq-mul_right}
-use lib.Ieee.{Float, fin, up, down, lt, eq}
+use lib.Ieee.{Float, nan, inf, fin, up, down, lt, eq}
 use lib.Ieee.Exact.{HasValue}
 use lib.Ieee.Fits.{down_pos}
 use Rattle.meter.specs.Window.{0f}
@@ -41,7 +41,11 @@ over' m u v a c w d h = let q = ap (λ (z : ℕ). z * (w * d)) h in omega arith
 module _ (a c b d : ℕ) (C : 0 < c) (D : 0 < d) where
   pub lt_values : (x y : Float) → HasValue x false a c → HasValue y false b d → lt x y ≡ ltb (a * d) (b * c)
   unfolding lt
+  lt_values nan y v w = elim v [ ]
+  lt_values (inf _) y v w = elim v [ ]
   lt_values (fin true m e) y v w = absurd (true≢false v.0)
+  lt_values (fin false m e) nan v w = elim w [ ]
+  lt_values (fin false m e) (inf _) v w = elim w [ ]
   lt_values (fin false m e) (fin true n g) v w = absurd (true≢false w.0)
   lt_values (fin false m e) (fin false n g) v w =
       ltb_scaled (m * up e * down g) (n * up g * down e) (a * d) (b * c) (c * d) (down e * down g) (mul-pos C D)
@@ -49,7 +53,11 @@ module _ (a c b d : ℕ) (C : 0 < c) (D : 0 < d) where
 
   pub eq_values : (x y : Float) → HasValue x false a c → HasValue y false b d → eq x y ≡ eqb (a * d) (b * c)
   unfolding eq
+  eq_values nan y v w = elim v [ ]
+  eq_values (inf _) y v w = elim v [ ]
   eq_values (fin true m e) y v w = absurd (true≢false v.0)
+  eq_values (fin false m e) nan v w = elim w [ ]
+  eq_values (fin false m e) (inf _) v w = elim w [ ]
   eq_values (fin false m e) (fin true n g) v w = absurd (true≢false w.0)
   eq_values (fin false m e) (fin false n g) v w =
       both_plain (eqb (m * up e * down g) (n * up g * down e))
@@ -71,12 +79,16 @@ no_sign t a z e = rw e (absorbed t (eqb a 0))
 
 pub eq_zero : (x : Float) (s : Bool) (a c : ℕ) → 0 < c → HasValue x s a c → eq x 0f ≡ eqb a 0
 unfolding eq
+eq_zero nan s a c C v = elim v [ ]
+eq_zero (inf _) s a c C v = elim v [ ]
 eq_zero (fin t m e) s a c C v =
     no_sign (beq t false) (m * up e * 1) (0 * 1 * down e) (omega arith)
     ∙ eqb_scaled (m * up e * 1) 0 a 0 c (down e) C (down_pos e) (let q = v.1 in omega arith) (omega arith)
 
 -- from one fraction to another of the same size
 pub rescaled : (x : Float) (s : Bool) (a c b d : ℕ) → 0 < c → a * d ≡ b * c → HasValue x s a c → HasValue x s b d
+rescaled nan s a c b d C h v = elim v [ ]
+rescaled (inf _) s a c b d C h v = elim v [ ]
 rescaled (fin t m e) s a c b d C h v =
     let q = ap (λ (z : ℕ). z * d) v.1 in
     let r = ap (λ (z : ℕ). z * down e) h in

@@ -28,6 +28,8 @@ pub bounded : (x y : Float) (n : ℕ) → HasValue y false n 1 → lt 0f x ≡ t
 unfolding lt
 bounded nan y n v h k = absurd (no h)
 bounded (inf true) y n v h k = absurd (no h)
+bounded (inf false) nan n v h k = elim v [ ]
+bounded (inf false) (inf _) n v h k = elim v [ ]
 bounded (inf false) (fin t i g) n v h k = absurd (no k)
 bounded (fin true m e) y n v h k = absurd (no h)
 bounded (fin false m e) y n v h k =
@@ -79,6 +81,8 @@ times_exact (fin false m e) f p h =
 module _ (a c : ℕ) (C : 0 < c) (small : a < 524288 * c) where
   cut_low : (y : Float) → HasValue y false a c → lt (fin true 1 (pos 0)) y ≡ true
   unfolding lt
+  cut_low nan v = elim v [ ]
+  cut_low (inf _) v = elim v [ ]
   cut_low (fin true m e) v = absurd (true≢false v.0)
   cut_low (fin false m e) v = lt-ltb 0 (1 * 1 * down e + m * up e * 1) (let q = down_pos e in omega arith)
 
@@ -91,6 +95,8 @@ module _ (a c : ℕ) (C : 0 < c) (small : a < 524288 * c) where
 
   cut_is : (y : Float) → HasValue y false a c → to_unsigned 64 y ≡ a / c
   unfolding to_unsigned
+  cut_is nan v = elim v [ ]
+  cut_is (inf _) v = elim v [ ]
   cut_is (fin true m e) v = absurd (true≢false v.0)
   cut_is (fin false m e) v =
       let q : m * up e / down e ≡ a / c = div_same (m * up e) (down e) a c (down_pos e) C v.1 in

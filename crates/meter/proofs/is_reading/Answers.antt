@@ -16,7 +16,7 @@ pub returns-then-x-3 : goal.returns-then-x-3
 unfolding of_bits
 returns-then-x-3 c =
     λ bits e.
-    reading_between c.args.x bits e s.well-formed.0.1 c.if-x-2.true c.if-x-3.true
+    reading_between c.args.x bits e c.well_formed.0.1 c.if-x-2.true c.if-x-3.true
     c.parts_in-n.result c.parts_in-n.ensures.small c.parts_in-n.ensures.parts
 
 pub returns-else-x-3 : goal.returns-else-x-3

@@ -6,16 +6,20 @@ use Rattle.meter.proofs.parts_in.Goals as goal
 
 pub truncating_f32_to_u64-requires : goal.truncating_f32_to_u64-requires
 unfolding of_bits
-truncating_f32_to_u64-requires c = let f = c.before.before.well-formed.0.1 in record { lower_bound = call_low c.args.x f c.if-x.true c.if-x-2.true; upper_bound = call_high c.args.x f c.if-x.true c.if-x-2.true }
+truncating_f32_to_u64-requires c =
+    let f = c.well_formed.0.1 in
+    record { lower_bound = call_low c.args.x f c.if-x.true c.if-x-2.true; upper_bound = call_high c.args.x f c.if-x.true c.if-x-2.true }
 
 pub returns-then-x-2 : goal.returns-then-x-2
 unfolding of_bits
 returns-then-x-2 c =
-    let f = c.before.before.before.well-formed.0.1 in
+    let f = c.well_formed.0.1 in
     let lo = c.if-x.true in
     rw c.truncating_f32_to_u64.ensures (
-      λ a b B v l. parts_are c.args.x f lo c.if-x-2.true a b B v,
-      parts_small c.args.x f lo c.if-x-2.true,
+    record {
+      parts = λ a b B v l. parts_are c.args.x f lo c.if-x-2.true a b B v;
+      small = parts_small c.args.x f lo c.if-x-2.true;
+    }
     )
 
 pub returns-else-x-2 : goal.returns-else-x-2
