@@ -1,5 +1,4 @@
 -- `ceiling::ceiling_of` meets its contract.
-use Prim.Native.Nat.{◌-◌}
 use mathlib.Core.Path.{◌≡◌, ap, sym, ◌∙◌}
 use native.Mathlib.Omega.{arith}
 use Rattle.rules.specs.Ceiling.{ceiling_at, ceiling}
@@ -26,7 +25,7 @@ price_all-value-requires c =
 pub loop-k-preserved : goal.loop-k-preserved
 loop-k-preserved c =
     let new = c.price_all-value.ensures in
-    (omega arith, after_next _ c.loop-k.k c.loop-k.invariant.1 c.power.ensures new.0, new.1)
+    (omega arith, after_next _ c.loop-k.k c.loop-k.invariant.1 c.power.ensures new.prices_after, new.standing)
 
 pub returns : goal.returns
 unfolding ceiling

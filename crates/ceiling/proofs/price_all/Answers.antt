@@ -1,5 +1,4 @@
 -- `ceiling::price_all` meets its contract.
-use Prim.Native.Nat.{◌-◌}
 use mathlib.Core.Path.{◌≡◌, sym, ◌∙◌}
 use native.Mathlib.Omega.{arith}
 use Rattle.ceiling.proofs.Search.{all_none, all_next, room_at, raisable_trial}
@@ -16,7 +15,7 @@ price_one-value-requires c =
 pub loop-r-preserved : goal.loop-r-preserved
 loop-r-preserved c =
     let new = c.price_one-value.ensures in
-    (omega arith, all_next _ _ _ c.loop-r.r c.loop-r.invariant.1 new.0, new.1)
+    (omega arith, all_next _ _ _ c.loop-r.r c.loop-r.invariant.1 new.prices_after, new.standing)
 
 pub shape_of-prices : goal.shape_of-prices
 shape_of-prices c =

@@ -22,7 +22,7 @@ returns-then-up-present c =
     let present = c.requires.1.value in
     let new = c.reprice.ensures in
     let low = min_lower c.trial-up.ensures c.if-up-present.true in
-    record { prices_after = new.0 ∙ priced_up t c.args.step p c.args.r (omega (arith, low.1, present)); standing = record { costs = new.1; value = low.0 ∙ sym (ap (ceiling_at t) new.0) } }
+    record { prices_after = new.prices_after ∙ priced_up t c.args.step p c.args.r (omega (arith, low.1, present)); standing = record { costs = new.costs; value = low.0 ∙ sym (ap (ceiling_at t) new.prices_after) } }
 
 pub returns-then-old-step : goal.returns-then-old-step
 returns-then-old-step c =
@@ -48,7 +48,7 @@ returns-then-down-present c =
     let new = c.reprice-then-down-present.ensures in
     let high = min_higher c.trial-up.ensures c.if-up-present.false in
     let low = min_lower c.trial-down.ensures c.if-down-present.true in
-    record { prices_after = new.0 ∙ down ∙ priced_down t c.args.step p c.args.r (omega (arith, present)) c.if-old-step.false (omega (arith, low.1, present)); standing = record { costs = new.1; value = low.0 ∙ sym (ap (ceiling_at t) new.0) } }
+    record { prices_after = new.prices_after ∙ down ∙ priced_down t c.args.step p c.args.r (omega (arith, present)) c.if-old-step.false (omega (arith, low.1, present)); standing = record { costs = new.costs; value = low.0 ∙ sym (ap (ceiling_at t) new.prices_after) } }
 
 pub returns : goal.returns
 returns c =
