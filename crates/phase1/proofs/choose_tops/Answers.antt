@@ -1,5 +1,5 @@
 -- `phase1::choose_tops` meets its contract: the segments passed have their top candidates.
-use Prim.Native.Nat.{ℕ, ◌-◌}
+use Prim.Native.Nat.{ℕ}
 use mathlib.Core.Path.{◌≡◌}
 use mathlib.Core.List.{List}
 use native.Mathlib.Omega.{arith}

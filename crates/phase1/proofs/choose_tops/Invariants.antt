@@ -8,7 +8,7 @@ use Rattle.tables.specs.Arrays.{tables}
 use Rattle.phase1.proofs.choose_tops.Given as goal
 
 abbrev pub invariant-loop-i : goal.invariant-loop-i
-invariant-loop-i l = (l.i ≤ most_segments) × (length l.choice ≡ most_segments) × ((k : ℕ) → 1 ≤ k → k ≤ l.i → (u l : List ℕ) → strategy_at l.choice k ≡ top_candidate (tables l.z l.benefits u l) k)
+invariant-loop-i l = (l.i ≤ most_segments) × (length l.choice ≡ most_segments) × ((k : ℕ) → 1 ≤ k → k ≤ l.i → (u m : List ℕ) → strategy_at l.choice k ≡ top_candidate (tables l.z l.benefits u m) k)
 
 abbrev pub decreases-loop-i : goal.decreases-loop-i
 decreases-loop-i l = most_segments - l.i

@@ -8,7 +8,7 @@ use Rattle.tables.specs.Arrays.{tables}
 use Rattle.phase1.proofs.make_sums.Given as goal
 
 abbrev pub invariant-loop-r : goal.invariant-loop-r
-invariant-loop-r l = (l.r ≤ l.resources) × (length l.sums ≡ most_resources) × ((q : ℕ) → 1 ≤ q → q ≤ l.r → (b l : List ℕ) → get_or l.sums (q - 1) 0 ≡ used (tables l.z b l.uses l) l.choice q)
+invariant-loop-r l = (l.r ≤ l.resources) × (length l.sums ≡ most_resources) × ((q : ℕ) → 1 ≤ q → q ≤ l.r → (b m : List ℕ) → get_or l.sums (q - 1) 0 ≡ used (tables l.z b l.uses m) l.choice q)
 
 abbrev pub decreases-loop-r : goal.decreases-loop-r
 decreases-loop-r l = l.resources - l.r

@@ -1,11 +1,10 @@
 -- `phase1::next_candidate` meets its contract.
-use Prim.Native.Nat.{◌-◌}
 use mathlib.Core.Path.{sym, ◌∙◌}
-use mathlib.Core.Logic.{⊎_elim}
 use native.Mathlib.Omega.{arith}
 use borrow.Author.Rules.{rules}
 use Rattle.phase1.proofs.Candidates.{next_none, next_taken, next_kept, next_passed, next_end}
 use Rattle.phase1.proofs.next_candidate.Goals as goal
+use Rattle.phase1.proofs.next_candidate.Goals.{then-greatest-value+then-comes_after, then-greatest-value+else-comes_after, else-greatest-value}
 
 pub loop-k-init : goal.loop-k-init
 loop-k-init c = (search rules, next_none _ _ _)
@@ -16,12 +15,11 @@ loop-k-preserved c =
     let is = c.benefit-value.ensures in
     let was = c.benefit-old.ensures in (
       search rules,
-      ⊎_elim
-          (λ w. rw (w.3, w.4) (next_taken _ _ _ is _ was led w.0.taken (sym w.1.ensures ∙ w.2.taken)))
-          (⊎_elim
-          (λ w. rw (w.3, w.4) (next_passed _ _ _ is _ was led (sym w.1.ensures ∙ w.2.left)))
-          (λ w. rw (w.1, w.2) (next_kept _ _ _ is _ was led w.0.left)))
-          c.if-greatest-value.branch,
+      elim c.if-greatest-value.branch [
+        | then-greatest-value+then-comes_after w ↦ rw (w.next-is, w.greatest-is) (next_taken _ _ _ is _ was led w.if-greatest-value.true (sym w.comes_after.ensures ∙ w.if-comes_after.true))
+        | then-greatest-value+else-comes_after w ↦ rw (w.next-is, w.greatest-is) (next_passed _ _ _ is _ was led (sym w.comes_after.ensures ∙ w.if-comes_after.false))
+        | else-greatest-value w ↦ rw (w.next-is, w.greatest-is) (next_kept _ _ _ is _ was led w.if-greatest-value.false)
+      ],
     )
 
 pub returns : goal.returns

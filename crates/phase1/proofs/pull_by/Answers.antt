@@ -1,12 +1,12 @@
 -- `phase1::pull_by` meets its contract: the sum so far is that of the resources passed.
-use Prim.Native.Nat.{◌+◌, ◌-◌}
+use Prim.Native.Nat.{◌+◌}
 use mathlib.Core.Path.{◌∙◌}
-use mathlib.Core.Logic.{⊎_elim}
 use native.Mathlib.Omega.{arith}
 use Rattle.base.proofs.Sums.{sum_none, sum_end}
 use Rattle.phase1.proofs.Pulls.{pull_turn, pull_skip, pull_le}
 use borrow.Author.Rules.{rules}
 use Rattle.phase1.proofs.pull_by.Goals as goal
+use Rattle.phase1.proofs.pull_by.Goals.{then-beyond-gt0, else-beyond-gt0}
 
 pub loop-r-init : goal.loop-r-init
 loop-r-init c = (search rules, sum_none _)
@@ -30,10 +30,10 @@ loop-r-preserved c =
     let a = c.args in
     let l = c.loop-r in (
       search rules,
-      ⊎_elim
-          (λ w. w.2 ∙ pull_turn a.row.now a.over.now l.r l.invariant.1)
-          (λ w. w.1 ∙ pull_skip a.row.now a.over.now l.r l.invariant.1 w.0.left)
-          c.if-beyond-gt0.branch,
+      elim c.if-beyond-gt0.branch [
+        | then-beyond-gt0 w ↦ w.all-is ∙ pull_turn a.row.now a.over.now l.r l.invariant.1
+        | else-beyond-gt0 w ↦ w.all-is ∙ pull_skip a.row.now a.over.now l.r l.invariant.1 w.if-beyond-gt0.false
+      ],
     )
 
 pub returns : goal.returns

@@ -1,12 +1,11 @@
 -- `phase1::reduce` meets its contract: the steps made and those from here on are all of them.
-use Prim.Native.Nat.{◌-◌}
 use mathlib.Core.Path.{sym, ◌∙◌}
 use native.Mathlib.Omega.{arith}
 use Rattle.phase1.proofs.Reduction.{bound_le, held_measured, down_start, down_within, down_nobody, down_spent, down_next, weakest_inside}
 use Rattle.phase1.proofs.reduce.Goals as goal
 
 pub last_led-led-requires : goal.last_led-led-requires
-last_led-led-requires c = let p = c.requires in (p.0, p.1.running.bounded.segments)
+last_led-led-requires c = let p = c.requires in (p.leaders, p.held.running.bounded.segments)
 
 pub share_sums-held-requires : goal.share_sums-held-requires
 share_sums-held-requires c = held_measured c.requires.held
@@ -27,7 +26,9 @@ pub shape_of-sums-then-limits_hold : goal.shape_of-sums-then-limits_hold
 shape_of-sums-then-limits_hold c = c.loop-steps.invariant.0.held.running.sums_length ∙ sym c.requires.held.running.sums_length
 
 pub returns-then-limits_hold : goal.returns-then-limits_hold
-returns-then-limits_hold c = down_within c.loop-steps.invariant.0 c.limits_hold.ensures c.if-limits_hold.true
+returns-then-limits_hold c =
+    let done = down_within c.loop-steps.invariant.0 c.limits_hold.ensures c.if-limits_hold.true in
+    record { running = done.0; choice_after = done.1.0; value = done.1.1 }
 
 pub weakest_of-i-requires : goal.weakest_of-i-requires
 weakest_of-i-requires c =
@@ -42,7 +43,9 @@ pub shape_of-sums-then-i-eq0 : goal.shape_of-sums-then-i-eq0
 shape_of-sums-then-i-eq0 c = c.loop-steps.invariant.0.held.running.sums_length ∙ sym c.requires.held.running.sums_length
 
 pub returns-then-i-eq0 : goal.returns-then-i-eq0
-returns-then-i-eq0 c = down_nobody c.loop-steps.invariant.0 c.limits_hold.ensures c.if-limits_hold.false c.weakest_of-i.ensures c.if-i-eq0.true
+returns-then-i-eq0 c =
+    let done = down_nobody c.loop-steps.invariant.0 c.limits_hold.ensures c.if-limits_hold.false c.weakest_of-i.ensures c.if-i-eq0.true in
+    record { running = done.0; choice_after = done.1.0; value = done.1.1 }
 
 pub step-stepped-requires : goal.step-stepped-requires
 step-stepped-requires c =
@@ -56,9 +59,9 @@ overflow_add-steps c = omega (arith, c.loop-steps-test.true, bound_le c.requires
 pub loop-steps-preserved : goal.loop-steps-preserved
 loop-steps-preserved c =
     let made = c.step-stepped.ensures in (
-      down_next c.loop-steps.invariant.0 c.limits_hold.ensures c.if-limits_hold.false c.weakest_of-i.ensures c.if-i-eq0.false c.loop-steps-test.true made.1.0
-          made.0,
-      made.1.1,
+      down_next c.loop-steps.invariant.0 c.limits_hold.ensures c.if-limits_hold.false c.weakest_of-i.ensures c.if-i-eq0.false c.loop-steps-test.true made.by_index
+          made.running,
+      made.share_sums,
     )
 
 pub shape_of-choice : goal.shape_of-choice
@@ -68,4 +71,6 @@ pub shape_of-sums : goal.shape_of-sums
 shape_of-sums c = c.loop-steps.invariant.0.held.running.sums_length ∙ sym c.requires.held.running.sums_length
 
 pub returns : goal.returns
-returns c = down_spent c.loop-steps.invariant.0 c.loop-steps-test.false
+returns c =
+    let done = down_spent c.loop-steps.invariant.0 c.loop-steps-test.false in
+    record { running = done.0; choice_after = done.1.0; value = done.1.1 }

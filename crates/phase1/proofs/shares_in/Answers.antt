@@ -1,5 +1,5 @@
 -- `phase1::shares_in` meets its contract: the sum so far is that of the segments passed.
-use Prim.Native.Nat.{◌+◌, ◌-◌}
+use Prim.Native.Nat.{◌+◌}
 use native.Mathlib.Omega.{arith}
 use borrow.Author.Rules.{rules}
 use Rattle.base.proofs.Sums.{sum_none, sum_next, sum_end}

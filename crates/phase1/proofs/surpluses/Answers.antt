@@ -1,5 +1,4 @@
 -- `phase1::surpluses` meets its contract: the surpluses passed are right.
-use Prim.Native.Nat.{◌-◌}
 use mathlib.Core.Path.{refl}
 use native.Mathlib.Omega.{arith}
 use lib.ListN.{length-set}

@@ -1,10 +1,9 @@
 -- `phase1::top_candidate` meets its contract.
-use Prim.Native.Nat.{◌-◌}
-use mathlib.Core.Logic.{⊎_elim}
 use native.Mathlib.Omega.{arith}
 use borrow.Author.Rules.{rules}
 use Rattle.phase1.proofs.Candidates.{top_none, top_taken, top_kept, top_end}
 use Rattle.phase1.proofs.top_candidate.Goals as goal
+use Rattle.phase1.proofs.top_candidate.Goals.{then-most-value, else-most-value}
 
 pub loop-j-init : goal.loop-j-init
 loop-j-init c = (search rules, top_none _ _)
@@ -14,7 +13,10 @@ loop-j-preserved c =
     let led = c.loop-j.invariant.1 in
     let is = c.benefit-value.ensures in (
       search rules,
-      ⊎_elim (λ w. rw (w.1, w.2) (top_taken _ _ _ is led w.0.taken)) (λ w. rw (w.1, w.2) (top_kept _ _ _ is led w.0.left)) c.if-most-value.branch,
+      elim c.if-most-value.branch [
+        | then-most-value w ↦ rw (w.top-is, w.most-is) (top_taken _ _ _ is led w.if-most-value.true)
+        | else-most-value w ↦ rw (w.top-is, w.most-is) (top_kept _ _ _ is led w.if-most-value.false)
+      ],
     )
 
 pub returns : goal.returns

@@ -1,5 +1,4 @@
 -- `phase1::weakest_of` meets its contract: the weakest so far is that of the segments passed.
-use Prim.Native.Nat.{◌-◌}
 use native.Mathlib.Omega.{arith}
 use Rattle.phase1.proofs.Pulls.{weakest_none, weakest_next, weakest_end}
 use borrow.Author.Rules.{rules}
