@@ -17,7 +17,6 @@ use Rattle.base.proofs.Parts.{on_dropped}
 use Rattle.command.specs.Reading.{is_of, every, word_of, rest_of, number_in, first_number, after_number, with_number, arguments, at, placed, path_of, send_of, edit_in, count_of}
 use Rattle.rules.specs.declared.Edit.{Edit}
 use Rattle.rules.specs.declared.Sent.{Sent}
-use Rattle.command.specs.declared.Command as Command
 use Rattle.command.specs.declared.Command.{Command}
 use Rattle.command.specs.declared.Command.TheVariants.{Send, Unknown}
 use Rattle.command.specs.declared.Kind.{Kind}

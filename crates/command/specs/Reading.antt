@@ -11,11 +11,9 @@ use Rattle.rules.specs.declared.Edit.TheVariants.{Bar, Unbar, SetLimit, SetRatin
 use Rattle.rules.specs.declared.Sent.{Sent}
 use Rattle.rules.specs.declared.Sent.TheVariants.{Index, Marker, Lost}
 use Rattle.command.specs.declared.Arguments.{Arguments}
-use Rattle.command.specs.declared.Command as Command
 use Rattle.command.specs.declared.Command.{Command}
 use Rattle.command.specs.declared.Kind.{Kind}
 use Rattle.command.specs.declared.Kind.TheVariants.{Space, Named}
-use Rattle.command.specs.declared.Name as Name
 use Rattle.command.specs.declared.Name.{Name}
 use Rattle.command.specs.declared.Row.{Row}
 use Rattle.command.specs.declared.Takes.{Takes}

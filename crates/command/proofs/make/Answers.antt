@@ -36,10 +36,10 @@ pub returns-in-Why : goal.returns-in-Why
 returns-in-Why c = rw c.in-Why.is
 
 pub returns-in-Index : goal.returns-in-Index
-returns-in-Index c = rw c.in-Index.is (c.send.ensures ∙ send_low Index (at c.args.t2 0))
+returns-in-Index c = rw c.in-Index.is (c.send.ensures ∙ send_low Index (at c.args.numbers 0))
 
 pub returns-in-Marker : goal.returns-in-Marker
-returns-in-Marker c = rw c.in-Marker.is (c.send-in-Marker.ensures ∙ send_low Marker (at c.args.t2 0))
+returns-in-Marker c = rw c.in-Marker.is (c.send-in-Marker.ensures ∙ send_low Marker (at c.args.numbers 0))
 
 pub returns-in-Lost : goal.returns-in-Lost
 returns-in-Lost c = rw c.in-Lost.is

@@ -1,6 +1,7 @@
 -- `command::take` meets its contract.
 use mathlib.Core.Path.{ap, ◌∙◌}
 use native.Mathlib.Omega.{arith}
+use lib.ListN.{replicate}
 use Rattle.command.specs.Reading.{is_path, taken, numbers_of}
 use Rattle.base.proofs.Parts.{up_fits, on_dropped}
 use Rattle.command.proofs.Reading.{blank_all, at_front}
@@ -17,7 +18,7 @@ returns-in-Numbers c =
 
 pub returns-in-Path : goal.returns-in-Path
 unfolding numbers_of taken
-returns-in-Path c = rw (c.in-Path.is, c.is_path.ensures ∙ ap is_path c.path.ensures, at_front 0 _ (blank_all 4))
+returns-in-Path c = rw (c.in-Path.is, c.is_path.ensures ∙ ap is_path c.path.ensures, at_front 0 (replicate 4 0) (blank_all 4))
 
 pub returns-in-Queued : goal.returns-in-Queued
 unfolding numbers_of taken
