@@ -15,6 +15,7 @@ use Rattle.fill.proofs.Front.{fill_front}
 use Rattle.fill.proofs.Tables.{uses_past}
 use Rattle.fill.proofs.fill_uses.Goals as goal
 
+-- a row is the next part of the list
 row_is : (d : District) (n : ℕ) → listed most_resources (usage_in d (n / columns + 1) (n % columns)) ≡ listed_from most_resources (0 + most_resources * n) (usage_entry d)
 unfolding usage_entry
 row_is d n = listed_cong most_resources 1 (0 + most_resources * n) (usage_in d (n / columns + 1) (n % columns)) (usage_entry d) same

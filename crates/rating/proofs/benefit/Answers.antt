@@ -16,6 +16,7 @@ use Rattle.rating.proofs.benefit.Goals.{After-area, After-effect}
 small : (c : After-area) → c.area.result ≤ 1_999_800
 small c = rw c.area.ensures (area_le _ c.requires.0 _ c.requires.1)
 
+-- of a strategy, which is not nothing
 of-strategy : (d : District) (i j : ℕ) → 1 ≤ j → pos (area d i) *ℤ effect d i j ≡ benefit d i j
 unfolding benefit
 of-strategy d i zero h = elim h [ ]

@@ -23,6 +23,7 @@ percent-le c =
     let p = c.requires in
     rw c.percent_at.ensures (p.0.percent _ _ _ p.2.0 p.2.1 p.3.0 p.3.1 p.4.0 p.4.1)
 
+-- from year 1 on
 later : (d : District) (i j k t : ℕ) → 1 ≤ t → 1_000_000 - traffic_of d i * environment_of d i * (100 - percent_of d j k t) ≡ survival d i j k t
 unfolding survival
 later d i j k zero h = elim h [ ]

@@ -13,6 +13,7 @@ use Rattle.rating.proofs.Entries.{usage_none, usage_past, usage_some, treated, h
 use Rattle.rating.proofs.usage_in.Goals as goal
 use Rattle.rating.proofs.usage_in.Goals.{Else-a-eq0}
 
+-- a segment with some area to treat is the district's, and so is the strategy
 there : (c : Else-a-eq0) (i : ℕ) → let a = c.args in a.a ≡ area_in a.d.now i a.j → has a.d.now i a.j ≡ true
 there c i e = let a = c.args in treated _ i _ a.r (λ z. c.if-a-eq0.false (e ∙ z))
 

@@ -35,9 +35,11 @@ module _ (d : District) (i j : ℕ) where
   unfolding candidate worth_of
   if-permitted e l = simp (e, (above_zero (benefit d i j) l).0, and-true)
 
+-- what the local b holds
 held : (c : After-benefit-b) → let a = c.args in to_z w64 (of_z w64 c.benefit-b.result) ≡ benefit a.d.now a.i a.j
 held c = told w64 c.benefit-b.type_inv c.benefit-b.ensures
 
+-- past the first three tests
 tested : (c : Else-b-le0) →
     let a = c.args in
     pick (permitted a.d.now a.i a.j) (nat_abs (benefit a.d.now a.i a.j)) 0 ≡ worth_of a.d.now a.i a.j

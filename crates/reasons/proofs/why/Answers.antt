@@ -9,6 +9,7 @@ use Rattle.reasons.proofs.Answers.{refused_as, because, out_of_range, in_its_ran
 use Rattle.reasons.proofs.why.Goals as goal
 use Rattle.reasons.proofs.why.Goals.{Else-not-in_range}
 
+-- past the two tests
 ranged : (c : Else-not-in_range) → in_range c.args.d ≡ true
 ranged c = sym c.in_range.ensures ∙ c.if-not-in_range.false
 
