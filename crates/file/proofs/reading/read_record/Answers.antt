@@ -75,7 +75,7 @@ returns-then-length-size c =
     let a = c.args in
     let t = there (goal.at.returns-then-length-size c).Else-not-is_present in
     let l = long (goal.at.returns-then-length-size c).Else-left-lt4 in
-    let k = sym (kind (goal.at.returns-then-length-size c).After-number-kind) ∙ c.if-kind-due.false in
+    let k : number_of (take 2 (drop 2 (drop a.at a.file.now))) ≡ a.slot.kind = omega (arith, kind (goal.at.returns-then-length-size c).After-number-kind) in
     let n : number_of (take 2 (drop a.at a.file.now)) ≡ size (take a.place a.d.now) a.slot → ⊥ = λ q. c.if-length-size.true (c.number-length.ensures ∙ q ∙ sym (sized (goal.at.returns-then-length-size c).After-payload-size)) in
     record { same = sym (search picks depth 10); inside = tt; before = refl; all = c.requires.d_len }
 
@@ -85,7 +85,7 @@ returns-then-left-size c =
     let a = c.args in
     let t = there (goal.at.returns-then-left-size c).Else-not-is_present in
     let l = long (goal.at.returns-then-left-size c).Else-left-lt4 in
-    let k = sym (kind (goal.at.returns-then-left-size c).After-number-kind) ∙ c.if-kind-due.false in
+    let k : number_of (take 2 (drop 2 (drop a.at a.file.now))) ≡ a.slot.kind = omega (arith, kind (goal.at.returns-then-left-size c).After-number-kind) in
     let z = sized (goal.at.returns-then-left-size c).After-payload-size in
     let n = len (goal.at.returns-then-left-size c).Else-length-size z in
     let h : length (drop a.at a.file.now) - 4 < size (take a.place a.d.now) a.slot = simp length-drop (omega arith) in
@@ -100,7 +100,7 @@ pub returns : goal.returns
 returns c =
     let a = c.args in
     let z = sized (goal.at.returns c).After-payload-size in
-    let k = sym (kind (goal.at.returns c).After-number-kind) ∙ c.if-kind-due.false in
+    let k : number_of (take 2 (drop 2 (drop a.at a.file.now))) ≡ a.slot.kind = omega (arith, kind (goal.at.returns c).After-number-kind) in
     let n = c.read_numbers-2.ensures in
     record {
       same =
