@@ -36,6 +36,7 @@ module _ (form n place at : ℕ) (slot : Slot) (d next file : List ℕ) (res : R
       ap (λ (m : ℕ). read_records form m n (take place d) (drop at file)) (less file_records n h)
       ∙ records_refused form (file_records - (n + 1)) n (take place d) (drop at file) k (answer ∙ ap (λ (x : Reading). read_of x (take slot.places (drop place next)) file) q)
 
+-- after the last record
 last : (c : After-loop-n) → c.loop-n.n ≡ file_records
 last c = omega arith
 

@@ -15,6 +15,7 @@ use borrow.Author.Rules.{rules}
 use Rattle.file.proofs.reading.read_numbers.Goals as goal
 use Rattle.file.proofs.reading.read_numbers.Goals.{After-field_at-f}
 
+-- what the field is by the definition, and the bytes that it leaves
 field : (c : After-field_at-f) → let a = c.args in c.field_at-f.result ≡ field_at (take a.place a.d.now) a.slot c.loop-i.i
 field c =
     let l = c.loop-i in

@@ -13,6 +13,7 @@ use Rattle.file.proofs.Steps.{record_none, record_there, widths_none, widths_tak
 use Rattle.file.proofs.reading.read_record.Goals as goal
 use Rattle.file.proofs.reading.read_record.Goals.{After-number-kind, After-payload-size, Else-left-lt4, Else-length-size, Else-not-is_present, Then-not-is_present}
 
+-- what each test and each number shows
 none : (c : Then-not-is_present) → let a = c.args in present (take a.place a.d.now) a.slot ≡ false
 none c =
     c.requires.ready.here c.args.d.now ∙ sym c.is_present.ensures ∙ c.if-not-is_present.true

@@ -13,6 +13,7 @@ use Rattle.file.proofs.Steps.{records_step}
 use Rattle.file.proofs.writing.write_file.Goals as goal
 use Rattle.file.proofs.writing.write_file.Goals.{After-slot_at-slot}
 
+-- a record is to come, and there is room for it
 now : (c : After-slot_at-slot) → let l = c.loop-n in let a = c.args in let s = c.slot_at-slot.result in Written a.out.now (encode_as a.form a.d.now) (record_bytes a.d.now s l.place ++ records_bytes a.form (file_records - (l.n + 1)) a.d.now (l.n + 1) (l.place + s.places)) l.at l.out
 now c =
     let l = c.loop-n in

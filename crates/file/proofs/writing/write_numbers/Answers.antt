@@ -13,6 +13,7 @@ use Rattle.file.proofs.Steps.{numbers_step}
 use Rattle.file.proofs.writing.write_numbers.Goals as goal
 use Rattle.file.proofs.writing.write_numbers.Goals.{After-field_at-f}
 
+-- a number is to come, and there is room for it
 now : (c : After-field_at-f) → let l = c.loop-i in let a = c.args in Written a.out.now (number_bytes a.slot.places a.d.now a.slot 0 a.place) (bytes_of c.field_at-f.result.width (get_or a.d.now (a.place + l.i) 0) ++ number_bytes (a.slot.places - (l.i + 1)) a.d.now a.slot (l.i + 1) (a.place + (l.i + 1))) l.at l.out
 now c =
     let l = c.loop-i in
