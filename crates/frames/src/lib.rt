@@ -1,10 +1,9 @@
 // Frames of an input: a length of 4 bytes, low byte first, and that many bytes.
 #![tactic(auto)]
 
-ghost use Rattle.std.specs.Prelude.{◌≡◌, IfOk};
+ghost use Rattle.std.specs.Prelude.{◌≡◌};
 ghost use Rattle.input.specs.Reading.{IsPrefixLen};
 
-use std::io;
 use std::io::Read;
 
 // No longer frame is read.
@@ -27,27 +26,34 @@ fn missing() -> Frame
     }
 }
 
+// Fills the space; false where the input ends before, or a read fails.
+fn fill<R: Read>(input: &mut R, space: &mut [u8]) -> bool {
+    match input::read_full(input, space) {
+        Ok(count) => count == space.len(),
+        Err(_) => false,
+    }
+}
+
 // A frame of this length, to the front of `space`.
-fn read_bytes<R: Read>(input: &mut R, space: &mut [u8], length: usize) -> io::Result<Frame>
-    ensures { IfOk result (λ frame. IsPrefixLen frame.length space.new) }
+fn read_bytes<R: Read>(input: &mut R, space: &mut [u8], length: usize) -> Frame
+    ensures { IsPrefixLen result.length space.new }
 {
     if space.len() < length {
-        return Ok(missing());
+        return missing();
     }
-    let count = input::read_full(input, &mut space[..length])?;
-    Ok(Frame {
-        whole: count == length,
+    Frame {
+        whole: fill(input, &mut space[..length]),
         length,
-    })
+    }
 }
 
 // The next frame, to the front of `space`.
-pub fn read<R: Read>(input: &mut R, space: &mut [u8]) -> io::Result<Frame>
-    ensures { IfOk result (λ frame. IsPrefixLen frame.length space.new) }
+pub fn read<R: Read>(input: &mut R, space: &mut [u8]) -> Frame
+    ensures { IsPrefixLen result.length space.new }
 {
     let mut header = [0u8; 4];
-    if input::read_full(input, &mut header)? < 4 {
-        return Ok(missing());
+    if !fill(input, &mut header) {
+        return missing();
     }
     read_bytes(input, space, file::bytes::number(&header, 0, 4))
 }

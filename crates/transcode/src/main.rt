@@ -77,7 +77,7 @@ fn answer(frame: &[u8], out: &mut [u8]) -> usize
 // One frame; false where there is none.
 fn next_frame<R: Read, W: Write>(input: &mut R, output: &mut W) -> io::Result<bool> {
     let mut space = [0u8; LONGEST_FRAME];
-    let frame = frames::read(input, &mut space)?;
+    let frame = frames::read(input, &mut space);
     if !frame.whole {
         return Ok(false);
     }

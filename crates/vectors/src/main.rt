@@ -33,7 +33,7 @@ fn answer(script: &[u8], out: &mut [u8]) -> usize
 // One frame; false where there is none.
 fn next_frame<R: Read, W: Write>(input: &mut R, output: &mut W) -> io::Result<bool> {
     let mut script = [0u8; LONGEST_FRAME];
-    let frame = frames::read(input, &mut script)?;
+    let frame = frames::read(input, &mut script);
     if !frame.whole {
         return Ok(false);
     }
