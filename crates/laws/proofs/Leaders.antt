@@ -1,6 +1,6 @@
 -- Leaders: what pruning takes from a programme and leaves in it, and that leaders stay respected where something is given to a segment that may
 -- have it.
-use Prim.Native.Nat.{ℕ, zero, suc, ◌-◌, ◌≤◌, ◌<◌}
+use Prim.Native.Nat.{ℕ, zero, suc, ◌-◌, ◌≤◌}
 use mathlib.Core.Path.{◌≡◌, refl, ap, sym, ◌∙◌}
 use mathlib.Core.Bool.{Bool, true, false, ◌||◌}
 use mathlib.Core.List.{List, [], ◌∷◌}
@@ -8,9 +8,9 @@ use mathlib.Core.Logic.{◌⊎◌, inl, inr, ⊎_elim}
 use native.Mathlib.Omega.{arith}
 use borrow.Author.Tests.{ltb-true, lt-ltb, eqb-true, eqb-false, eq-eqb}
 use lib.Dec.{ltb, eqb}
-use lib.ListN.{get_or, set, length, length-set}
+use lib.ListN.{get_or, set, length}
 use Rattle.base.specs.Choice.{pick}
-use Rattle.base.proofs.Choice.{pick_all, or_either, or_yes}
+use Rattle.base.proofs.Choice.{pick_all, or_either}
 use Rattle.base.proofs.All.{all_at, all_true}
 use Rattle.rules.specs.Table.{Table}
 use Rattle.rules.specs.Phases.{strategy_at, give, led, heeds, respects, pruned}

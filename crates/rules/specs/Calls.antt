@@ -1,6 +1,6 @@
 -- Document 01, "The calls" and "Where a call is refused", with the page and the reasons of document 02: what each call answers, and what unit and
 -- buffer then hold.
-use Rattle.std.specs.Prelude.{ℕ, zero, suc, ◌+◌, ◌-◌, List, [], ◌++◌, leb, ltb, length, drop}
+use Rattle.std.specs.Prelude.{ℕ, zero, suc, List, [], ◌++◌, leb, ltb, length, drop}
 use Rattle.rules.specs.District.{District, segments_of, strategies_of, distresses_of, resources_of, with_limit, with_bar, without_bar, with_rating, with_leader, fresh_district}
 use Rattle.rules.specs.Format.{inside, limit_range, rating_range}
 use Rattle.rules.specs.File.{Read, refused, found, decode, encode}

@@ -1,6 +1,6 @@
 -- Document 02, request 12: four consoles before one planner, together a desk. Each console has a queue of edits; a step carries out one of them, and
 -- the consoles have their turns in circular order. What both offices hold is changed by steps, and by the calls of a station as ever.
-use Rattle.std.specs.Prelude.{ℕ, zero, suc, Bool, ◌&&◌, List, [], ◌∷◌, ◌++◌, ltb, eqb, length}
+use Rattle.std.specs.Prelude.{ℕ, suc, ◌&&◌, List, [], ◌∷◌, ◌++◌, ltb, eqb, length}
 use Rattle.std.proofs.Math.Option.{Option, none, some}
 use Rattle.base.specs.Choice.{pick}
 use Rattle.base.specs.Search.{or_else}

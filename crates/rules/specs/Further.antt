@@ -4,7 +4,7 @@
 -- misses, no second distress type and no second limit that does not hold. These districts have them. Four tell apart readings that
 -- come to the same everywhere else: how a ratio is rounded, what a surplus is taken from, how single changes are ordered, when a price stays.
 -- Those of gains that are cut at 0 were worked by hand.
-use Rattle.std.specs.Prelude.{ℕ, refl, List, [], ◌∷◌, pos}
+use Rattle.std.specs.Prelude.{refl, List, [], ◌∷◌, pos}
 use Rattle.rules.specs.District.{District, with_rating}
 use Rattle.rules.specs.Calls.{district_in}
 use Rattle.rules.specs.Writer.{Roads, minus, strategy, nothing_demanded, segment, barring, district_of}

@@ -1,6 +1,6 @@
 -- Records of the meter, computed from these rules. Bits and points are worked out elsewhere, by a program without floats (reference/).
 use Rattle.std.specs.Prelude.{ℕ, ◌≡◌, refl, List, [], ◌∷◌, ◌++◌, map, replicate}
-use Rattle.rules.specs.Meter.{size_of, is_reading, reading_of, Heard, silence, sent_refusal, heard_with, hearing, heard_from, heard_after, sum_of, mean_reaches, mays_points, roughness_refusal, points_unless, roughness_of}
+use Rattle.rules.specs.Meter.{size_of, is_reading, reading_of, silence, sent_refusal, heard_with, hearing, heard_from, heard_after, sum_of, mean_reaches, mays_points, roughness_refusal, points_unless, roughness_of}
 use Rattle.rules.specs.Answers.{accepting}
 use Rattle.rules.specs.declared.Sent.{Sent}
 use Rattle.rules.specs.declared.Sent.TheVariants.{Index, Marker, Lost}

@@ -1,8 +1,8 @@
 -- Document 02, request 2: pages worked out by an independent program (reference/), computed from these rules.
-use Rattle.std.specs.Prelude.{ℕ, ◌≡◌, refl, List, [], ◌∷◌, ◌++◌, replicate, pos}
+use Rattle.std.specs.Prelude.{◌≡◌, refl, List, [], ◌∷◌, ◌++◌, replicate, pos}
 use Prim.Native.String.{String}
 use Rattle.base.specs.Text.{text}
-use Rattle.rules.specs.Calls.{fresh_unit, Export, page_of}
+use Rattle.rules.specs.Calls.{fresh_unit, page_of}
 use Rattle.rules.specs.Writer.{Roads, strategy, nothing_demanded, segment, barring, district_of}
 use Rattle.rules.specs.Results.{Paged, given, printed, result_of, WorkedCase, ◌⇒◌, Agree}
 use Rattle.rules.specs.declared.Answer.TheVariants.{Accepted, Refused}

@@ -1,5 +1,5 @@
 -- A district that is written by names is the one that its file loads as: what is computed of such districts holds of files.
-use Rattle.std.specs.Prelude.{ℕ, ◌≡◌, refl, List, [], ◌∷◌, pos}
+use Rattle.std.specs.Prelude.{◌≡◌, refl, [], ◌∷◌, pos}
 use Rattle.rules.specs.Calls.{district_in}
 use Rattle.rules.specs.Writer.{Roads, minus, segment, file_with_leaders, district_with_leaders}
 use Rattle.rules.specs.Results.{result_of}

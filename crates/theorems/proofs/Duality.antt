@@ -1,6 +1,6 @@
 -- At any prices the ceiling is at least the total of every programme within the limits: what a strategy's benefit is beyond its cost is in its
 -- segment's margin, and the costs of what fits the limits are at most those of the whole limits.
-use Prim.Native.Nat.{ℕ, zero, suc, ◌+◌, ◌*◌, ◌-◌, ◌/◌, ◌≤◌}
+use Prim.Native.Nat.{ℕ, zero, suc, ◌+◌, ◌*◌, ◌/◌, ◌≤◌}
 use mathlib.Core.Path.{ap, ◌∙◌}
 use mathlib.Core.List.{List}
 use mathlib.Core.Logic.{⊎_elim}

@@ -16,7 +16,7 @@ use Rattle.base.proofs.All.{all_at, all_true}
 use Rattle.rules.specs.District.{District, segments_of, strategies_of, resources_of, leader_of}
 use Rattle.rules.specs.Rating.{benefit, usage, scaled_limit, permitted, fits_limit, fits_alone, candidate, usage_by, within_limit, within_limits, benefit_by, total_of}
 use Rattle.rules.specs.Table.{candidate_benefit, table_of}
-use Rattle.rules.specs.Phases.{within, heeds}
+use Rattle.rules.specs.Phases.{heeds}
 use Rattle.rules.specs.Demands.{permitted_at, all_permitted, Feasible, leaders_respected, leader_worth, leaders_worth, Rival as DistrictRival}
 use Rattle.laws.specs.Tables.{LowerLeaders, Allowed}
 use Rattle.theorems.specs.Rivals.{total_by, Rival, Heeding}

@@ -1,6 +1,6 @@
 -- The three phases together, of a table whose candidates fit alone: each ends because there is no next, and keeps what the one before left. What
 -- phases 2 and 3 need of phase 1 is what its programme is like, however it came about.
-use Prim.Native.Nat.{ℕ, ◌+◌, ◌-◌, ◌*◌, ◌≤◌, ◌<◌}
+use Prim.Native.Nat.{ℕ, ◌+◌, ◌*◌, ◌≤◌, ◌<◌}
 use mathlib.Core.Path.{◌≡◌}
 use mathlib.Core.Bool.{true}
 use native.Mathlib.Omega.{arith}

@@ -1,6 +1,6 @@
 -- What demand 3 and "The calls" promise of the programme of every district, however phase 1 went. Of the file's ranges it takes the most segments and, where leaders
 -- matter, that a leader has a lower number.
-use Prim.Native.Nat.{ℕ, ◌-◌, ◌*◌, ◌≤◌}
+use Prim.Native.Nat.{ℕ, ◌*◌, ◌≤◌}
 use mathlib.Core.Path.{◌≡◌, ◌∙◌}
 use mathlib.Core.Bool.{true}
 use mathlib.Core.List.{List}
@@ -12,7 +12,7 @@ use Rattle.base.specs.Search.{Run}
 use Rattle.rules.specs.District.{District, most_segments, most_strategies, segments_of, strategies_of, leader_of}
 use Rattle.rules.specs.Rating.{total_of}
 use Rattle.rules.specs.Table.{table_of}
-use Rattle.rules.specs.Phases.{strategy_at, chosen_benefit, total, within, respects}
+use Rattle.rules.specs.Phases.{strategy_at, chosen_benefit, total, respects}
 use Rattle.rules.specs.Ceiling.{ceiling}
 use Rattle.rules.specs.Plan.{reduced, improved, programme_from, programme_of}
 use Rattle.rules.specs.Demands.{Finished, Feasible, leaders_respected, leaders_worth, Rival, Apart, strategy_in, Sound, Shown}

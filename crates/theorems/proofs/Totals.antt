@@ -14,7 +14,7 @@ use Rattle.base.specs.Over.{sum}
 use Rattle.base.proofs.Sums.{sum_cong}
 use Rattle.base.proofs.All.{all_cong, all_true}
 use Rattle.rules.specs.District.{District, segments_of, strategies_of, resources_of, leader_of}
-use Rattle.rules.specs.Rating.{benefit, usage, permitted, usage_by, within_limit, within_limits, benefit_by, total_of}
+use Rattle.rules.specs.Rating.{benefit, permitted, usage_by, within_limit, within_limits, benefit_by, total_of}
 use Rattle.rules.specs.Table.{candidate_benefit, table_of}
 use Rattle.rules.specs.Phases.{strategy_at, chosen_usage, used, holds, within}
 use Rattle.rules.specs.Demands.{permitted_at, all_permitted, leader_worth, leaders_worth}

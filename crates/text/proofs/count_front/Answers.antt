@@ -1,5 +1,4 @@
 -- `text::count_front` meets its contract.
-use Prim.Native.Nat.{◌-◌}
 use mathlib.Core.Path.{refl, sym, ◌∙◌}
 use native.Mathlib.Omega.{arith}
 use Rattle.base.proofs.Parts.{skip_next, skip_stop, skip_end}

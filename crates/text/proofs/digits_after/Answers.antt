@@ -1,5 +1,4 @@
 -- `text::digits_after` meets its contract: what is still to be read gives the same number.
-use Prim.Native.Nat.{◌-◌}
 use mathlib.Core.Path.{refl, sym, ap, ◌∙◌}
 use native.Mathlib.Omega.{arith}
 use Rattle.base.specs.Text.{held}
