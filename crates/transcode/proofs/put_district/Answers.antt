@@ -9,6 +9,7 @@ use Rattle.transcode.proofs.Framed.{file_put}
 use Rattle.transcode.proofs.put_district.Goals as goal
 use Rattle.transcode.proofs.put_district.Goals.{After-length_in-n}
 
+-- the export has room, and puts the file
 filed : (c : After-length_in-n) → Put (encode c.args.d) (replicate longest_file 0) c.export.new.buffer c.length_in-n.result
 filed c =
     let e = c.export in
