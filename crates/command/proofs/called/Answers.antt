@@ -17,6 +17,7 @@ step :
     → t ≡ same (word_of line) (word_of r.0)
     → called rows line ≡ pick t (meant r.1 (taken r.2 line)) (called (drop (i + 1) rows) line)
 unfolding called
+-- by this row, or by those behind it
 step line i r t h e s = h ∙ ap (λ (rs : List Row). called rs line) e ∙ rw s
 
 pub loop-i-init : goal.loop-i-init

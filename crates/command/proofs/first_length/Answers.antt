@@ -7,6 +7,7 @@ use Rattle.command.specs.Reading.{word_of}
 use Rattle.command.proofs.Reading.{after_none, after_some}
 use Rattle.command.proofs.first_length.Goals as goal
 
+-- the word after the first byte
 size : (bs : List ℕ) (n : ℕ) → n ≡ length (word_of (take (length bs - 1) (drop 1 bs))) → n ≡ length (word_of (drop 1 bs))
 size bs n e = e ∙ ap (λ (l : List ℕ). length (word_of l)) (whole_tail bs 1)
 

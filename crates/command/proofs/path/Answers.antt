@@ -9,6 +9,7 @@ use Rattle.command.proofs.Reading.{path_drop}
 use Rattle.command.proofs.path.Goals as goal
 use Rattle.command.proofs.path.Goals.{Then-line-end}
 
+-- the word ends within the line
 within : (c : Then-line-end) → c.find-end.result ≤ length c.args.line.now
 within c = omega (arith, c.find-end.ensures, up_fits 32 c.args.line.now)
 

@@ -13,6 +13,7 @@ use Rattle.rules.specs.declared.Field.{Field}
 use Rattle.rules.specs.declared.Slot.{Slot}
 use Rattle.grammar.proofs.segment_field.Goals as goal
 
+-- the numbers from the bars on
 from-bars : (d : List ℕ) (s : Slot) (n : ℕ) {f : Field} → bars_at ≤ n
     → f ≡ pick (eqb n bars_at) (number 2 0 (2 ^ min (strategies_of d) 16 - 1)) (pick (ltb n leader_at) (rating_field d (n - ratings_at)) (leader_field s))
     → f ≡ segment_field d s n

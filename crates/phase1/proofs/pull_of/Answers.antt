@@ -12,6 +12,7 @@ use Rattle.phase1.specs.Reduce.{Measured}
 use Rattle.phase1.proofs.Pulls.{row_at, row_pull_lem}
 use Rattle.phase1.proofs.pull_of.Goals as goal
 
+-- the strategy's number
 number : {z : Size} {s c : List ℕ} → Measured z s c → (i : ℕ) → strategy_at c i ≤ most_strategies
 number measured i = omega (arith, measured.chosen.numbers i, measured.bounded.strategies)
 

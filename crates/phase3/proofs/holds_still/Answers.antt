@@ -12,6 +12,7 @@ use Rattle.phase3.specs.Memory.{below}
 use borrow.Author.Rules.{rules}
 use Rattle.phase3.proofs.holds_still.Goals as goal
 
+-- one slack, and one number of the row
 is_below : (slacks row : List ℕ) (r : ℕ) → get_or slacks r 0 < get_or row (r + 1) 0 → below slacks row (r + 1) ≡ true
 unfolding below
 is_below slacks row r h = let here : r + 1 - 1 ≡ r = omega arith in rw here (lt-ltb _ _ h)

@@ -6,6 +6,7 @@ use Rattle.tables.proofs.Arrays.{usage_lt}
 use Rattle.phase3.proofs.note.Goals as goal
 use Rattle.phase3.proofs.note.Goals.{Start}
 
+-- no use reaches 2 ^ 41
 small : (c : Start) (i j : ℕ) → usage_at c.args.uses.now i j c.args.r < 2 ^ 41
 small c i j = usage_lt c.requires.uses.0 i j c.args.r
 

@@ -7,6 +7,7 @@ use Rattle.tables.proofs.Arrays.{usage_lt}
 use Rattle.tables.proofs.room_in.Goals as goal
 use Rattle.tables.proofs.room_in.Goals.{Start}
 
+-- no use reaches 2 ^ 41
 small : (c : Start) (i j : ℕ) → usage_at c.args.uses.now i j c.args.r < 2 ^ 41
 small c i j = usage_lt c.requires.testable.uses i j c.args.r
 

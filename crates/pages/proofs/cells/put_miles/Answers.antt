@@ -8,6 +8,7 @@ use Rattle.rules.specs.Page.{miles}
 use Rattle.pages.specs.Cells.{longest_text}
 use Rattle.pages.proofs.cells.put_miles.Goals as goal
 
+-- the point and two digits
 abbrev after_point : ℕ → List ℕ
 after_point n = 46 ∷ (48 + n / 10 % 10) ∷ (48 + n % 10) ∷ []
 

@@ -12,6 +12,7 @@ use Rattle.pages.specs.declared.cells.Cell.TheVariants.{Blank}
 use Rattle.pages.proofs.Texts.{column_length, line_next, put_whole}
 use Rattle.pages.proofs.cells.put_row.Goals as goal
 
+-- the line fills the buffer
 fits : (row : List Cell) (n : ℕ) → n ≡ line_bytes → length (line widths (texts row)) ≡ n
 fits row n h = omega (arith, line_length (texts row))
 
@@ -22,6 +23,7 @@ cell_at row k = right_aligned (get_or widths k 0) (text_of (get_or row k Blank))
 abbrev behind : List Cell → ℕ → List ℕ
 behind row k = line (drop (k + 1) widths) (texts (drop (k + 1) row))
 
+-- a cell is to come
 next :
     (row : List Cell) (k : ℕ) {old whole out : List ℕ} {at : ℕ} → k < 9 → length row ≡ 9
     → Written old whole (line (drop k widths) (texts (drop k row))) at out → Written old whole (cell_at row k ++ behind row k) at out
