@@ -1,5 +1,5 @@
 -- What is printed for the bytes that were read is printed for the first bytes of the input.
-use Rattle.std.proofs.Common.{◌≡◌, ℕ, List, IfSome, length, take, subst}
+use Rattle.std.proofs.Common.{◌≡◌, ℕ, List, IfSome, take, subst}
 use Rattle.base.proofs.Text.{put_taken}
 use Rattle.input.proofs.Prints.{prints}
 use Rattle.rules.specs.Deck.{longest_deck}
