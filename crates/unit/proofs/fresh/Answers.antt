@@ -1,5 +1,4 @@
 -- `unit::fresh` meets its contract.
-use borrow.Author.Rules.{rules}
 use Rattle.rules.specs.Calls.{fresh_unit}
 use Rattle.demands.proofs.EveryAnswer.{every_answer, every_points}
 use Rattle.demands.proofs.EveryFile.{every_file}
@@ -11,13 +10,8 @@ use Rattle.demands.proofs.OneClaim.{one_claim}
 use Rattle.demands.proofs.OneHolds.{one_holds}
 use Rattle.demands.proofs.RatingsOnScale.{ratings_on_scale}
 use Rattle.demands.proofs.TheRules.{the_rules}
-use Rattle.unit.proofs.fresh.Statement.{statement}
-use Rattle.unit.proofs.fresh.Tie as tie
+use Rattle.unit.proofs.fresh.Goals as goal
 
-returns : tie.Need-returns
+pub returns : goal.returns
 unfolding fresh_unit
-returns c =
-    (cc, (every_answer, (every_points, (the_rules, (every_file, (one_claim, (ratings_on_scale, (every_page, (every_reason, (one_holds, (good_budget, none_greater)))))))))))
-
-pub fresh-spec : {M : Type 1} → statement M
-fresh-spec = tie.close (tie.spec (λ c κs. search rules) (λ c κs. search rules) returns)
+returns c = record { start = cc; settled = every_answer; points = every_points; exact = the_rules; files = every_file; claim = one_claim; scale = ratings_on_scale; readable = every_page; reasons = every_reason; explained = one_holds; equal = good_budget; optimal = none_greater }
