@@ -1,10 +1,10 @@
 -- Which office a number names.
 use Prim.Native.Nat.{ℕ}
 use mathlib.Core.Path.{◌≡◌, refl, sym, ap, ◌∙◌}
-use mathlib.Core.Bool.{Bool, true, false, not, true≢false}
+use mathlib.Core.Bool.{Bool, true, false, true≢false}
 use mathlib.Core.Option.{Option, none, some}
 use native.Mathlib.Omega.{arith}
-use borrow.Author.Tests.{eqb-true, not-true, not-false}
+use borrow.Author.Tests.{eqb-true}
 use lib.Dec.{eqb}
 use Rattle.base.specs.Choice.{pick}
 use Rattle.rules.specs.Offices.{Held}
@@ -31,11 +31,11 @@ office_named n e = go (eqb n 1) refl (eqb n 2) refl e
     go false p false q e = absurd (true≢false (sym e))
 
 -- by the code's test, whether no office has it
-pub named_by : (n : ℕ) {r : Bool} → r ≡ is_office n → not r ≡ false → Named n
-named_by n {r} e f = office_named n (sym e ∙ not-false r f)
+pub named_by : (n : ℕ) {r : Bool} → r ≡ is_office n → r ≡ true → Named n
+named_by n {r} e f = office_named n (sym e ∙ f)
 
-pub nobody_by : (n : ℕ) {r : Bool} → r ≡ is_office n → not r ≡ true → is_office n ≡ false
-nobody_by n {r} e f = sym e ∙ not-true r f
+pub nobody_by : (n : ℕ) {r : Bool} → r ≡ is_office n → r ≡ false → is_office n ≡ false
+nobody_by n {r} e f = sym e ∙ f
 
 pub nobody_named : (n : ℕ) → is_office n ≡ false → office_of n ≡ none
 unfolding is_office

@@ -7,20 +7,16 @@ use lib.Dec.{eqb}
 use Rattle.base.specs.Choice.{pick}
 use Rattle.rules.specs.Stations.{Second}
 use Rattle.station.specs.Kept.{is_some, is_office}
-use Rattle.station.proofs.is_office.Statement.{statement}
-use Rattle.station.proofs.is_office.Tie as tie
-
-returns : tie.Need-returns
-unfolding is_office
-returns c = rw (eq-eqb c.before.args.n 1 c.if1.true)
+use Rattle.station.proofs.is_office.Goals as goal
 
 second : (t : Bool) → t ≡ is_some (pick t (some Second) none)
 second true = refl
 second false = refl
 
-returns-2 : tie.Need-returns-2
+pub returns-then-n-eq-FIRST : goal.returns-then-n-eq-FIRST
 unfolding is_office
-returns-2 c = let n = c.before.args.n in rw (ne_eqb n 1 c.if1.false) (second (eqb n 2))
+returns-then-n-eq-FIRST c = rw (eq-eqb c.args.n 1 c.if-n-eq-FIRST.true)
 
-pub is-office-spec : {M : Type 1} → statement M
-is-office-spec = tie.close (tie.spec returns returns-2)
+pub returns : goal.returns
+unfolding is_office
+returns c = let n = c.args.n in rw (ne_eqb n 1 c.if-n-eq-FIRST.false) (second (eqb n 2))

@@ -1,5 +1,4 @@
 -- `station::fresh` meets its contract.
-use borrow.Author.Rules.{rules}
 use Rattle.rules.specs.Stations.{First, own, fresh_both}
 use Rattle.office.specs.Kept.{Keeps}
 use Rattle.stations.proofs.EachOffice.{each_office}
@@ -10,17 +9,10 @@ use Rattle.stations.proofs.LeavingOut.{leaving_out}
 use Rattle.stations.proofs.Lists.{each}
 use Rattle.stations.proofs.TablesAgree.{tables_agree}
 use Rattle.station.specs.Kept.{office_in}
-use Rattle.station.proofs.fresh.Statement.{statement}
-use Rattle.station.proofs.fresh.Tie as tie
+use Rattle.station.proofs.fresh.Goals as goal
 
-returns : tie.Need-returns
+pub returns : goal.returns
 unfolding fresh_both
 returns c =
-    let k = c.fresh.ensures.0 in
-    let o = c.fresh.result in (
-      each (λ w. Keeps (office_in w (record { first = o; second = o })) (own w fresh_both)) First k k,
-      (every_station_answer, (every_station_file, (every_station, (tables_agree, (leaving_out, each_office))))),
-    )
-
-pub fresh-spec : {M : Type 1} → statement M
-fresh-spec = tie.close (tie.spec (λ c κs. search rules) returns)
+    let k = c.fresh-office.ensures.start in
+    let o = c.fresh-office.result in record { start = each (λ w. Keeps (office_in w (record { first = o; second = o })) (own w fresh_both)) First k k; settled = every_station_answer; files = every_station_file; claim = every_station; tables = tables_agree; alone = leaving_out; each = each_office }
