@@ -9,7 +9,7 @@ use Rattle.rules.specs.Stations.{Which, First, Second, number_of}
 use Rattle.rules.specs.declared.Answer.TheVariants.{Refused}
 use Rattle.rules.specs.declared.Waiting.{Waiting}
 use Rattle.desks.proofs.EveryArrival.{every_arrival}
-use Rattle.queues.specs.Waits.{queues_in, arrival_in, Admits}
+use Rattle.queues.specs.Waits.{queues_in, Admits}
 use Rattle.queues.specs.declared.Arrival.{Arrival}
 use Rattle.queues.specs.declared.Queues.{Queues}
 use Rattle.station.specs.Kept.{is_office}

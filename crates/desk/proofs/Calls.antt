@@ -1,6 +1,5 @@
 -- Calls of the station: what they leave.
 use Prim.Native.Nat.{ℕ}
-use mathlib.Core.Path.{◌∙◌}
 use Rattle.rules.specs.Desks.{Ask, desk_by, answer_to}
 use Rattle.rules.specs.Lists.{Call}
 use Rattle.rules.specs.Offices.{Plan, Send}

@@ -6,7 +6,6 @@ use native.Mathlib.Omega.{arith}
 use Rattle.rules.specs.Desks as Desks
 use Rattle.rules.specs.Desks.{console_number, Taken, taken, step_with, step_of, Step, desk_by, answer_to}
 use Rattle.rules.specs.Lists.{Alter}
-use Rattle.rules.specs.Stations.{Which}
 use Rattle.rules.specs.declared.Answer.TheVariants.{Accepted}
 use Rattle.queues.specs.Waits.{queues_in}
 use Rattle.queues.specs.declared.Queues.{Queues}

@@ -1,5 +1,4 @@
 -- `desk::fresh` meets its contract.
-use borrow.Author.Rules.{rules}
 use Rattle.rules.specs.Desks.{fresh_desk}
 use Rattle.desks.proofs.CarriedInTime.{carried_in_time}
 use Rattle.desks.proofs.EachOffice.{each_office_served}
@@ -10,15 +9,8 @@ use Rattle.desks.proofs.EveryRun.{every_run}
 use Rattle.desks.proofs.EveryStep.{every_step}
 use Rattle.desks.proofs.NobodyStarves.{nobody_starves}
 use Rattle.desks.proofs.OnceInOrder.{once_in_order}
-use Rattle.desk.proofs.fresh.Statement.{statement}
-use Rattle.desk.proofs.fresh.Tie as tie
+use Rattle.desk.proofs.fresh.Goals as goal
 
-returns : tie.Need-returns
+pub returns : goal.returns
 unfolding fresh_desk
-returns c = (
-  record { station = c.before.fresh.ensures.0; queues = c.fresh2.ensures },
-  (every_call, (every_arrival, (every_step, (once_in_order, (nobody_starves, (carried_in_time, (every_run, (every_desk, each_office_served)))))))),
-)
-
-pub fresh-spec : {M : Type 1} → statement M
-fresh-spec = tie.close (tie.spec (λ c κs. search rules) (λ c κs. search rules) returns)
+returns c = record { start = record { station = c.fresh-station.ensures.start; queues = c.fresh-queues.ensures }; calls = every_call; arrivals = every_arrival; steps = every_step; order = once_in_order; served = nobody_starves; time = carried_in_time; runs = every_run; claim = every_desk; each = each_office_served }
