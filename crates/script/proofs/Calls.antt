@@ -12,7 +12,6 @@ use Rattle.rules.specs.Stations.{StationCall, call_of}
 use Rattle.rules.specs.declared.Answer.{Answer}
 use Rattle.rules.specs.declared.Edit.{Edit}
 use Rattle.rules.specs.declared.Sent.{Sent}
-use Rattle.command.specs.declared.Command as Command
 use Rattle.command.specs.declared.Command.{Command}
 use Rattle.station.specs.Kept.{RepliesTo, Lends}
 use Rattle.station.proofs.Replies.{lent_replies}

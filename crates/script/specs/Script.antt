@@ -16,10 +16,8 @@ use Rattle.rules.specs.declared.Edit.{Edit}
 use Rattle.rules.specs.declared.Answer.{Answer}
 use Rattle.rules.specs.declared.Answer.TheVariants.{Accepted}
 use Rattle.command.specs.Reading.{at, row, rows, numbered, edit_in}
-use Rattle.command.specs.declared.Command as Command
 use Rattle.command.specs.declared.Command.{Command}
 use Rattle.command.specs.declared.Name.{Name}
-use Rattle.command.specs.declared.Name as Name
 use Rattle.command.specs.declared.Row.{Row}
 
 -- what stands at the front of the bytes
