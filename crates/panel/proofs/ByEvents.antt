@@ -65,7 +65,7 @@ reached_export : {s t : State} {path bs : List ℕ} → Exports s path t bs → 
 reached_export (written buffer e) r = r
 reached_export (unwritten buffer n e a) r = r
 
-reached_line : {s t : State} {line bs : List ℕ} → LineLeads s line t bs → Reached s → Reached t
+reached_line : {s : State} {line : List ℕ} {t : State} {bs : List ℕ} → LineLeads s line t bs → Reached s → Reached t
 reached_line (load e l) r = reached_load l r
 reached_line (export e x) r = reached_export x r
 reached_line {line = line} (other l x) r = reached_after (command_in line) r

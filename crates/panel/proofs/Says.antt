@@ -21,7 +21,6 @@ use Rattle.rules.specs.declared.Unit.{Unit}
 use Rattle.command.proofs.Reading.{path_fits}
 use Rattle.command.specs.Reading.{path_of, command_in}
 use Rattle.command.specs.declared.Command.{Command}
-use Rattle.command.specs.declared.Command.TheVariants as Command
 use Rattle.office.specs.declared.Office.{Office}
 use Rattle.station.proofs.Numbers.{office_named, nobody_named, of_unit}
 use Rattle.station.proofs.Questions.{told_nobody, told_named}

@@ -1,5 +1,5 @@
 // Reading a file and putting another in its place.
-ghost use Rattle.std.specs.Prelude.{◌≡◌, ◌+◌, ◌-◌, ◌≤◌, ◌++◌, All, IfOk, length, take};
+ghost use Rattle.std.specs.Prelude.{◌≡◌, ◌+◌, ◌-◌, ◌<◌, ◌≤◌, ◌++◌, All, IfOk, length, take};
 ghost use Rattle.std.specs.Io.{ReadsAtMost};
 ghost use Rattle.base.specs.Text.{text, Put};
 ghost use Rattle.input.specs.Reading.{IsPrefixLen};
@@ -85,13 +85,15 @@ fn random_letters(rt: &impl RandomSource) -> io::Result<[u8; LETTERS]>
     ])
 }
 
-// The letters go to the end of the name.
+// The letters go to the end of the name, where there is room for them.
 fn put_letters(name: &mut [u8], word: [u8; LETTERS])
-    requires { letters ≤ length name.old }
-    ensures { name.new ≡ take (length name.old - letters) name.old ++ word }
+    ensures room { letters ≤ length name.old → name.new ≡ take (length name.old - letters) name.old ++ word }
+    ensures short { length name.old < letters → name.new ≡ name.old }
 {
-    let at = name.len() - LETTERS;
-    name[at..].copy_from_slice(&word);
+    if name.len() >= LETTERS {
+        let at = name.len() - LETTERS;
+        name[at..].copy_from_slice(&word);
+    }
 }
 
 fn text_of(name: &[u8]) -> io::Result<&str>
@@ -112,9 +114,7 @@ fn create<R: Files>(rt: &R, name: &[u8]) -> io::Result<R::File> {
 }
 
 // Makes a file under a name that no other file has, with other letters at the name's end.
-fn make<R: Files + RandomSource>(rt: &R, name: &mut [u8]) -> io::Result<R::File>
-    requires { letters ≤ length name.old }
-{
+fn make<R: Files + RandomSource>(rt: &R, name: &mut [u8]) -> io::Result<R::File> {
     for _ in 0..MOST_NAMES {
         put_letters(name, random_letters(rt)?);
         match create(rt, name) {
@@ -148,9 +148,7 @@ fn replace<R: Files + RandomSource>(
     path: &[u8],
     name: &mut [u8],
     bytes: &[u8],
-) -> io::Result<()>
-    requires { letters ≤ length name.old }
-{
+) -> io::Result<()> {
     let path = text_of(path)?;
     let file = make(rt, name)?;
     let name = text_of(name)?;
