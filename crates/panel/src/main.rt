@@ -35,6 +35,9 @@ use std::rt::Files;
 // Of a line so many bytes are kept: enough to know that it is too long.
 const KEPT: usize = command::LONGEST_LINE + 1;
 
+// The byte that ends a line.
+const LINE_FEED: u8 = 10;
+
 // The desk, and the number of the office that calls name.
 #[derive(Clone, Copy)]
 pub struct Console {
@@ -277,7 +280,7 @@ fn feed<H: Files + RandomSource, W: Write>(
     let mut length = kept;
     let mut i = 0;
     while i < bytes.len() {
-        if bytes[i] == 10 {
+        if bytes[i] == LINE_FEED {
             let next = answer(rt, output, console, &line[..length]);
             console = next;
             length = 0;
