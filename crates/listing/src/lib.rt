@@ -181,6 +181,7 @@ pub fn put_stepped(out: &mut [u8], console: usize, answer: Answer) -> usize
 }
 
 // Of a load, with the programme.
+#[tactic(auto, unfolding(crate::specs::Listing::planned))]
 pub fn put_planned(out: &mut [u8], answer: Answer, u: Unit) -> usize
     requires { longest_listing ≤ length out.old }
     ensures { Put (planned answer u) out.old out.new result }

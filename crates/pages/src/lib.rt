@@ -89,6 +89,7 @@ pub fn put_page(out: &mut [u8], u: Unit) -> usize
 }
 
 // The answer to a load, with the page.
+#[tactic(auto, unfolding(crate::specs::Printed::paged))]
 pub fn put_paged(out: &mut [u8], answer: Answer, u: Unit) -> usize
     requires { longest_page ≤ length out.old }
     ensures { Put (paged answer u) out.old out.new result }

@@ -75,6 +75,7 @@ pub fn load(u: Unit, bytes: &[u8]) -> Reply
 }
 
 // What a fresh unit makes of a file. It is worked out only where the file is refused.
+#[tactic(auto, using(crate::proofs::Refused::answered_same), unfolding(rules::specs::Calls::load_of))]
 pub fn of_file(bytes: &[u8]) -> Reply
     ensures { result ≡ load_of fresh_unit bytes.now }
 {
