@@ -3,7 +3,7 @@ use Prim.Native.Nat.{ℕ, zero, suc, ◌+◌, ◌-◌, ◌*◌, ◌/◌, ◌%◌
 use mathlib.Core.Bool.{Bool, true, false}
 use mathlib.Core.Path.{◌≡◌, refl, ap}
 use mathlib.Core.List.{List, [], ◌∷◌, ◌++◌}
-use mathlib.Core.Option.{Option, none, some}
+use Rattle.std.specs.Prelude.{Option, None, Some}
 use native.Mathlib.Nat.{pow-succ'}
 use native.Mathlib.Omega.{arith}
 use lib.Dec.{ltb}
@@ -20,17 +20,17 @@ use Rattle.base.proofs.Text.{decimal_small}
 -- ---- reading
 
 -- a digit
-value_one : (v d : ℕ) {n : ℕ} → d < 10 → v * 10 + d ≡ n → value_from v ((48 + d) ∷ []) ≡ some n
+value_one : (v d : ℕ) {n : ℕ} → d < 10 → v * 10 + d ≡ n → value_from v ((48 + d) ∷ []) ≡ Some n
 unfolding value_from
-value_one v d {n} h e = rw (between_yes 48 57 (48 + d) (omega arith) (omega arith)) (ap (λ (x : ℕ). some x) (omega arith))
+value_one v d {n} h e = rw (between_yes 48 57 (48 + d) (omega arith) (omega arith)) (ap (λ (x : ℕ). Some x) (omega arith))
 
 -- what a byte that is read hands on
-handed : (t : Bool) (x y : Option ℕ) {w z : ℕ} → (x ≡ some w → y ≡ some z) → pick t x none ≡ some w → pick t y none ≡ some z
+handed : (t : Bool) (x y : Option ℕ) {w z : ℕ} → (x ≡ Some w → y ≡ Some z) → pick t x None ≡ Some w → pick t y None ≡ Some z
 handed true x y on e = on e
 handed false x y on e = cc
 
 -- digits and one more
-value_more : (bs : List ℕ) (v d : ℕ) {w n : ℕ} → d < 10 → w * 10 + d ≡ n → value_from v bs ≡ some w → value_from v (bs ++ ((48 + d) ∷ [])) ≡ some n
+value_more : (bs : List ℕ) (v d : ℕ) {w n : ℕ} → d < 10 → w * 10 + d ≡ n → value_from v bs ≡ Some w → value_from v (bs ++ ((48 + d) ∷ [])) ≡ Some n
 unfolding value_from
 value_more [] v d {w} h e f =
     let same : v ≡ w = cc in
@@ -70,13 +70,13 @@ decimal_within zero n one l = absurd (omega arith)
 decimal_within (suc k) n one l = digits_within 20 k n l
 
 -- what holds of each digit
-module _ (P : ℕ → Type 0) (z : ℕ) (none : P z) (digit : (x : ℕ) → x < 10 → P (48 + x)) where
+module _ (P : ℕ → Type 0) (z : ℕ) (None : P z) (digit : (x : ℕ) → x < 10 → P (48 + x)) where
   one_each : (x : ℕ) → x < 10 → Each P z ((48 + x) ∷ [])
-  one_each x h = each_cons P z (48 + x) [] (digit x h) (each_none P z none)
+  one_each x h = each_cons P z (48 + x) [] (digit x h) (each_none P z None)
 
   digits_each : (k n : ℕ) → Each P z (digits_of k n)
   unfolding digits_of
-  digits_each zero n = each_none P z none
+  digits_each zero n = each_none P z None
   digits_each (suc k) n =
       digits_by (λ (bs : List ℕ). Each P z bs) k n (one_each n)
       (λ h. each_append P z (digits_of k (n / 10)) ((48 + n % 10) ∷ []) (digits_each k (n / 10)) (one_each (n % 10) (omega arith)))
@@ -85,11 +85,11 @@ module _ (P : ℕ → Type 0) (z : ℕ) (none : P z) (digit : (x : ℕ) → x < 
   unfolding decimal
   decimal_each n = digits_each 20 n
 
-digits_value : (k n : ℕ) → n < 10 ^ k → value_from 0 (digits_of k n) ≡ some n
+digits_value : (k n : ℕ) → n < 10 ^ k → value_from 0 (digits_of k n) ≡ Some n
 unfolding digits_of value_from
-digits_value zero n l = ap (λ (x : ℕ). some x) (omega arith)
+digits_value zero n l = ap (λ (x : ℕ). Some x) (omega arith)
 digits_value (suc k) n l =
-    digits_by (λ (bs : List ℕ). value_from 0 bs ≡ some n) k n
+    digits_by (λ (bs : List ℕ). value_from 0 bs ≡ Some n) k n
     (λ h. value_one 0 n h (omega arith))
     (λ h. value_more (digits_of k (n / 10)) 0 (n % 10) (omega arith) (omega arith) (digits_value k (n / 10) (tenth k n l)))
 

@@ -2,7 +2,7 @@
 use Prim.Native.Nat.{ℕ, zero, suc, ◌+◌, ◌-◌, ◌*◌, ◌^◌, ◌≤◌, ◌<◌}
 use mathlib.Core.Bool.{Bool, true, false}
 use mathlib.Core.List.{List, [], ◌∷◌, ◌++◌}
-use mathlib.Core.Option.{Option, none, some}
+use Rattle.std.specs.Prelude.{Option, None, Some}
 use mathlib.Core.Path.{◌≡◌, refl, sym, ap, ◌∙◌}
 use native.Mathlib.Omega.{arith}
 use lib.Dec.{ltb, eqb}
@@ -73,12 +73,12 @@ module _ (b : ℕ) (bs : List ℕ) where
 -- ---- digits
 
 -- a value that 64 bits do not hold is held no more, whatever follows
-pub held_over : (v : ℕ) (bs : List ℕ) → 2 ^ 64 ≤ v → held (value_from v bs) ≡ none
+pub held_over : (v : ℕ) (bs : List ℕ) → 2 ^ 64 ≤ v → held (value_from v bs) ≡ None
 unfolding held value_from
 held_over v [] h = rw (le-ltb v (2 ^ 64) h)
 held_over v (b ∷ bs) h = go (between 48 57 b) (held_over (v * 10 + (b - 48)) bs (omega arith))
   where
-    go : (t : Bool) → held (value_from (v * 10 + (b - 48)) bs) ≡ none → held (pick t (value_from (v * 10 + (b - 48)) bs) none) ≡ none
+    go : (t : Bool) → held (value_from (v * 10 + (b - 48)) bs) ≡ None → held (pick t (value_from (v * 10 + (b - 48)) bs) None) ≡ None
     go true e = e
     go false e = refl
 
@@ -88,16 +88,16 @@ module _ (v : ℕ) (bs : List ℕ) (i : ℕ) (h : i < length bs) where
   unfolding value_from
   value_next l k = rw (drop_next bs i h, le-leb 48 (get_or bs i 0) l, le-leb (get_or bs i 0) 57 k)
 
-  pub value_low : get_or bs i 0 < 48 → value_from v (drop i bs) ≡ none
+  pub value_low : get_or bs i 0 < 48 → value_from v (drop i bs) ≡ None
   unfolding value_from
   value_low l = rw (drop_next bs i h, lt-leb 48 (get_or bs i 0) l)
 
-  pub value_high : 48 ≤ get_or bs i 0 → 57 < get_or bs i 0 → value_from v (drop i bs) ≡ none
+  pub value_high : 48 ≤ get_or bs i 0 → 57 < get_or bs i 0 → value_from v (drop i bs) ≡ None
   unfolding value_from
   value_high l k = rw (drop_next bs i h, le-leb 48 (get_or bs i 0) l, lt-leb (get_or bs i 0) 57 k)
 
 -- at the end it is the value, which 64 bits hold
-pub value_end : (v : ℕ) (bs : List ℕ) (i : ℕ) → v < 2 ^ 64 → length bs ≤ i → held (value_from v (drop i bs)) ≡ some v
+pub value_end : (v : ℕ) (bs : List ℕ) (i : ℕ) → v < 2 ^ 64 → length bs ≤ i → held (value_from v (drop i bs)) ≡ Some v
 unfolding value_from held
 value_end v bs i l h = rw (drop_of_length-le bs {i = i} h, lt-ltb v (2 ^ 64) l)
 
@@ -107,15 +107,15 @@ unfolding value_from going_on
 value_append [] bs v = refl
 value_append (x ∷ xs) bs v = go (between 48 57 x) (value_from (v * 10 + (x - 48)) (xs ++ bs)) (value_from (v * 10 + (x - 48)) xs) (value_append xs bs (v * 10 + (x - 48)))
   where
-    go : (t : Bool) (a b : Option ℕ) → a ≡ going_on b bs → pick t a none ≡ going_on (pick t b none) bs
+    go : (t : Bool) (a b : Option ℕ) → a ≡ going_on b bs → pick t a None ≡ going_on (pick t b None) bs
     go true a b e = e
     go false a b e = refl
 
 -- what 64 bits do not hold may be left out on the way
 pub held_way : (o : Option ℕ) (bs : List ℕ) → held (going_on (held o) bs) ≡ held (going_on o bs)
 unfolding going_on held
-held_way none bs = refl
-held_way (some v) bs = go (ltb v (2 ^ 64)) refl
+held_way None bs = refl
+held_way (Some v) bs = go (ltb v (2 ^ 64)) refl
   where
     go : (t : Bool) → ltb v (2 ^ 64) ≡ t → held (going_on (only t v) bs) ≡ held (value_from v bs)
     go true e = refl

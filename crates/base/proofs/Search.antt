@@ -3,32 +3,32 @@ use Prim.Native.Nat.{ℕ, zero, suc, ◌+◌, ◌≤◌, ◌<◌}
 use mathlib.Core.Path.{◌≡◌, refl, ap, subst, ◌∙◌}
 use mathlib.Core.Logic.{◌⊎◌, inl, inr, ⊎_elim}
 use mathlib.Core.Bool.{Bool, true, false}
-use mathlib.Core.Option.{Option, none, some}
+use Rattle.std.specs.Prelude.{Option, None, Some}
 use native.Mathlib.Numerals.{add-one}
 use native.Mathlib.Omega.{arith}
 use Rattle.base.specs.Choice.{only}
 use Rattle.base.specs.Search.{first, or_else}
 use Rattle.base.proofs.Sums.{up_to}
 
-or_else_left : {A : Type 0} (x y : Option A) → or_else x y ≡ none → x ≡ none
-or_else_left none y e = refl
-or_else_left (some a) y e = e
+or_else_left : {A : Type 0} (x y : Option A) → or_else x y ≡ None → x ≡ None
+or_else_left None y e = refl
+or_else_left (Some a) y e = e
 
-or_else_right : {A : Type 0} (x y : Option A) → or_else x y ≡ none → y ≡ none
-or_else_right none y e = e
-or_else_right (some a) y e = cc
+or_else_right : {A : Type 0} (x y : Option A) → or_else x y ≡ None → y ≡ None
+or_else_right None y e = e
+or_else_right (Some a) y e = cc
 
-pub or_else_none : {A : Type 0} (x y : Option A) → or_else x y ≡ none → (x ≡ none) × (y ≡ none)
+pub or_else_none : {A : Type 0} (x y : Option A) → or_else x y ≡ None → (x ≡ None) × (y ≡ None)
 or_else_none x y e = (or_else_left x y e, or_else_right x y e)
 
 -- what is found of two is the first, or the second where the first is nothing
-or_else_found : {A : Type 0} (x y : Option A) {a : A} → or_else x y ≡ some a → (x ≡ some a) ⊎ ((x ≡ none) × (y ≡ some a))
-or_else_found (some b) y e = inl e
-or_else_found none y e = inr (refl, e)
+or_else_found : {A : Type 0} (x y : Option A) {a : A} → or_else x y ≡ Some a → (x ≡ Some a) ⊎ ((x ≡ None) × (y ≡ Some a))
+or_else_found (Some b) y e = inl e
+or_else_found None y e = inr (refl, e)
 
 pub or_else_assoc : {A : Type 0} (x y z : Option A) → or_else (or_else x y) z ≡ or_else x (or_else y z)
-or_else_assoc (some a) y z = refl
-or_else_assoc none y z = refl
+or_else_assoc (Some a) y z = refl
+or_else_assoc None y z = refl
 
 -- of two searches that come to the same
 pub or_by : {A : Type 0} {x a b p q : Option A} → x ≡ or_else a b → a ≡ p → b ≡ q → x ≡ or_else p q
@@ -38,31 +38,31 @@ or_by e f g = rw (e, f, g)
 pub only_by : {A : Type 0} (a : A) {x : Option A} {s t : Bool} → x ≡ only s a → s ≡ t → x ≡ only t a
 only_by a e f = e ∙ ap (λ (b : Bool). only b a) f
 
-pub only_none : {A : Type 0} (t : Bool) (x : A) → only t x ≡ none → t ≡ false
+pub only_none : {A : Type 0} (t : Bool) (x : A) → only t x ≡ None → t ≡ false
 only_none true x e = cc
 only_none false x e = refl
 
-pub only_some : {A : Type 0} (t : Bool) {x y : A} → only t x ≡ some y → (t ≡ true) × (x ≡ y)
+pub only_some : {A : Type 0} (t : Bool) {x y : A} → only t x ≡ Some y → (t ≡ true) × (x ≡ y)
 only_some true e = (refl, cc)
 only_some false e = absurd (let z : ◌≡◌ {A = ℕ} 0 1 = cc in omega arith)
 
 -- none where each is none
-pub first_none : {A : Type 0} (n : ℕ) (f : ℕ → Option A) → ((k : ℕ) → 1 ≤ k → k ≤ n → f k ≡ none) → first n f ≡ none
+pub first_none : {A : Type 0} (n : ℕ) (f : ℕ → Option A) → ((k : ℕ) → 1 ≤ k → k ≤ n → f k ≡ None) → first n f ≡ None
 unfolding first
 first_none zero f h = refl
 first_none (suc n) f h = rw (first_none n f (λ k l u. h k l (omega arith))) (h (suc n) (omega arith) (omega arith))
 
 -- the one at k where those before it are none
-pub first_found : {A : Type 0} (n : ℕ) (f : ℕ → Option A) (k : ℕ) (x : A) → 1 ≤ k → k ≤ n → ((j : ℕ) → 1 ≤ j → j < k → f j ≡ none) → f k ≡ some x → first n f ≡ some x
+pub first_found : {A : Type 0} (n : ℕ) (f : ℕ → Option A) (k : ℕ) (x : A) → 1 ≤ k → k ≤ n → ((j : ℕ) → 1 ≤ j → j < k → f j ≡ None) → f k ≡ Some x → first n f ≡ Some x
 unfolding first
 first_found zero f k x l h before e = absurd (omega arith)
 first_found (suc n) f k x l h before e =
     up_to h
-    (λ q. rw (first_none n f (λ j lj u. before j lj (omega arith))) (subst (λ (m : ℕ). f m ≡ some x) q e))
+    (λ q. rw (first_none n f (λ j lj u. before j lj (omega arith))) (subst (λ (m : ℕ). f m ≡ Some x) q e))
     (λ u. rw (first_found n f k x l u before e))
 
 -- where the first is none, each is
-pub first_at : {A : Type 0} (n : ℕ) (f : ℕ → Option A) → first n f ≡ none → (k : ℕ) → 1 ≤ k → k ≤ n → f k ≡ none
+pub first_at : {A : Type 0} (n : ℕ) (f : ℕ → Option A) → first n f ≡ None → (k : ℕ) → 1 ≤ k → k ≤ n → f k ≡ None
 unfolding first
 first_at zero f e k l h = absurd (omega arith)
 first_at (suc n) f e k l h =
@@ -72,7 +72,7 @@ first_at (suc n) f e k l h =
 
 -- a search that goes on to the end: what is found up to a number, and with one number more
 module _ {A : Type 0} (f : ℕ → Option A) where
-  pub first_start : none ≡ first 0 f
+  pub first_start : None ≡ first 0 f
   unfolding first
   first_start = refl
 
@@ -88,10 +88,10 @@ pub record Ended {A : Type 0} (n : ℕ) (f : ℕ → Option A) (a : A) : Type 0 
   pub at : ℕ
   pub low : 1 ≤ at
   pub high : at ≤ n
-  pub found : f at ≡ some a
-  pub before : (k : ℕ) → 1 ≤ k → k < at → f k ≡ none
+  pub found : f at ≡ Some a
+  pub before : (k : ℕ) → 1 ≤ k → k < at → f k ≡ None
 
-pub first_ended : {A : Type 0} (n : ℕ) (f : ℕ → Option A) (a : A) → first n f ≡ some a → Ended n f a
+pub first_ended : {A : Type 0} (n : ℕ) (f : ℕ → Option A) (a : A) → first n f ≡ Some a → Ended n f a
 unfolding first
 first_ended zero f a e = absurd (let z : ◌≡◌ {A = ℕ} 0 1 = cc in omega arith)
 first_ended (suc n) f a e =
@@ -105,11 +105,11 @@ first_ended (suc n) f a e =
 
 -- what holds of each that is something holds of the first
 module _ {A : Type 0} (Q : A → Type 0) where
-  pub or_else_some : (x y : Option A) {a : A} → ((a : A) → x ≡ some a → Q a) → ((a : A) → y ≡ some a → Q a) → or_else x y ≡ some a → Q a
-  or_else_some (some b) y {a} qx qy e = qx a e
-  or_else_some none y {a} qx qy e = qy a e
+  pub or_else_some : (x y : Option A) {a : A} → ((a : A) → x ≡ Some a → Q a) → ((a : A) → y ≡ Some a → Q a) → or_else x y ≡ Some a → Q a
+  or_else_some (Some b) y {a} qx qy e = qx a e
+  or_else_some None y {a} qx qy e = qy a e
 
-  pub first_some : (n : ℕ) (f : ℕ → Option A) → ((k : ℕ) → 1 ≤ k → k ≤ n → (a : A) → f k ≡ some a → Q a) → (a : A) → first n f ≡ some a → Q a
+  pub first_some : (n : ℕ) (f : ℕ → Option A) → ((k : ℕ) → 1 ≤ k → k ≤ n → (a : A) → f k ≡ Some a → Q a) → (a : A) → first n f ≡ Some a → Q a
   unfolding first
   first_some zero f each a e = absurd (let z : ◌≡◌ {A = ℕ} 0 1 = cc in omega arith)
   first_some (suc n) f each a e =

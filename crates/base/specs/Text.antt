@@ -2,7 +2,7 @@
 use Rattle.std.specs.Prelude.{ℕ, zero, suc, ◌+◌, ◌-◌, ◌*◌, ◌/◌, ◌%◌, ◌^◌, ◌≤◌, List, [], ◌∷◌, ◌++◌, ◌≡◌, ltb, eqb, length, get_or, drop}
 use Prim.Native.Char.{code}
 use Prim.Native.String.{String, [] as []ˢ, ◌∷◌ as ◌∷ˢ◌}
-use Rattle.std.proofs.Math.Option.{Option, none, some}
+use Rattle.std.specs.Prelude.{Option, None, Some}
 use Rattle.base.specs.Choice.{pick, only}
 use Rattle.base.specs.Over.{between}
 
@@ -43,23 +43,23 @@ decimal n = digits_of most_digits n
 
 -- what digits stand for, read from the first to the last, after v; nothing for another byte
 unfoldable pub value_from : ℕ → List ℕ → Option ℕ
-value_from v [] = some v
-value_from v (b ∷ bs) = pick (between 48 57 b) (value_from (v * 10 + (b - 48)) bs) none
+value_from v [] = Some v
+value_from v (b ∷ bs) = pick (between 48 57 b) (value_from (v * 10 + (b - 48)) bs) None
 
 -- digits that follow a number
 unfoldable pub going_on : Option ℕ → List ℕ → Option ℕ
-going_on none bs = none
-going_on (some v) bs = value_from v bs
+going_on None bs = None
+going_on (Some v) bs = value_from v bs
 
 -- a number where 64 bits hold it
 unfoldable pub held : Option ℕ → Option ℕ
-held none = none
-held (some v) = only (ltb v (2 ^ 64)) v
+held None = None
+held (Some v) = only (ltb v (2 ^ 64)) v
 
 -- bs is the one way to write n in base ten: read back it is n; the first digit is no 0, but for the number 0, which is
 -- that digit alone
 pub record Writes (bs : List ℕ) (n : ℕ) : Type 0 where
-  pub value : value_from 0 bs ≡ some n
+  pub value : value_from 0 bs ≡ Some n
   pub first : 1 ≤ n → 49 ≤ get_or bs 0 0
   pub alone : n ≡ 0 → bs ≡ 48 ∷ []
 

@@ -2,15 +2,14 @@
 use Prim.Native.Nat.{ℕ, ◌+◌, ◌^◌, ◌<◌}
 use mathlib.Core.Bool.{Bool, true, false}
 use mathlib.Core.List.{List}
-use mathlib.Core.Option.{Option, none, some}
+use Rattle.std.specs.Prelude.{Option, None, Some}
 use mathlib.Core.Path.{◌≡◌, ap, ◌∙◌}
 use native.Mathlib.Omega.{arith}
 use Rattle.base.specs.Over.{all}
 use Rattle.base.specs.Text.{held}
 use Rattle.rules.specs.Answers.{wrong_field, wrong_line, unless}
-use Rattle.rules.specs.Deck.{per_card, row, cut, written, only_inside, range_of, field_on, is_number, or_zero, is_good, number_on, is_line, card_refusal}
+use Rattle.rules.specs.Deck.{per_card, row, cut, written, only_inside, range_of, field_on, is_number, or_zero, is_good, number_on, is_line, card_refusal, Columns}
 use Rattle.rules.specs.Format.{inside}
-use Rattle.rules.specs.declared.Columns.{Columns}
 use Rattle.rules.specs.declared.Field.{Field}
 use Rattle.cards.specs.Cards.{refused_card, card_from}
 use Rattle.cards.proofs.Ranges.{inside_held}
@@ -18,15 +17,15 @@ use Rattle.cards.specs.declared.Card.{Card}
 
 -- ---- a field
 
-pub in_range_lem : (f : Field) {o : Option ℕ} {v : ℕ} → o ≡ some v → inside f v ≡ true → some v ≡ only_inside f o
+pub in_range_lem : (f : Field) {o : Option ℕ} {v : ℕ} → o ≡ Some v → inside f v ≡ true → Some v ≡ only_inside f o
 unfolding only_inside
 in_range_lem f e h = rw (e, h)
 
-pub out_of_range : (f : Field) {o : Option ℕ} {v : ℕ} → o ≡ some v → inside f v ≡ false → none ≡ only_inside f o
+pub out_of_range : (f : Field) {o : Option ℕ} {v : ℕ} → o ≡ Some v → inside f v ≡ false → None ≡ only_inside f o
 unfolding only_inside
 out_of_range f e h = rw (e, h)
 
-pub no_number : (f : Field) {o : Option ℕ} → o ≡ none → none ≡ only_inside f o
+pub no_number : (f : Field) {o : Option ℕ} → o ≡ None → None ≡ only_inside f o
 unfolding only_inside
 no_number f e = rw e
 
@@ -45,15 +44,15 @@ module _ (counts card : List ℕ) (b k : ℕ) where
   behind : b + k + 1 ≡ b + (k + 1)
   behind = omega arith
 
-  pub good_next : {o : Option ℕ} {v : ℕ} → o ≡ field_on counts card (b + k + 1) → o ≡ some v → is_good counts card b (k + 1) ≡ true
+  pub good_next : {o : Option ℕ} {v : ℕ} → o ≡ field_on counts card (b + k + 1) → o ≡ Some v → is_good counts card b (k + 1) ≡ true
   unfolding is_good is_number
   good_next e f = rw (← behind, ← e, f)
 
-  pub number_next : {o : Option ℕ} {v : ℕ} → o ≡ field_on counts card (b + k + 1) → o ≡ some v → v ≡ number_on counts card b (1 + k)
+  pub number_next : {o : Option ℕ} {v : ℕ} → o ≡ field_on counts card (b + k + 1) → o ≡ Some v → v ≡ number_on counts card b (1 + k)
   unfolding number_on or_zero
   number_next e f = let q : b + (1 + k) ≡ b + k + 1 = omega arith in rw (q, ← e, f)
 
-  pub bad_next : {o : Option ℕ} → o ≡ field_on counts card (b + k + 1) → o ≡ none → is_good counts card b (k + 1) ≡ false
+  pub bad_next : {o : Option ℕ} → o ≡ field_on counts card (b + k + 1) → o ≡ None → is_good counts card b (k + 1) ≡ false
   unfolding is_good is_number
   bad_next e f = rw (← behind, ← e, f)
 

@@ -2,7 +2,7 @@
 use Prim.Native.Nat.{ℕ, ◌^◌, ◌≤◌, ◌<◌}
 use mathlib.Core.Bool.{Bool, true, false, ◌||◌}
 use mathlib.Core.List.{List}
-use mathlib.Core.Option.{Option, none, some}
+use Rattle.std.specs.Prelude.{Option, None, Some}
 use mathlib.Core.Path.{◌≡◌, refl}
 use native.Mathlib.Omega.{arith}
 use lib.Dec.{leb, ltb}
@@ -27,8 +27,8 @@ inside_over f v h k =
 -- what 64 bits do not hold is in no range of theirs
 pub inside_held : (f : Field) (o : Option ℕ) → f.hi < 2 ^ 64 → only_inside f (held o) ≡ only_inside f o
 unfolding only_inside held
-inside_held f none h = refl
-inside_held f (some v) h = go (ltb v (2 ^ 64)) refl
+inside_held f None h = refl
+inside_held f (Some v) h = go (ltb v (2 ^ 64)) refl
   where
     go : (t : Bool) → ltb v (2 ^ 64) ≡ t → only_inside f (only t v) ≡ only (inside f v) v
     go true e = refl
@@ -38,8 +38,8 @@ inside_held f (some v) h = go (ltb v (2 ^ 64)) refl
 
 range_most : (m : ℕ) (f : Field) (o : Option ℕ) → Between 0 m f → or_zero (only_inside f o) ≤ m
 unfolding or_zero only_inside
-range_most m f none b = omega arith
-range_most m f (some v) b = go (inside f v) refl
+range_most m f None b = omega arith
+range_most m f (Some v) b = go (inside f v) refl
   where
     go : (t : Bool) → inside f v ≡ t → or_zero (only t v) ≤ m
     go true e = (inside_between 0 m f v b e).1

@@ -2,7 +2,7 @@
 use Prim.Native.Nat.{ℕ, zero, suc, ◌≤◌, ◌<◌}
 use mathlib.Core.Bool.{Bool, true, false, ◌&&◌, and-false}
 use mathlib.Core.List.{List, [], ◌∷◌, ◌++◌}
-use mathlib.Core.Option.{Option, none, some}
+use Rattle.std.specs.Prelude.{Option, None, Some}
 use mathlib.Core.Path.{◌≡◌, refl, sym, ap, ◌∙◌}
 use native.Mathlib.Omega.{arith}
 use lib.Dec.{leb, ltb, eqb}
@@ -12,15 +12,14 @@ use Rattle.base.specs.Choice.{pick}
 use Rattle.base.specs.Text.{skipped, value_from, going_on, held}
 use Rattle.base.proofs.Choice.{and_both}
 use Rattle.base.proofs.Parts.{value_append, held_way}
-use Rattle.rules.specs.Deck.{blank, zero_digit, nothing_but, whole_in, before_point, from_point, after_point, after_digits, has_decimal_form, hundredths_digits, hundredths_in, units_in}
+use Rattle.rules.specs.Deck.{blank, zero_digit, nothing_but, whole_in, before_point, from_point, after_point, after_digits, has_decimal_form, hundredths_digits, hundredths_in, units_in, Columns}
 use Rattle.rules.specs.District.{bars_at}
 use Rattle.rules.specs.Format.{plain_form}
-use Rattle.rules.specs.declared.Columns.{Columns}
 use Rattle.cards.specs.Cards.{Placed}
 
 -- ---- a whole-number field
 
-pub whole_none : (field : List ℕ) → nothing_but blank field ≡ true → none ≡ held (whole_in field)
+pub whole_none : (field : List ℕ) → nothing_but blank field ≡ true → None ≡ held (whole_in field)
 unfolding whole_in held
 whole_none field e = rw e
 
@@ -55,15 +54,15 @@ long_part field {d} e h =
     let k : 2 < length (after_point field) = omega (arith, ap length e) in
     rw (lt-leb (length (after_point field)) 2 k, and-false (leb 1 (length (from_point field)))) (sym (and-false (leb 1 (length (before_point field)))))
 
-pub hundredths_none : (field : List ℕ) → has_decimal_form field ≡ false → none ≡ held (hundredths_in field)
+pub hundredths_none : (field : List ℕ) → has_decimal_form field ≡ false → None ≡ held (hundredths_in field)
 unfolding hundredths_in held
 hundredths_none field e = rw e
 
 -- digits that go on twice
 going_append : (o : Option ℕ) (xs bs : List ℕ) → going_on (going_on o xs) bs ≡ going_on o (xs ++ bs)
 unfolding going_on
-going_append none xs bs = refl
-going_append (some v) xs bs = sym (value_append xs bs v)
+going_append None xs bs = refl
+going_append (Some v) xs bs = sym (value_append xs bs v)
 
 -- read in three runs, before and behind the point and the zeros that lack, each where 64 bits hold what stands before it
 three_runs : (a p z : List ℕ) → held (going_on (held (going_on (held (value_from 0 a)) p)) z) ≡ held (value_from 0 (a ++ (p ++ z)))
@@ -81,11 +80,11 @@ hundredths_some field {a} {p} {z} {u} {v} t ea eu ep ev ez ew =
     let whole : held (value_from 0 (a ++ (p ++ z))) ≡ held (hundredths_in field) = rw (t, ez, ea, ep) in
     ew ∙ runs ∙ whole
 
-pub units_none : (field : List ℕ) → has_decimal_form field ≡ false → none ≡ held (units_in field)
+pub units_none : (field : List ℕ) → has_decimal_form field ≡ false → None ≡ held (units_in field)
 unfolding units_in held
 units_none field e = rw e
 
-pub units_part : (field : List ℕ) {p : List ℕ} → has_decimal_form field ≡ true → p ≡ after_point field → nothing_but zero_digit p ≡ false → none ≡ held (units_in field)
+pub units_part : (field : List ℕ) {p : List ℕ} → has_decimal_form field ≡ true → p ≡ after_point field → nothing_but zero_digit p ≡ false → None ≡ held (units_in field)
 unfolding units_in held
 units_part field t e f = rw (t, ← e, f)
 

@@ -1,10 +1,9 @@
 -- What the code's answers hold.
 use Rattle.std.specs.Prelude.{ℕ, zero, suc, ◌+◌, ◌≤◌, ◌<◌, List, ◌++◌, ◌≡◌, drop, replicate}
 use Rattle.base.specs.Over.{listed}
-use Rattle.rules.specs.Deck.{per_card, counts_in, segment_in}
+use Rattle.rules.specs.Deck.{per_card, counts_in, segment_in, Columns}
 use Rattle.rules.specs.District.{most_segments, bars_at, segments_of}
 use Rattle.rules.specs.Format.{plain_form}
-use Rattle.rules.specs.declared.Columns.{Columns}
 use Rattle.cards.specs.declared.Card.{Card}
 use Rattle.cards.specs.declared.Segment.{Segment}
 use Rattle.cards.specs.declared.Deck.{Deck}

@@ -2,7 +2,7 @@
 use Prim.Native.Nat.{ℕ, zero, suc, ◌+◌, ◌%◌, ◌^◌, ◌≤◌, ◌<◌}
 use mathlib.Core.Bool.{Bool, true, false, ◌&&◌}
 use mathlib.Core.List.{List, [], ◌∷◌, ◌++◌, append-nil, append_assoc}
-use mathlib.Core.Option.{Option, none, some}
+use Rattle.std.specs.Prelude.{Option, None, Some}
 use mathlib.Core.Path.{◌≡◌, refl, sym, ap, ◌∙◌, fun_ext}
 use native.Mathlib.Nat.{mod-eq_of_lt}
 use native.Mathlib.Omega.{arith}
@@ -31,12 +31,12 @@ every_next kind bs i h = rw (drop_next bs i h)
 -- ---- numbers
 
 -- the number after one blank, where there is something
-pub first_none : (bs : List ℕ) → length bs < 1 → first_number bs ≡ none
+pub first_none : (bs : List ℕ) → length bs < 1 → first_number bs ≡ None
 unfolding first_number
 first_none [] h = refl
 first_none (b ∷ bs) h = absurd (omega arith)
 
-pub first_other : (bs : List ℕ) → 1 ≤ length bs → (get_or bs 0 0 ≡ 32 → ⊥) → first_number bs ≡ none
+pub first_other : (bs : List ℕ) → 1 ≤ length bs → (get_or bs 0 0 ≡ 32 → ⊥) → first_number bs ≡ None
 unfolding first_number
 first_other [] h k = absurd (omega arith)
 first_other (b ∷ bs) h k = rw (ne_eqb b 32 k)
@@ -58,24 +58,24 @@ after_some (b ∷ bs) h = refl
 
 -- numbers that are read, and those that follow
 unfoldable pub prefixed : List ℕ → Option (List ℕ) → Option (List ℕ)
-prefixed vs none = none
-prefixed vs (some ws) = some (vs ++ ws)
+prefixed vs None = None
+prefixed vs (Some ws) = Some (vs ++ ws)
 
 pub prefixed_none : (o : Option (List ℕ)) → prefixed [] o ≡ o
 unfolding prefixed
-prefixed_none none = refl
-prefixed_none (some ws) = refl
+prefixed_none None = refl
+prefixed_none (Some ws) = refl
 
-prefixed_one : (vs : List ℕ) (v : ℕ) (o : Option (List ℕ)) → prefixed vs (with_number (some v) o) ≡ prefixed (vs ++ (v ∷ [])) o
+prefixed_one : (vs : List ℕ) (v : ℕ) (o : Option (List ℕ)) → prefixed vs (with_number (Some v) o) ≡ prefixed (vs ++ (v ∷ [])) o
 unfolding prefixed with_number
-prefixed_one vs v none = refl
-prefixed_one vs v (some ws) = ap some (sym (append_assoc vs (v ∷ []) ws))
+prefixed_one vs v None = refl
+prefixed_one vs v (Some ws) = ap Some (sym (append_assoc vs (v ∷ []) ws))
 
-pub arguments_more : (n : ℕ) (bs : List ℕ) (v : ℕ) (vs : List ℕ) → first_number bs ≡ some v → prefixed vs (arguments (suc n) bs) ≡ prefixed (vs ++ (v ∷ [])) (arguments n (after_number bs))
+pub arguments_more : (n : ℕ) (bs : List ℕ) (v : ℕ) (vs : List ℕ) → first_number bs ≡ Some v → prefixed vs (arguments (suc n) bs) ≡ prefixed (vs ++ (v ∷ [])) (arguments n (after_number bs))
 unfolding arguments
 arguments_more n bs v vs e = rw e (prefixed_one vs v (arguments n (after_number bs)))
 
-pub arguments_stop : (n : ℕ) (bs vs : List ℕ) → first_number bs ≡ none → prefixed vs (arguments (suc n) bs) ≡ none
+pub arguments_stop : (n : ℕ) (bs vs : List ℕ) → first_number bs ≡ None → prefixed vs (arguments (suc n) bs) ≡ None
 unfolding arguments prefixed with_number
 arguments_stop n bs vs e = rw e
 
@@ -83,10 +83,10 @@ pub arguments_end : (line : List ℕ) (at : ℕ) (vs : List ℕ) → prefixed vs
 unfolding arguments prefixed
 arguments_end line at vs = go (leb (length line) at) refl
   where
-    go : (t : Bool) → leb (length line) at ≡ t → prefixed vs (pick (eqb (length (drop at line)) 0) (some []) none) ≡ only t vs
+    go : (t : Bool) → leb (length line) at ≡ t → prefixed vs (pick (eqb (length (drop at line)) 0) (Some []) None) ≡ only t vs
     go true l =
         let h = leb-true (length line) at l in
-        rw (eq-eqb (length (drop at line)) 0 (simp length-drop (omega arith))) (ap some (append-nil vs))
+        rw (eq-eqb (length (drop at line)) 0 (simp length-drop (omega arith))) (ap Some (append-nil vs))
     go false l =
         let h = leb-false (length line) at l in
         rw (ne_eqb (length (drop at line)) 0 (λ e. omega (arith, length-drop at line)))
@@ -144,7 +144,7 @@ few_next {rest = rest} {r = r} e h =
     (leb-true _ _ p.0, p.1)
 
 -- a command that is no edit
-pub no_edit : (c : Command) → ((e : Edit) → ¬ (c ≡ Command.Alter e)) → edit_in c ≡ none
+pub no_edit : (c : Command) → ((e : Edit) → ¬ (c ≡ Command.Alter e)) → edit_in c ≡ None
 unfolding edit_in
 no_edit Command.Nothing unlike = refl
 no_edit Command.Unknown unlike = refl

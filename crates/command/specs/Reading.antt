@@ -1,7 +1,7 @@
 -- A line of the panel as a command, for any bytes at all.
 use Rattle.std.specs.Prelude.{ℕ, zero, suc, ◌^◌, Bool, true, not, ◌&&◌, ◌||◌, List, [], ◌∷◌, ◌++◌, ltb, eqb, length, get_or, take, drop, replicate}
 use Prim.Native.String.{String}
-use Rattle.std.proofs.Math.Option.{Option, none, some}
+use Rattle.std.specs.Prelude.{Option, None, Some}
 use Rattle.base.specs.Choice.{pick, only}
 use Rattle.base.specs.Over.{between}
 use Rattle.base.specs.Same.{same}
@@ -45,25 +45,25 @@ rest_of bs = on_from 32 bs
 
 -- a word of one to 20 digits, for a number of 64 bits
 unfoldable pub number_in : List ℕ → Option ℕ
-number_in word = pick (between 1 20 (length word)) (held (value_from 0 word)) none
+number_in word = pick (between 1 20 (length word)) (held (value_from 0 word)) None
 
 -- the number after one blank, and what follows it
 unfoldable pub first_number : List ℕ → Option ℕ
-first_number [] = none
-first_number (b ∷ bs) = pick (eqb b 32) (number_in (word_of bs)) none
+first_number [] = None
+first_number (b ∷ bs) = pick (eqb b 32) (number_in (word_of bs)) None
 
 unfoldable pub after_number : List ℕ → List ℕ
 after_number [] = []
 after_number (b ∷ bs) = rest_of bs
 
 unfoldable pub with_number : Option ℕ → Option (List ℕ) → Option (List ℕ)
-with_number none vs = none
-with_number (some v) none = none
-with_number (some v) (some vs) = some (v ∷ vs)
+with_number None vs = None
+with_number (Some v) None = None
+with_number (Some v) (Some vs) = Some (v ∷ vs)
 
 -- n numbers, each after one blank, and then the end
 unfoldable pub arguments : ℕ → List ℕ → Option (List ℕ)
-arguments zero bs = pick (eqb (length bs) 0) (some []) none
+arguments zero bs = pick (eqb (length bs) 0) (Some []) None
 arguments (suc n) bs = with_number (first_number bs) (arguments n (after_number bs))
 
 -- numbers by their places, from 0; 0 behind the last
@@ -71,8 +71,8 @@ abbrev pub at : List ℕ → ℕ → ℕ
 at vs i = get_or vs i 0
 
 unfoldable pub placed : Option (List ℕ) → Option (ℕ → ℕ)
-placed none = none
-placed (some vs) = some (at vs)
+placed None = None
+placed (Some vs) = Some (at vs)
 
 -- ---- paths
 
@@ -152,12 +152,12 @@ numbered n v = first_made (drop n rows) v
 unfoldable pub taken : Takes → List ℕ → Option (ℕ → ℕ)
 taken (Numbers n) line = placed (arguments n (rest_of line))
 taken Path line = only (is_path (path_of line)) (at [])
-taken Queued line = none
+taken Queued line = None
 
 -- a word without what it takes is no command
 unfoldable pub meant : Name → Option (ℕ → ℕ) → Command
-meant name none = Command.Unknown
-meant name (some v) = made name v
+meant name None = Command.Unknown
+meant name (Some v) = made name v
 
 -- by the row whose word is the line's first
 unfoldable pub called : List Row → List ℕ → Command
@@ -167,26 +167,26 @@ called (r ∷ rs) line =
 
 -- the edit that a command is, where it is one
 unfoldable pub edit_in : Command → Option Edit
-edit_in Command.Nothing = none
-edit_in Command.Unknown = none
-edit_in Command.Load = none
-edit_in Command.Export = none
-edit_in (Command.Alter e) = some e
-edit_in Command.Show = none
-edit_in (Command.Points code degree extent seal) = none
-edit_in Command.Page = none
-edit_in (Command.Why i j) = none
-edit_in (Command.Send s) = none
-edit_in Command.Roughness = none
-edit_in (Command.Office n) = none
-edit_in (Command.Queue n e) = none
-edit_in Command.Step = none
+edit_in Command.Nothing = None
+edit_in Command.Unknown = None
+edit_in Command.Load = None
+edit_in Command.Export = None
+edit_in (Command.Alter e) = Some e
+edit_in Command.Show = None
+edit_in (Command.Points code degree extent seal) = None
+edit_in Command.Page = None
+edit_in (Command.Why i j) = None
+edit_in (Command.Send s) = None
+edit_in Command.Roughness = None
+edit_in (Command.Office n) = None
+edit_in (Command.Queue n e) = None
+edit_in Command.Step = None
 
 -- an edit that is to wait: behind the word stands a console's number, and behind that a command that is an edit
 unfoldable pub queued_as : Option ℕ → Option Edit → Command
-queued_as none e = Command.Unknown
-queued_as (some n) none = Command.Unknown
-queued_as (some n) (some e) = Command.Queue n e
+queued_as None e = Command.Unknown
+queued_as (Some n) None = Command.Unknown
+queued_as (Some n) (Some e) = Command.Queue n e
 
 unfoldable pub queued_in : List ℕ → Command
 queued_in line = let rest = path_of line in queued_as (number_in (word_of rest)) (edit_in (called rows (path_of rest)))

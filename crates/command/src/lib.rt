@@ -2,7 +2,7 @@
 #![tactic(auto)]
 
 ghost use Rattle.std.specs.Prelude.{◌≡◌, ◌∷◌, ◌+◌, ◌≤◌, ◌<◌, length, drop};
-ghost use Rattle.std.proofs.Math.Option.{some};
+ghost use Rattle.std.specs.Prelude.{Some};
 ghost use Rattle.base.specs.Same.{same as Same·same};
 ghost use Rattle.command.specs.Reading.{every as Reading·every, is_space, is_of, word_of, number_in, first_number, after_number, arguments, at, placed, path_of, is_path, rows, send_of, made, numbered as Reading·numbered, taken, meant, called as Reading·called, is_comment, edit_in, queued_as, queued_in, command_in, numbers_of, count_of};
 ghost use Rattle.text.specs.Numbers.{value_of};
@@ -375,7 +375,7 @@ fn called(line: &[u8]) -> Command
 
 // The edit that a command is, for the queue of console n.
 fn queue_edit(n: usize, command: Command) -> Command
-    ensures { result ≡ queued_as (some n) (edit_in command) }
+    ensures { result ≡ queued_as (Some n) (edit_in command) }
 {
     if let Command::Alter(e) = command {
         return Command::Queue(n, e);

@@ -3,13 +3,12 @@ use Prim.Native.Nat.{ℕ, zero, suc}
 use mathlib.Core.Path.{◌≡◌, refl, ap}
 use mathlib.Core.List.{List}
 use native.Mathlib.Omega.{arith}
-use Rattle.rules.specs.Answers.{or_later, answer_of, accepting}
+use Rattle.rules.specs.Answers.{or_later, answer_of, accepting, Refused}
 use Rattle.rules.specs.Calls.{load_refusal_of, loaded_of, exported}
 use Rattle.rules.specs.Conversions.{up_refusal, up_file, lost_leader, down_refusal, down_file, turned_into, up_of, down_of}
 use Rattle.rules.specs.District.{District}
 use Rattle.rules.specs.File.{decode_as, encode_as}
 use Rattle.rules.specs.Format.{plain_form, leader_form}
-use Rattle.rules.specs.declared.Answer.TheVariants.{Refused}
 use Rattle.file.specs.Forms.{loaded_as}
 use Rattle.file.specs.declared.Loaded.{Loaded}
 use Rattle.convert.proofs.Turns.{down_accepted}

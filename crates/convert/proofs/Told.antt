@@ -5,11 +5,10 @@ use mathlib.Core.List.{List}
 use native.Mathlib.Omega.{arith}
 use lib.ListN.{length}
 use Rattle.base.specs.Text.{Put}
-use Rattle.rules.specs.Answers.{buffer_too_short}
+use Rattle.rules.specs.Answers.{buffer_too_short, Answer}
 use Rattle.rules.specs.Calls.{Export}
 use Rattle.rules.specs.Conversions.{up_refusal, up_file, down_refusal, down_file, turned_into, up_of, down_of}
 use Rattle.rules.specs.File.{longest_file}
-use Rattle.rules.specs.declared.Answer.{Answer}
 use Rattle.file.proofs.Refusals.{exported_fits}
 use Rattle.listing.specs.Listing.{or_refusal}
 use Rattle.convert.specs.Printed.{up_printed, down_printed, Told}

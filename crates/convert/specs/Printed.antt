@@ -3,8 +3,7 @@ use Rattle.std.specs.Prelude.{ℕ, ◌≡◌, List}
 use Rattle.base.specs.Text.{Put}
 use Rattle.listing.specs.Listing.{refusal, or_refusal}
 use Rattle.rules.specs.Conversions.{up_refusal, up_file, down_refusal, down_file}
-use Rattle.rules.specs.declared.Answer.{Answer}
-use Rattle.rules.specs.declared.Answer.TheVariants.{Accepted, Refused}
+use Rattle.rules.specs.Answers.{Answer, Accepted, Refused}
 
 -- the new file where nothing refuses the old one, else the refusal
 unfoldable pub up_printed : List ℕ → List ℕ

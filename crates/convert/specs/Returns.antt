@@ -3,7 +3,7 @@ use Rattle.std.specs.Prelude.{ℕ, ◌≡◌, List}
 use Rattle.base.specs.Bytes.{Bytes}
 use Rattle.rules.specs.Calls.{load_of}
 use Rattle.rules.specs.Conversions.{up_refusal, up_file, down_refusal, down_file}
-use Rattle.rules.specs.declared.Answer.TheVariants.{Accepted}
+use Rattle.rules.specs.Answers.{Accepted}
 use Rattle.rules.specs.declared.Unit.{Unit}
 
 -- a file, the one that it is turned into, what refuses that to be turned back, and what it is turned back into

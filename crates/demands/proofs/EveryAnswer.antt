@@ -9,14 +9,13 @@ use lib.ListN.{length}
 use mathlib.Core.Bool.{Bool, true, false, ◌&&◌}
 use Rattle.base.specs.Over.{between}
 use Rattle.rules.specs.District.{District}
-use Rattle.rules.specs.Answers.{no_such_points, unless, answer_of, accepting}
+use Rattle.rules.specs.Answers.{no_such_points, unless, answer_of, accepting, Accepted, Refused}
 use Rattle.rules.specs.Calls.{unit_of, answered, load_of, alter_of, exported, export_of, page_of}
 use Rattle.rules.specs.Lists.{Load, Alter, ExportTo, PageTo, Show, AskWhy, refusal_of, altered, Outcome, outcome_of, lent_to, replied, written}
 use Rattle.rules.specs.Demands.{returned, EveryAnswer, EveryPoints}
 use Rattle.rules.specs.Survey.{block_of, points_of, survey_refusal, survey_of}
 use Rattle.laws.proofs.Page.{page_length_lem}
 use Rattle.rules.specs.declared.Unit.{Unit}
-use Rattle.rules.specs.declared.Answer.TheVariants.{Accepted, Refused}
 
 -- an answer where nothing refuses it
 pub accepted_answer : (n value : ℕ) → n ≡ 0 → answer_of n value ≡ Accepted value

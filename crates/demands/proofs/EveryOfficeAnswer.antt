@@ -5,12 +5,10 @@ use mathlib.Core.List.{[]}
 use mathlib.Core.Path.{◌≡◌, refl, ap}
 use lib.Dec.{leb}
 use lib.ListN.{length}
-use Rattle.rules.specs.Answers.{window_empty, unless, answer_of, accepting}
-use Rattle.rules.specs.Meter.{hearing, window_of, mays_points, points_unless, roughness_refusal, roughness_of}
+use Rattle.rules.specs.Answers.{window_empty, unless, answer_of, accepting, Refused, Accepted}
+use Rattle.rules.specs.Meter.{hearing, window_of, mays_points, points_unless, roughness_refusal, roughness_of, points_at}
 use Rattle.rules.specs.Offices.{Held, Plan, Send, AskRoughness, OfficeOutcome, office_refusal, lent_bytes, planned, office_outcome}
 use Rattle.rules.specs.Demands.{office_returned, office_altered, EveryOfficeAnswer, EveryRoughness}
-use Rattle.rules.specs.declared.Answer.TheVariants.{Refused}
-use Rattle.rules.specs.declared.Roughness.TheVariants.{Points, Refused as Roughness-as-Refused}
 use Rattle.demands.proofs.EveryAnswer.{accepted_answer, every_answer}
 
 -- what the meter refuses
@@ -32,13 +30,13 @@ every_office_answer o AskRoughness =
 
 -- the points for a window
 
-points_given : (n points marker : ℕ) → n ≡ 0 → points_unless n points marker ≡ Points points marker
+points_given : (n points marker : ℕ) → n ≡ 0 → points_unless n points marker ≡ Accepted (points_at points marker)
 unfolding points_unless
 points_given n points marker e = rw e
 
 points_refused :
     (t : Bool) (points marker : ℕ) → ¬ (unless t window_empty 0 ≡ 0)
-    → points_unless (unless t window_empty 0) points marker ≡ Roughness-as-Refused window_empty
+    → points_unless (unless t window_empty 0) points marker ≡ Refused window_empty
 unfolding points_unless
 points_refused true points marker some = absurd (some refl)
 points_refused false points marker some = refl

@@ -3,7 +3,7 @@
 use Prim.Native.Nat.{ℕ, zero, suc}
 use mathlib.Core.Path.{◌≡◌, sym}
 use mathlib.Core.Bool.{Bool, true, false}
-use mathlib.Core.Option.{Option, none, some}
+use Rattle.std.specs.Prelude.{Option, None, Some}
 use native.Mathlib.Omega.{arith}
 use Rattle.base.specs.Choice.{pick}
 use Rattle.rules.specs.File.{in_range}
@@ -12,12 +12,12 @@ use Rattle.rules.specs.Calls.{bar_refusal, explained, why_of}
 use Rattle.rules.specs.declared.Unit.{Unit}
 use Rattle.rules.specs.declared.Reason.{Reason}
 use Rattle.rules.specs.declared.Reason.TheVariants.{NoGreaterTotal}
-use Rattle.rules.specs.declared.Why.TheVariants.{Because, Refused}
 use Rattle.theorems.specs.Reasons.{EveryReason}
 use Rattle.theorems.proofs.Reasons.{explained_some}
+use Rattle.rules.specs.Answers.{Accepted, Refused}
 
 module _ (u : Unit) (i j : ℕ) where
-  pub why_accepted : bar_refusal u.district i j ≡ 0 → why_of u i j ≡ Because (reason_for u.district u.programme.strategies i j)
+  pub why_accepted : bar_refusal u.district i j ≡ 0 → why_of u i j ≡ Accepted (reason_for u.district u.programme.strategies i j)
   unfolding why_of explained
   why_accepted e = rw e
 
@@ -26,16 +26,16 @@ module _ (u : Unit) (i j : ℕ) where
   why_refused n e = rw e
 
 -- a reason for an answer is the one that the search came to
-named : (n : ℕ) (q r : Reason) → explained n q ≡ Because r → q ≡ r
+named : (n : ℕ) (q r : Reason) → explained n q ≡ Accepted r → q ≡ r
 unfolding explained
 named zero q r e = cc
 named (suc n) q r e = absurd (let z : ◌≡◌ {A = ℕ} 0 1 = cc in omega arith)
 
 -- which found it, unless it is the last
-searched : (t : Bool) (o : Option Reason) (r : Reason) → or_last (pick t o none) ≡ r → ¬ (r ≡ NoGreaterTotal) → o ≡ some r
+searched : (t : Bool) (o : Option Reason) (r : Reason) → or_last (pick t o None) ≡ r → ¬ (r ≡ NoGreaterTotal) → o ≡ Some r
 searched false o r e other = absurd (other (sym e))
-searched true none r e other = absurd (other (sym e))
-searched true (some q) r e other = rw e
+searched true None r e other = absurd (other (sym e))
+searched true (Some q) r e other = rw e
 
 pub every_reason : EveryReason
 unfolding why_of reason_for

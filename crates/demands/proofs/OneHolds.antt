@@ -3,7 +3,7 @@
 use Prim.Native.Nat.{ℕ, ◌≤◌}
 use mathlib.Core.Path.{◌≡◌, refl}
 use mathlib.Core.Bool.{true}
-use mathlib.Core.Option.{Option, none, some}
+use Rattle.std.specs.Prelude.{Option, None, Some}
 use native.Mathlib.Omega.{arith}
 use lib.ListN.{length}
 use Rattle.rules.specs.District.{District, most_segments, segments_of}
@@ -31,8 +31,8 @@ module _
   reason_explained e = rw ok (go (hindrance d p.strategies i j) refl)
     where
       go : (o : Option Reason) → hindrance d p.strategies i j ≡ o → Explained d p.strategies i j (or_last o)
-      go (some r) f = explained_some d p.strategies i j r f
-      go none f =
+      go (Some r) f = explained_some d p.strategies i j r f
+      go None f =
           let w = bar_numbers d i j e in
           last_explained d p i j sound worth room w.0 w.1 w.2 w.3 f
 

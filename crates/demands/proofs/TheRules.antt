@@ -5,12 +5,11 @@ use mathlib.Core.Bool.{true}
 use Rattle.rules.specs.District.{District}
 use Rattle.rules.specs.File.{encode, in_range}
 use Rattle.rules.specs.Plan.{programme_of}
-use Rattle.rules.specs.Answers.{answer_of, accepting}
+use Rattle.rules.specs.Answers.{answer_of, accepting, Accepted}
 use Rattle.rules.specs.Calls.{load_refusal_of, load_refusal, loaded_of, district_in, unit_of, answered, load_of}
 use Rattle.rules.specs.Lists.{district_after}
 use Rattle.rules.specs.Demands.{TheRules}
 use Rattle.rules.specs.declared.Unit.{Unit}
-use Rattle.rules.specs.declared.Answer.TheVariants.{Accepted}
 use Rattle.file.proofs.Back.{decode_encode}
 use Rattle.theorems.proofs.Promises as promises
 use Rattle.demands.proofs.EveryFile.{exports}

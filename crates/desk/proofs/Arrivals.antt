@@ -4,9 +4,8 @@ use mathlib.Core.Path.{◌≡◌, refl, sym, ap, ◌∙◌}
 use mathlib.Core.Bool.{false, true≢false}
 use Rattle.rules.specs.Desks as Desks
 use Rattle.rules.specs.Desks.{console_of, arrival_refusal, arrival_of, Arrive, desk_by, answer_to}
-use Rattle.rules.specs.Answers.{no_such_office}
-use Rattle.rules.specs.Stations.{Which, First, Second, number_of}
-use Rattle.rules.specs.declared.Answer.TheVariants.{Refused}
+use Rattle.rules.specs.Answers.{no_such_office, Refused}
+use Rattle.rules.specs.Stations.{number_of}
 use Rattle.rules.specs.declared.Waiting.{Waiting}
 use Rattle.desks.proofs.EveryArrival.{every_arrival}
 use Rattle.queues.specs.Waits.{queues_in, Admits}
@@ -17,6 +16,8 @@ use Rattle.station.proofs.Numbers.{named_some, named_office}
 use Rattle.desk.specs.Kept.{Arrives, Happens}
 use Rattle.desk.specs.declared.Desk.{Desk}
 use Rattle.desk.specs.declared.DeskReply.{DeskReply}
+use Rattle.rules.specs.declared.Which.{Which}
+use Rattle.rules.specs.declared.Which.TheVariants.{First, Second}
 
 module _ (d : Desk) (n : ℕ) (w : Waiting) where
   -- no office has the number

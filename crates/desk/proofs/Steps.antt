@@ -1,12 +1,12 @@
 -- A step: by what is taken from the queues, and what the station replies.
 use Prim.Native.Nat.{ℕ}
 use mathlib.Core.Path.{◌≡◌, refl, ap, ◌∙◌}
-use mathlib.Core.Option.{Option, none, some}
+use Rattle.std.specs.Prelude.{Option, None, Some}
 use native.Mathlib.Omega.{arith}
 use Rattle.rules.specs.Desks as Desks
 use Rattle.rules.specs.Desks.{console_number, Taken, taken, step_with, step_of, Step, desk_by, answer_to}
 use Rattle.rules.specs.Lists.{Alter}
-use Rattle.rules.specs.declared.Answer.TheVariants.{Accepted}
+use Rattle.rules.specs.Answers.{Accepted}
 use Rattle.queues.specs.Waits.{queues_in}
 use Rattle.queues.specs.declared.Queues.{Queues}
 use Rattle.station.specs.Kept.{PlansBoth}
@@ -23,9 +23,9 @@ module _ (d : Desk) where
   unfolding step_of
   step_by x e = ap (step_with (desk_in d)) e
 
-  pub steps_idle : taken (queues_in d.queues) ≡ none → Steps d (record { console = 0; answer = Accepted 0; desk = d })
+  pub steps_idle : taken (queues_in d.queues) ≡ None → Steps d (record { console = 0; answer = Accepted 0; desk = d })
   steps_idle e =
-      let is = step_by none e in
+      let is = step_by None e in
       record {
         console = rw is;
         answer = rw is;
@@ -36,11 +36,11 @@ module _ (d : Desk) where
       }
 
   pub steps_carried :
-      (t : Taken) → taken (queues_in d.queues) ≡ some t → (p : Queues) → queues_in p ≡ t.queues → (reply : StationReply)
+      (t : Taken) → taken (queues_in d.queues) ≡ Some t → (p : Queues) → queues_in p ≡ t.queues → (reply : StationReply)
       → PlansBoth d.station t.waiting.office (Alter t.waiting.edit) reply
       → Steps d (record { console = console_number t.console; answer = reply.answer; desk = record { station = reply.station; queues = p } })
   steps_carried t e p rest reply plans =
-      let is = step_by (some t) e in
+      let is = step_by (Some t) e in
       record {
         console = rw is;
         answer = rw is plans.answer;
@@ -64,16 +64,16 @@ module _ (d : Desk) (r : Stepped) (steps : Steps d r) (h : Desks.Desk) (k : Keep
   abbrev Reported : Type 0
   Reported = (r.console ≡ (step_of h).console) × (r.answer ≡ (step_of h).answer) × KeepsDesk r.desk (step_of h).desk
 
-  idle_reports : taken h.queues ≡ none → Reported
+  idle_reports : taken h.queues ≡ None → Reported
   idle_reports e =
-      let is = step_by d none (seen none e) in
-      let was = kept_by none e in
-      (rw was (rw is at steps.console), rw was (rw is at steps.answer), rw (was, steps.idle (seen none e)) k)
+      let is = step_by d None (seen None e) in
+      let was = kept_by None e in
+      (rw was (rw is at steps.console), rw was (rw is at steps.answer), rw (was, steps.idle (seen None e)) k)
 
-  carried_reports : (t : Taken) → taken h.queues ≡ some t → Reported
+  carried_reports : (t : Taken) → taken h.queues ≡ Some t → Reported
   carried_reports t e =
-      let is = step_by d (some t) (seen (some t) e) in
-      let was = kept_by (some t) e in
+      let is = step_by d (Some t) (seen (Some t) e) in
+      let was = kept_by (Some t) e in
       let plans : PlansBoth d.station t.waiting.office (Alter t.waiting.edit) (record { answer = r.answer; station = r.desk.station }) =
       record { answer = rw is at steps.answer; units = λ w. rw is at (steps.units w); windows = steps.windows } in
       let reports = plans_replies d.station t.waiting.office (Alter t.waiting.edit) _ plans h.held k.station in (
@@ -83,8 +83,8 @@ module _ (d : Desk) (r : Stepped) (steps : Steps d r) (h : Desks.Desk) (k : Keep
       )
 
   reported : (x : Option Taken) → taken h.queues ≡ x → Reported
-  reported none e = idle_reports e
-  reported (some t) e = carried_reports t e
+  reported None e = idle_reports e
+  reported (Some t) e = carried_reports t e
 
   pub step_console : r.console ≡ (step_of h).console
   step_console = (reported (taken h.queues) refl).0

@@ -1,10 +1,10 @@
 -- What a desk stands for: that of rules, specs/Desks.antt; and what its calls promise, of a desk in any state.
 use Rattle.std.specs.Prelude.{ℕ, ◌≡◌}
-use Rattle.std.proofs.Math.Option.{none}
+use Rattle.std.specs.Prelude.{None}
 use Rattle.rules.specs.Desks as Desks
 use Rattle.rules.specs.Desks.{arrival_of, taken, step_of, Event, desk_by, answer_to}
-use Rattle.rules.specs.Stations.{Which, own}
-use Rattle.rules.specs.declared.Answer.TheVariants.{Refused}
+use Rattle.rules.specs.Stations.{own}
+use Rattle.rules.specs.Answers.{Refused}
 use Rattle.rules.specs.declared.Waiting.{Waiting}
 use Rattle.queues.specs.Waits.{queues_in}
 use Rattle.station.specs.Kept.{office_in, KeepsBoth, units_in}
@@ -12,6 +12,7 @@ use Rattle.station.specs.declared.StationReply.{StationReply}
 use Rattle.desk.specs.declared.Desk.{Desk}
 use Rattle.desk.specs.declared.DeskReply.{DeskReply}
 use Rattle.desk.specs.declared.Stepped.{Stepped}
+use Rattle.rules.specs.declared.Which.{Which}
 
 pub record KeepsDesk (d : Desk) (h : Desks.Desk) : Type 0 where
   pub station : KeepsBoth d.station h.held
@@ -35,7 +36,7 @@ pub record Steps (d : Desk) (r : Stepped) : Type 0 where
   pub units : (w : Which) → (office_in w r.desk.station).unit ≡ (own w (step_of (desk_in d)).desk.held).unit
   pub windows : (w : Which) → (office_in w r.desk.station).window ≡ (office_in w d.station).window
   -- where none waits the desk is left as it is, by value
-  pub idle : taken (queues_in d.queues) ≡ none → r.desk ≡ d
+  pub idle : taken (queues_in d.queues) ≡ None → r.desk ≡ d
 
 -- a call of the station gets the station's own reply, and leaves the queues as they are
 pub record Asks (d : Desk) (Replies : StationReply → Type 0) (r : DeskReply) : Type 0 where

@@ -6,7 +6,7 @@ ghost use Rattle.std.specs.Prelude.{◌≡◌};
 ghost use Rattle.rules.specs.DeskDemands.{EveryCall, EveryArrival, EveryStep, OnceInOrder, NobodyStarves, CarriedInTime, EveryRun, EveryDesk};
 ghost use Rattle.rules.specs.Desks.{fresh_desk};
 ghost use Rattle.rules.specs.Lists.{Load, Alter};
-ghost use Rattle.rules.specs.declared.Answer.TheVariants.{Refused};
+ghost use Rattle.rules.specs.Answers.{Refused};
 ghost use Rattle.station.specs.Kept.{PlansBoth, SendsBoth};
 ghost use Rattle.desks.specs.EachOffice.{EachOfficeServed};
 ghost use Rattle.desk.specs.Kept.{KeepsDesk, Arrives, Steps, Asks};

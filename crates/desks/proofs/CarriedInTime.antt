@@ -9,12 +9,11 @@ use lib.Dec.{eqb}
 use lib.ListN.{length, take, length-append}
 use lib.Seq.{take_all}
 use Rattle.base.specs.Choice.{pick}
-use Rattle.rules.specs.Answers.{answer_of}
+use Rattle.rules.specs.Answers.{answer_of, Accepted}
 use Rattle.rules.specs.Desks.{console_number, Queues, queue_of, arrival_refusal, arrival_of, Desk, Arrive, desk_by, accepted_by, steps_in}
 use Rattle.rules.specs.DeskDemands.{CarriedInTime}
 use Rattle.rules.specs.declared.Console.{Console}
 use Rattle.rules.specs.declared.Waiting.{Waiting}
-use Rattle.rules.specs.declared.Answer.TheVariants.{Accepted}
 use Rattle.desks.proofs.EveryArrival.{arrived}
 use Rattle.desks.proofs.NobodyStarves.{nobody_starves}
 

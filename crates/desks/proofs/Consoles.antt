@@ -3,7 +3,7 @@ use Prim.Native.Nat.{ℕ, zero, suc, ◌+◌, ◌<◌}
 use mathlib.Core.Path.{◌≡◌, refl, sym, ap, ◌∙◌}
 use mathlib.Core.Bool.{Bool, true, false}
 use mathlib.Core.List.{List}
-use mathlib.Core.Option.{Option, none, some}
+use Rattle.std.specs.Prelude.{Option, None, Some}
 use native.Mathlib.Nat.{zero-add, suc-add}
 use native.Mathlib.Omega.{arith}
 use borrow.Author.Tests.{eqb-true, ne_eqb}
@@ -17,28 +17,28 @@ use Rattle.rules.specs.declared.Waiting.{Waiting}
 
 -- ---- numbers
 
-pub number_named : (c : Console) → console_of (console_number c) ≡ some c
+pub number_named : (c : Console) → console_of (console_number c) ≡ Some c
 number_named One = refl
 number_named Two = refl
 number_named Three = refl
 number_named Four = refl
 
-pub named_number : (n : ℕ) (c : Console) → console_of n ≡ some c → n ≡ console_number c
+pub named_number : (n : ℕ) (c : Console) → console_of n ≡ Some c → n ≡ console_number c
 named_number n c e = go (eqb n 1) refl (eqb n 2) refl (eqb n 3) refl (eqb n 4) refl e
   where
     go : (s : Bool) → eqb n 1 ≡ s → (t : Bool) → eqb n 2 ≡ t → (u : Bool) → eqb n 3 ≡ u → (v : Bool) → eqb n 4 ≡ v
-        → pick s (some One) (pick t (some Two) (pick u (some Three) (pick v (some Four) none))) ≡ some c → n ≡ console_number c
+        → pick s (Some One) (pick t (Some Two) (pick u (Some Three) (pick v (Some Four) None))) ≡ Some c → n ≡ console_number c
     go true p t q u r v s e = let i : One ≡ c = cc in rw (← i) (eqb-true n 1 p)
     go false p true q u r v s e = let i : Two ≡ c = cc in rw (← i) (eqb-true n 2 q)
     go false p false q true r v s e = let i : Three ≡ c = cc in rw (← i) (eqb-true n 3 r)
     go false p false q false r true s e = let i : Four ≡ c = cc in rw (← i) (eqb-true n 4 s)
     go false p false q false r false s e = absurd (let z : ◌≡◌ {A = ℕ} 0 1 = cc in omega arith)
 
-pub nowhere_named : (n : ℕ) → ((c : Console) → ¬ (n ≡ console_number c)) → console_of n ≡ none
+pub nowhere_named : (n : ℕ) → ((c : Console) → ¬ (n ≡ console_number c)) → console_of n ≡ None
 nowhere_named n h = rw (ne_eqb n 1 (h One), ne_eqb n 2 (h Two), ne_eqb n 3 (h Three), ne_eqb n 4 (h Four))
 
 pub same_console : (c e : Console) → console_number c ≡ console_number e → c ≡ e
-same_console c e p = let q : some c ≡ some e = sym (number_named c) ∙ ap console_of p ∙ number_named e in cc
+same_console c e p = let q : Some c ≡ Some e = sym (number_named c) ∙ ap console_of p ∙ number_named e in cc
 
 -- ---- circular order
 

@@ -3,21 +3,21 @@ use Prim.Native.Nat.{ℕ, zero, suc, ◌≤◌, ◌<◌}
 use mathlib.Core.Path.{◌≡◌, refl, sym, ap, ◌∙◌}
 use mathlib.Core.Bool.{Bool, true, false, ◌&&◌, and-false, true≢false}
 use mathlib.Core.List.{List, [], ◌∷◌, ◌++◌, append-nil}
-use mathlib.Core.Option.{Option, none, some}
+use Rattle.std.specs.Prelude.{Option, None, Some}
 use borrow.Author.Tests.{lt-ltb, le-ltb, ne_eqb, eqb-true, eqb-false}
 use lib.Dec.{ltb, eqb}
 use lib.ListN.{length}
 use Rattle.base.specs.Choice.{pick}
-use Rattle.rules.specs.Answers.{no_such_office, no_such_console, queue_full, unless, answer_of, accepting}
+use Rattle.rules.specs.Answers.{no_such_office, no_such_console, queue_full, unless, answer_of, accepting, Accepted}
 use Rattle.rules.specs.Offices.{Held}
-use Rattle.rules.specs.Stations.{Which, Both, office_of, number_of}
+use Rattle.rules.specs.Stations.{Both, office_of, number_of}
 use Rattle.rules.specs.Desks.{console_number, console_of, Queues, queue_of, with_queue, most_waiting, refusal_at, refusal_behind, arrival_refusal, queued_at, arrival_by, arrival_of, Arrival, Desk, accepted_by, Arrive}
 use Rattle.rules.specs.DeskDemands.{not_queued, ArrivalSettled, EveryArrival}
 use Rattle.rules.specs.declared.Console.{Console}
 use Rattle.rules.specs.declared.Waiting.{Waiting}
-use Rattle.rules.specs.declared.Answer.TheVariants.{Accepted}
 use Rattle.stations.proofs.Calls.{number_named as office_named}
 use Rattle.desks.proofs.Consoles.{number_named, named_number, nowhere_named, same_console, queue_own, queue_other, turn_stays}
+use Rattle.rules.specs.declared.Which.{Which}
 
 module _ (q : Queues) (n : ℕ) (w : Waiting) where
   -- by what the two numbers name
@@ -32,10 +32,10 @@ module _ (q : Queues) (n : ℕ) (w : Waiting) where
   unfolding answer_of accepting
   every_arrival =
       record {
-        nobody = λ a b. named none (console_of n) (rw (ne_eqb w.office 1 a, ne_eqb w.office 2 b)) refl;
-        nowhere = λ o e h. named (some o) none (ap office_of e ∙ office_named o) (nowhere_named n h);
-        full = λ o e c f h. named (some o) (some c) (ap office_of e ∙ office_named o) (ap console_of f ∙ number_named c) ∙ rw (le-ltb (length (queue_of c q)) most_waiting h);
-        accepted = λ o e c f h. named (some o) (some c) (ap office_of e ∙ office_named o) (ap console_of f ∙ number_named c) ∙ rw (lt-ltb (length (queue_of c q)) most_waiting h);
+        nobody = λ a b. named None (console_of n) (rw (ne_eqb w.office 1 a, ne_eqb w.office 2 b)) refl;
+        nowhere = λ o e h. named (Some o) None (ap office_of e ∙ office_named o) (nowhere_named n h);
+        full = λ o e c f h. named (Some o) (Some c) (ap office_of e ∙ office_named o) (ap console_of f ∙ number_named c) ∙ rw (le-ltb (length (queue_of c q)) most_waiting h);
+        accepted = λ o e c f h. named (Some o) (Some c) (ap office_of e ∙ office_named o) (ap console_of f ∙ number_named c) ∙ rw (lt-ltb (length (queue_of c q)) most_waiting h);
       }
 
   -- ---- what waits at console c then
@@ -59,9 +59,9 @@ module _ (q : Queues) (n : ℕ) (w : Waiting) where
 
   arrived_at : (c : Console) (o : Option Which) (x : Option Console) → console_of n ≡ x → afterwards c o x
   unfolding accepting
-  arrived_at c none x e = refused_stays c (eqb n (console_number c))
-  arrived_at c (some o) none e = refused_stays c (eqb n (console_number c))
-  arrived_at c (some o) (some d) e = go (ltb (length (queue_of d q)) most_waiting)
+  arrived_at c None x e = refused_stays c (eqb n (console_number c))
+  arrived_at c (Some o) None e = refused_stays c (eqb n (console_number c))
+  arrived_at c (Some o) (Some d) e = go (ltb (length (queue_of d q)) most_waiting)
     where
       go : (t : Bool)
           → queue_of c (accepting (unless t queue_full 0) (with_queue d (queue_of d q ++ (w ∷ [])) q) q)
@@ -76,8 +76,8 @@ module _ (q : Queues) (n : ℕ) (w : Waiting) where
   -- whose turn it is stays
   turn_at : (r : ℕ) (x : Option Console) → (accepting r (queued_at x w q) q).turn ≡ q.turn
   unfolding accepting
-  turn_at zero none = refl
-  turn_at zero (some c) = turn_stays c (queue_of c q ++ (w ∷ [])) q
+  turn_at zero None = refl
+  turn_at zero (Some c) = turn_stays c (queue_of c q ++ (w ∷ [])) q
   turn_at (suc r) x = refl
 
   pub turn_arrived : (arrival_of q n w).queues.turn ≡ q.turn

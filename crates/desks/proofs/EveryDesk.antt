@@ -3,7 +3,7 @@ use mathlib.Core.Path.{◌≡◌, sym, ap, ◌∙◌}
 use mathlib.Core.List.{List}
 use Rattle.rules.specs.District.{shared_tables}
 use Rattle.rules.specs.Calls.{unit_of}
-use Rattle.rules.specs.Stations.{Which, First, Second, other, own, fresh_both, station_after}
+use Rattle.rules.specs.Stations.{other, own, fresh_both, station_after}
 use Rattle.rules.specs.StationDemands.{got_by}
 use Rattle.rules.specs.Desks.{fresh_desk, Event, desk_after, gathered, calls_in}
 use Rattle.rules.specs.DeskDemands.{gives, given_to, desk_district, DeskClaim, EveryDesk}
@@ -13,6 +13,8 @@ use Rattle.stations.proofs.LeavingOut.{leaving_out}
 use Rattle.stations.proofs.TablesAgree.{tables_agree}
 use Rattle.desks.proofs.EveryRun.{given_got, every_run}
 use Rattle.desks.proofs.FewWait.{few_wait}
+use Rattle.rules.specs.declared.Which.{Which}
+use Rattle.rules.specs.declared.Which.TheVariants.{First, Second}
 
 module _ (es : List Event) where
   pub held_after : (desk_after es).held ≡ station_after (calls_in es)

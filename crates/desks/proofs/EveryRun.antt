@@ -2,15 +2,16 @@
 use Prim.Native.Nat.{ℕ, zero, suc}
 use mathlib.Core.Path.{◌≡◌, refl, sym, ap, ap₂, ◌∙◌}
 use mathlib.Core.List.{List, [], ◌∷◌, ◌++◌}
-use mathlib.Core.Option.{Option, none, some}
+use Rattle.std.specs.Prelude.{Option, None, Some}
 use Rattle.rules.specs.Lists.{Alter, lent_to, outcome_of}
 use Rattle.rules.specs.Offices.{Held, Plan, lent_bytes, office_outcome}
-use Rattle.rules.specs.Stations.{Which, Both, own, other, office_of, StationCall, call_of, refusal_beside, concluded, outcome_for, station_outcome, station_from}
+use Rattle.rules.specs.Stations.{Both, own, other, office_of, StationCall, call_of, refusal_beside, concluded, outcome_for, station_outcome, station_from}
 use Rattle.rules.specs.StationDemands.{nothing_more, unit_tells, office_tells, told_to, gets, got_from}
 use Rattle.rules.specs.Desks.{Taken, taken, Desk, carrying, step_with, step_of, Event, Arrive, Step, Ask, desk_by, answer_to, desk_from, gathered, call_for, calls_at, calls_from}
 use Rattle.rules.specs.DeskDemands.{Given, step_gives, gives, all_given, given_to, AsCalls, EveryRun}
 use Rattle.rules.specs.declared.Edit.{Edit}
 use Rattle.rules.specs.declared.Waiting.{Waiting}
+use Rattle.rules.specs.declared.Which.{Which}
 
 -- ---- lists of calls, one after the other
 
@@ -41,13 +42,13 @@ module _ (b : Both Held) (e : Edit) where
 
   outcome_bytes : (o : Option Which) → (outcome_for o b (Plan (Alter e))).bytes ≡ []
   unfolding lent_bytes lent_to
-  outcome_bytes none = refl
-  outcome_bytes (some w) = concluded_bytes w (refusal_beside (own w b) (own (other w) b) (Plan (Alter e)))
+  outcome_bytes None = refl
+  outcome_bytes (Some w) = concluded_bytes w (refusal_beside (own w b) (own (other w) b) (Plan (Alter e)))
 
   edit_tells : (o : Option Which) → told_to o b (Plan (Alter e)) ≡ nothing_more
   unfolding office_tells unit_tells
-  edit_tells none = refl
-  edit_tells (some w) = refl
+  edit_tells None = refl
+  edit_tells (Some w) = refl
 
   edit_gets : (n : ℕ) → let c = call_of n (Plan (Alter e)) in gets b c ≡ record { answer = (station_outcome b c).answer; bytes = []; told = nothing_more }
   unfolding gets station_outcome
@@ -58,8 +59,8 @@ module _ (b : Both Held) (e : Edit) where
 module _ (d : Desk) where
   step_held : (x : Option Taken) → (step_with d x).desk.held ≡ station_from d.held (call_for x)
   unfolding station_from
-  step_held none = refl
-  step_held (some t) = refl
+  step_held None = refl
+  step_held (Some t) = refl
 
   event_held : (e : Event) → (desk_by d e).held ≡ station_from d.held (calls_at d e)
   unfolding desk_by calls_at station_from step_of
@@ -69,8 +70,8 @@ module _ (d : Desk) where
 
   step_given : (x : Option Taken) → step_gives x (step_with d x).answer ≡ all_given d.held (call_for x)
   unfolding all_given
-  step_given none = refl
-  step_given (some t) = rw (edit_gets d.held t.waiting.edit t.waiting.office)
+  step_given None = refl
+  step_given (Some t) = rw (edit_gets d.held t.waiting.edit t.waiting.office)
 
   event_given : (e : Event) → gives d e ≡ all_given d.held (calls_at d e)
   unfolding gives calls_at all_given step_of answer_to

@@ -2,7 +2,7 @@
 use Prim.Native.Nat.{ℕ, ◌<◌}
 use mathlib.Core.Path.{◌≡◌, refl, sym, ap, ◌∙◌}
 use mathlib.Core.List.{List, [], ◌∷◌}
-use mathlib.Core.Option.{Option, none, some}
+use Rattle.std.specs.Prelude.{Option, None, Some}
 use borrow.Author.Tests.{eq-eqb, ne_eqb}
 use Rattle.base.specs.Choice.{pick}
 use Rattle.rules.specs.Desks.{console_number, Desk, Taken, taken, step_with, step_of, call_for, calls_at, taken_for, carried_by, Step}
@@ -26,12 +26,12 @@ module _ (d : Desk) (t : Option Taken) (is : taken d.queues ≡ t) where
   unfolding carried_by
   carried_with c = ap (taken_for c) is
 
-idles : (d : Desk) → taken d.queues ≡ none → Idles d
-idles d is = record { step = step_with_lem d none is; call = call_with d none is; none = carried_with d none is }
+idles : (d : Desk) → taken d.queues ≡ None → Idles d
+idles d is = record { step = step_with_lem d None is; call = call_with d None is; None = carried_with d None is }
 
-carries : (d : Desk) (c : Console) (w : Waiting) (ws : List Waiting) → taken d.queues ≡ some (taken_of d.queues c w ws) → Carries d c w ws
+carries : (d : Desk) (c : Console) (w : Waiting) (ws : List Waiting) → taken d.queues ≡ Some (taken_of d.queues c w ws) → Carries d c w ws
 carries d c w ws is =
-    let t = some (taken_of d.queues c w ws) in
+    let t = Some (taken_of d.queues c w ws) in
     record {
       step = step_with_lem d t is;
       call = call_with d t is;

@@ -3,19 +3,20 @@ use Prim.Native.Nat.{ℕ, ◌≤◌, ◌<◌}
 use mathlib.Core.Path.{◌≡◌, refl, sym, ap, ◌∙◌}
 use mathlib.Core.Bool.{Bool, true, false}
 use mathlib.Core.List.{List, [], ◌∷◌, ◌++◌}
-use mathlib.Core.Option.{Option, none, some}
+use Rattle.std.specs.Prelude.{Option, None, Some}
 use native.Mathlib.Omega.{arith}
 use borrow.Author.Tests.{eqb-true, eqb-false, ltb-true}
 use lib.Dec.{eqb, ltb}
 use lib.ListN.{length, length-append}
 use Rattle.rules.specs.Answers.{queue_full, unless, accepting}
-use Rattle.rules.specs.Stations.{Which, office_of}
+use Rattle.rules.specs.Stations.{office_of}
 use Rattle.rules.specs.Desks.{console_number, console_of, Queues, fresh_queues, queue_of, with_queue, most_waiting, refusal_at, refusal_behind, arrival_refusal, queued_at, arrival_of, Desk, fresh_desk, Event, Arrive, Step, Ask, desk_by, desk_from, desk_after, accepted_by, carried_by}
 use Rattle.rules.specs.declared.Console.{Console}
 use Rattle.rules.specs.declared.Console.TheVariants.{One, Two, Three, Four}
 use Rattle.rules.specs.declared.Waiting.{Waiting}
 use Rattle.desks.proofs.Consoles.{same_console, queue_own, queue_other}
 use Rattle.desks.proofs.OnceInOrder.{event_once}
+use Rattle.rules.specs.declared.Which.{Which}
 
 abbrev Few : Queues → Type 0
 Few q = (c : Console) → length (queue_of c q) ≤ most_waiting
@@ -35,9 +36,9 @@ module _ (q : Queues) (w : Waiting) (few : Few q) where
 
   arrived_few : (o : Option Which) (x : Option Console) → Few (accepting (refusal_behind o (refusal_at x q)) (queued_at x w q) q)
   unfolding accepting
-  arrived_few none x = few
-  arrived_few (some o) none = few
-  arrived_few (some o) (some e) = go (ltb (length (queue_of e q)) most_waiting) refl
+  arrived_few None x = few
+  arrived_few (Some o) None = few
+  arrived_few (Some o) (Some e) = go (ltb (length (queue_of e q)) most_waiting) refl
     where
       go : (t : Bool) → ltb (length (queue_of e q)) most_waiting ≡ t → Few (accepting (unless t queue_full 0) (with_queue e (queue_of e q ++ (w ∷ [])) q) q)
       go true i = queued_few e (ltb-true (length (queue_of e q)) most_waiting i)

@@ -5,7 +5,7 @@ use mathlib.Core.Path.{◌≡◌, refl, sym, ap, ◌∙◌}
 use mathlib.Core.Logic.{⊎_elim}
 use mathlib.Core.Bool.{Bool, true, false}
 use mathlib.Core.List.{List, [], ◌∷◌, ◌++◌}
-use mathlib.Core.Option.{Option, none, some}
+use Rattle.std.specs.Prelude.{Option, None, Some}
 use native.Mathlib.Nat.{eq-or-lt_of_le}
 use native.Mathlib.Omega.{arith}
 use borrow.Author.Tests.{eqb-true, eqb-false, ltb-true, ltb-false}
@@ -61,7 +61,7 @@ module _ (c : Console) (es : List Event) (later : Served c es) where
   module _ (d : Desk) (t : Taken) (f : TakenFrom d.queues t) (k n : ℕ) (few : n < 4) (there : further n d.queues.turn ≡ c)
       (waits : k < length (queue_of c d.queues)) (steps : 4 * k + n + 1 ≤ suc (steps_in es)) where
     abbrev next : Desk
-    next = (step_with d (some t)).desk
+    next = (step_with d (Some t)).desk
 
     turn_next : next.queues.turn ≡ next_to t.console
     turn_next = ap (λ (q : Queues). q.turn) f.queues
@@ -108,7 +108,7 @@ module _ (c : Console) (es : List Event) (later : Served c es) where
         (rw (turn_next, f.console) (nearer f.far n d.queues.turn near ∙ there))
         (rw same waits) (omega (arith, near, steps))
 
-    step_served : k + 1 ≤ length (taken_for c (some t) ++ carried_from c next es)
+    step_served : k + 1 ≤ length (taken_for c (Some t) ++ carried_from c next es)
     step_served = go (eqb (console_number t.console) (console_number c)) refl
       where
         go : (s : Bool) → eqb (console_number t.console) (console_number c) ≡ s → k + 1 ≤ length (pick s (t.waiting ∷ []) [] ++ carried_from c next es)
@@ -118,9 +118,9 @@ module _ (c : Console) (es : List Event) (later : Served c es) where
   step_taken :
       (d : Desk) (k n : ℕ) → n < 4 → further n d.queues.turn ≡ c → k < length (queue_of c d.queues) → 4 * k + n + 1 ≤ suc (steps_in es)
       → (x : Option Taken) → taken d.queues ≡ x → k + 1 ≤ length (taken_for c x ++ carried_from c (step_with d x).desk es)
-  step_taken d k n few there waits steps none e =
+  step_taken d k n few there waits steps None e =
       taken_some d.queues c n few there (λ empty. let z : length (queue_of c d.queues) ≡ 0 = ap length empty in omega (arith, z, waits)) e
-  step_taken d k n few there waits steps (some t) e = step_served d t (taken_from d.queues t e) k n few there waits steps
+  step_taken d k n few there waits steps (Some t) e = step_served d t (taken_from d.queues t e) k n few there waits steps
 
 served : (c : Console) (es : List Event) → Served c es
 unfolding steps_in carried_by desk_by step_of gathered

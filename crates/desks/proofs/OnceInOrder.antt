@@ -3,7 +3,7 @@ use Prim.Native.Nat.{ℕ}
 use mathlib.Core.Path.{◌≡◌, refl, sym, ap, ◌∙◌}
 use mathlib.Core.Bool.{Bool, true, false}
 use mathlib.Core.List.{List, [], ◌∷◌, ◌++◌, append-nil, append_assoc}
-use mathlib.Core.Option.{Option, none, some}
+use Rattle.std.specs.Prelude.{Option, None, Some}
 use borrow.Author.Tests.{eqb-true, eqb-false}
 use lib.Dec.{eqb}
 use Rattle.base.specs.Choice.{pick}
@@ -28,7 +28,7 @@ module _ (q : Queues) (t : Taken) (f : TakenFrom q t) (c : Console) where
   pub other_then : ¬ (console_number t.console ≡ console_number c) → queue_of c t.queues ≡ queue_of c q
   other_then unlike = rw (f.queues, queue_turn) (queue_other t.console c f.rest q unlike)
 
-  taken_once : taken_for c (some t) ++ queue_of c t.queues ≡ queue_of c q
+  taken_once : taken_for c (Some t) ++ queue_of c t.queues ≡ queue_of c q
   taken_once = go (eqb (console_number t.console) (console_number c)) refl
     where
       go : (s : Bool) → eqb (console_number t.console) (console_number c) ≡ s → pick s (t.waiting ∷ []) [] ++ queue_of c t.queues ≡ queue_of c q
@@ -39,8 +39,8 @@ module _ (q : Queues) (t : Taken) (f : TakenFrom q t) (c : Console) where
 
 -- one event
 step_once : (d : Desk) (c : Console) (x : Option Taken) → taken d.queues ≡ x → taken_for c x ++ queue_of c (step_with d x).desk.queues ≡ queue_of c d.queues
-step_once d c none e = refl
-step_once d c (some t) e = taken_once d.queues t (taken_from d.queues t e) c
+step_once d c None e = refl
+step_once d c (Some t) e = taken_once d.queues t (taken_from d.queues t e) c
 
 pub event_once :
     (d : Desk) (c : Console) (e : Event) → carried_by c d e ++ queue_of c (desk_by d e).queues ≡ queue_of c d.queues ++ accepted_by c d e

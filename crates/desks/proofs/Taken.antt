@@ -2,7 +2,7 @@
 use Prim.Native.Nat.{ℕ, suc, ◌+◌, ◌-◌, ◌≤◌, ◌<◌}
 use mathlib.Core.Path.{◌≡◌, refl, sym, ap, subst, ◌∙◌}
 use mathlib.Core.List.{List, [], ◌∷◌}
-use mathlib.Core.Option.{Option, none, some}
+use Rattle.std.specs.Prelude.{Option, None, Some}
 use native.Mathlib.Omega.{arith}
 use Rattle.base.specs.Search.{or_else, first}
 use Rattle.base.proofs.Search.{or_else_assoc, first_none, first_found, first_at, first_ended}
@@ -36,12 +36,12 @@ module _ (q : Queues) where
       let e = oldest_at q (next_to (next_to (next_to c))) in
       sym (or_else_assoc (or_else a b) d e ∙ or_else_assoc a b (or_else d e))
 
-  pub taken_none : ((c : Console) → queue_of c q ≡ []) → taken q ≡ none
+  pub taken_none : ((c : Console) → queue_of c q ≡ []) → taken q ≡ None
   taken_none empty = taken_first ∙ first_none 4 found (λ k l h. ap (λ (ws : List Waiting). oldest_of (at_place (k - 1)) ws q) (empty (at_place (k - 1))))
 
   pub taken_at :
       (n : ℕ) (w : Waiting) (ws : List Waiting) → n < 4 → ((m : ℕ) → m < n → queue_of (at_place m) q ≡ []) → queue_of (at_place n) q ≡ w ∷ ws
-      → taken q ≡ some (taken_of q (at_place n) w ws)
+      → taken q ≡ Some (taken_of q (at_place n) w ws)
   taken_at n w ws few before here =
       let place : n + 1 - 1 ≡ n = omega arith in
       taken_first
@@ -68,7 +68,7 @@ record Oldest (q : Queues) (c : Console) (ws : List Waiting) (t : Taken) : Type 
   console : t.console ≡ c
   queues : t.queues ≡ with_turn (next_to c) (with_queue c rest q)
 
-oldest_some : (q : Queues) (c : Console) (ws : List Waiting) (t : Taken) → oldest_of c ws q ≡ some t → Oldest q c ws t
+oldest_some : (q : Queues) (c : Console) (ws : List Waiting) (t : Taken) → oldest_of c ws q ≡ Some t → Oldest q c ws t
 oldest_some q c [] t e = absurd (let z : ◌≡◌ {A = ℕ} 0 1 = cc in omega arith)
 oldest_some q c (w ∷ ws) t e =
     let same : taken_of q c w ws ≡ t = cc in
@@ -79,11 +79,11 @@ oldest_some q c (w ∷ ws) t e =
       queues = sym (ap (λ (s : Taken). s.queues) same);
     }
 
-oldest_none : (q : Queues) (c : Console) (ws : List Waiting) → oldest_of c ws q ≡ none → ws ≡ []
+oldest_none : (q : Queues) (c : Console) (ws : List Waiting) → oldest_of c ws q ≡ None → ws ≡ []
 oldest_none q c [] e = refl
 oldest_none q c (w ∷ ws) e = absurd (let z : ◌≡◌ {A = ℕ} 0 1 = cc in omega arith)
 
-pub taken_from : (q : Queues) (t : Taken) → taken q ≡ some t → TakenFrom q t
+pub taken_from : (q : Queues) (t : Taken) → taken q ≡ Some t → TakenFrom q t
 taken_from q t e =
     let w = first_ended 4 (found q) t (sym (taken_first q) ∙ e) in
     let c = further (w.at - 1) q.turn in
@@ -102,7 +102,7 @@ taken_from q t e =
     }
 
 -- where a console has an edit, one is taken
-pub taken_some : {A : Type 0} (q : Queues) (c : Console) (n : ℕ) → n < 4 → further n q.turn ≡ c → ¬ (queue_of c q ≡ []) → taken q ≡ none → A
+pub taken_some : {A : Type 0} (q : Queues) (c : Console) (n : ℕ) → n < 4 → further n q.turn ≡ c → ¬ (queue_of c q ≡ []) → taken q ≡ None → A
 taken_some q c n few there some-wait e =
     let place : n + 1 - 1 ≡ n = omega arith in
     let none_here = rw (place, there) at (first_at 4 (found q) (sym (taken_first q) ∙ e) (n + 1) (omega arith) (omega arith)) in

@@ -12,8 +12,7 @@ use Rattle.base.proofs.Bytes.{length_bytes, number_bytes_lem}
 use Rattle.base.specs.Bytes.{bytes_of, number_of}
 use Rattle.rules.specs.District.{District, value_at, district_places}
 use Rattle.rules.specs.File.{found, size, read_numbers, read_record, read_records, decode_as, decode, number_bytes, record_bytes, records_bytes, encode_as, form_of, encode, in_range}
-use Rattle.rules.specs.Format.{slot_of, present, field_at, inside, file_records}
-use Rattle.rules.specs.declared.Slot.{Slot}
+use Rattle.rules.specs.Format.{slot_of, present, field_at, inside, file_records, Slot}
 use Rattle.grammar.specs.Places.{Form, Suits, start_of, Ready, InRange}
 use Rattle.grammar.proofs.Forms.{form_range, form_fits}
 use Rattle.grammar.proofs.Slots.{form_all, slot_all, start_next, ready}

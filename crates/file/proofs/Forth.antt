@@ -19,8 +19,7 @@ use Rattle.rules.specs.Calls.{load_refusal_of, load_refusal, loaded_of, district
 use Rattle.rules.specs.Demands.{led_by_none}
 use Rattle.rules.specs.District.{District, value_at, district_places}
 use Rattle.rules.specs.File.{Read, refused, found, value, widths, size, read_numbers, read_record, read_records, decode_as, form_in, decode, number_bytes, header_bytes, record_bytes, records_bytes, encode_as, leaderless, encode, in_range}
-use Rattle.rules.specs.Format.{leader_form, slot_of, present, field_at, inside, file_records}
-use Rattle.rules.specs.declared.Slot.{Slot}
+use Rattle.rules.specs.Format.{leader_form, slot_of, present, field_at, inside, file_records, Slot}
 use Rattle.grammar.specs.Places.{Form, Suits, start_of, Ready}
 use Rattle.grammar.proofs.Forms.{range_form}
 use Rattle.grammar.proofs.Slots.{start_next, ready}

@@ -12,9 +12,8 @@ use Rattle.base.specs.Choice.{pick}
 use Rattle.base.specs.Over.{all}
 use Rattle.rules.specs.District.{District, greatest_of, leader_of, with_leader, most_resources, most_distresses, most_segments, strategies_at, segments_at, bars_at, per_segment}
 use Rattle.rules.specs.File.{widths, size, header_bytes, record_bytes, records_bytes, encode_as, leaderless, form_of, encode, numbers_in_range, records_in_range, in_range, longest_file}
-use Rattle.rules.specs.Format.{plain_form, leader_form, number, absent, ranged, slot_of, present, kind_field, field_at, file_records, most_counts}
+use Rattle.rules.specs.Format.{plain_form, leader_form, number, absent, ranged, slot_of, present, kind_field, field_at, file_records, most_counts, Slot}
 use Rattle.rules.specs.declared.Field.{Field}
-use Rattle.rules.specs.declared.Slot.{Slot}
 use Rattle.grammar.specs.Places.{Form, InRange}
 use Rattle.grammar.proofs.InRange.{in_range_lem}
 use Rattle.grammar.proofs.InRanges.{segments, strategies, years, distresses, pavements, resources}

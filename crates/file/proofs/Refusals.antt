@@ -8,13 +8,11 @@ use borrow.Author.Tests.{le-leb, lt-leb}
 use lib.ListN.{length, take, drop, replicate}
 use Rattle.base.proofs.Choice.{pick_all}
 use Rattle.base.specs.Bytes.{number_of}
-use Rattle.rules.specs.Answers.{unless, answer_of, accepting, cut_short, other_kind, other_length, out_of_range, bytes_follow}
+use Rattle.rules.specs.Answers.{unless, answer_of, accepting, cut_short, other_kind, other_length, out_of_range, bytes_follow, Accepted, Refused}
 use Rattle.rules.specs.Calls.{load_refusal_of, load_refusal, loaded_of, district_in, exported}
 use Rattle.rules.specs.District.{District, district_places}
 use Rattle.rules.specs.File.{Read, refused, found, value, size, read_numbers, kind_in, read_record, and_then, read_records, decode_as, form_in, decode}
-use Rattle.rules.specs.Format.{present, field_at, inside, slot_of, file_records}
-use Rattle.rules.specs.declared.Answer.TheVariants.{Accepted, Refused}
-use Rattle.rules.specs.declared.Slot.{Slot}
+use Rattle.rules.specs.Format.{present, field_at, inside, slot_of, file_records, Slot}
 use Rattle.file.specs.Forms.{loaded_as}
 use Rattle.file.specs.Readings.{loaded_from}
 

@@ -13,9 +13,8 @@ use Rattle.base.proofs.Choice.{picks, pick_yes, pick_no, pick_all}
 use Rattle.base.specs.Bytes.{bytes_of, number_of}
 use Rattle.rules.specs.District.{District}
 use Rattle.rules.specs.File.{refused, found, value, widths, size, read_numbers, kind_in, read_record, read_records, number_bytes, header_bytes, record_bytes, records_bytes, numbers_in_range, records_in_range}
-use Rattle.rules.specs.Format.{leader_form, present, field_at, inside, slot_of, file_records}
+use Rattle.rules.specs.Format.{leader_form, present, field_at, inside, slot_of, file_records, Slot}
 use Rattle.rules.specs.declared.Field.{Field}
-use Rattle.rules.specs.declared.Slot.{Slot}
 use Rattle.rules.specs.Answers.{out_of_range, bytes_follow}
 use Rattle.grammar.specs.Places.{Ready}
 use Rattle.grammar.proofs.Slots.{width_small, few_places}

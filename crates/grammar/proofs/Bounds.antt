@@ -12,9 +12,8 @@ use Rattle.base.specs.Over.{between}
 use Rattle.base.proofs.Choice.{pick_yes, pick_all, and_yes, and_both, or_either}
 use Rattle.base.specs.Bytes.{signed}
 use Rattle.rules.specs.District.{District, most_distresses, length_at, width_at, bars_at, ratings_at, leader_at, distresses_of, greatest_of}
-use Rattle.rules.specs.Format.{number, absent, ranged, inside, rating_field, segment_field}
+use Rattle.rules.specs.Format.{number, absent, ranged, inside, rating_field, segment_field, Slot}
 use Rattle.rules.specs.declared.Field.{Field}
-use Rattle.rules.specs.declared.Slot.{Slot}
 
 -- a field whose range does not run past the largest number, and lies from a to b
 pub record Between (a b : ℕ) (f : Field) : Type 0 where

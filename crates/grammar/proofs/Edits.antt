@@ -16,10 +16,9 @@ use Rattle.rules.specs.Answers.{no_such_segment, no_such_number, new_out_of_rang
 use Rattle.rules.specs.Calls.{bar_refusal, limit_refusal, rating_refusal, leader_refusal, edit_refusal, edited}
 use Rattle.rules.specs.District.{District, count_places, limit_place, greatest_at, greatest_place, strategies_at, bars_at, ratings_at, leader_at, per_segment, value_at, segment_place, bars_place, rating_place, leader_place, segments_of, strategies_of, distresses_of, resources_of, bars_of, greatest_of, with_limit, with_bar, without_bar, with_rating, with_leader}
 use Rattle.rules.specs.File.{in_range}
-use Rattle.rules.specs.Format.{leader_form, inside, slot, slot_of, first_segment_record, file_records, limit_field, rating_field, segment_field, field_at}
+use Rattle.rules.specs.Format.{leader_form, inside, slot, slot_of, first_segment_record, file_records, limit_field, rating_field, segment_field, field_at, Slot}
 use Rattle.rules.specs.declared.Edit.{Edit}
 use Rattle.rules.specs.declared.Edit.TheVariants.{Bar, Unbar, SetLimit, SetRating, SetLeader}
-use Rattle.rules.specs.declared.Slot.{Slot}
 use Rattle.grammar.specs.Places.{start_of, InRange}
 use Rattle.grammar.proofs.Bounds.{inside_number, segment_rating}
 use Rattle.grammar.proofs.InRange.{in_range_lem, range_in}

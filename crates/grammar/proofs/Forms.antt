@@ -11,9 +11,8 @@ use Rattle.base.proofs.Choice.{pick_all}
 use Rattle.base.specs.Choice.{pick}
 use Rattle.rules.specs.District.{District, most_segments, most_strategies, most_pavements, leader_at, per_segment, value_at, leader_place, segments_of, leader_of}
 use Rattle.rules.specs.File.{leaderless, in_range}
-use Rattle.rules.specs.Format.{plain_form, leader_form, number, absent, inside, slot_of, first_strategy_record, first_pavement_record, first_segment_record, last_record, file_records, field_at}
+use Rattle.rules.specs.Format.{plain_form, leader_form, number, absent, inside, slot_of, first_strategy_record, first_pavement_record, first_segment_record, last_record, file_records, field_at, Slot}
 use Rattle.rules.specs.declared.Field.{Field}
-use Rattle.rules.specs.declared.Slot.{Slot}
 use Rattle.grammar.specs.Places.{Form, Suits, start_of, InRange}
 use Rattle.grammar.proofs.Bounds.{inside_number, absent_zero}
 use Rattle.grammar.proofs.Fits.{value_fits}

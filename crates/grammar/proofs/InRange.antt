@@ -11,9 +11,8 @@ use lib.Seq.{get_or-drop, drop-drop}
 use borrow.Author.Tests.{eqb-true, eq-eqb}
 use Rattle.base.proofs.Choice.{and_both, and_yes}
 use Rattle.rules.specs.District.{District, value_at, district_places}
-use Rattle.rules.specs.Format.{leader_form, slot_of, file_records, field_at, inside}
+use Rattle.rules.specs.Format.{leader_form, slot_of, file_records, field_at, inside, Slot}
 use Rattle.rules.specs.File.{numbers_in_range, records_in_range, in_range}
-use Rattle.rules.specs.declared.Slot.{Slot}
 use Rattle.grammar.specs.Places.{start_of, InRange}
 use Rattle.grammar.proofs.Slots.{start_next}
 

@@ -12,9 +12,8 @@ use Rattle.base.proofs.Choice.{pick_all}
 use Rattle.base.specs.Bytes.{signed}
 use Rattle.base.specs.Choice.{pick}
 use Rattle.rules.specs.District.{District, most_segments, most_strategies, most_years, most_distresses, most_pavements, most_resources, count_places, gains_at, percents_at, per_strategy, minima_at, per_pavement, traffic_at, environment_at, length_at, width_at, bars_at, ratings_at, leader_at, per_segment, value_at, strategy_place, pavement_place, segment_place, segments_of, strategies_of, years_of, distresses_of, pavements_of, resources_of, limit_of, greatest_of, requirement_of, gain_of, percent_of, overall_of, minimum_of, pavement_of, traffic_of, environment_of, length_of, width_of, bars_of, rating_of, leader_of}
-use Rattle.rules.specs.Format.{leader_form, number, absent, inside, slot, first_strategy_record, first_pavement_record, first_segment_record, present, limit_field, greatest_field, rows_field, strategy_field, pavement_field, segment_field, kind_field, field_at}
+use Rattle.rules.specs.Format.{leader_form, number, absent, inside, slot, first_strategy_record, first_pavement_record, first_segment_record, present, limit_field, greatest_field, rows_field, strategy_field, pavement_field, segment_field, kind_field, field_at, Slot}
 use Rattle.rules.specs.File.{in_range}
-use Rattle.rules.specs.declared.Slot.{Slot}
 use Rattle.rules.specs.declared.Field.{Field}
 use Rattle.grammar.specs.Places.{InRange}
 use Rattle.grammar.specs.Ranges.{Ranges}

@@ -13,9 +13,8 @@ use borrow.Author.Tests.{lt-ltb, le-ltb, ltb-true, ne_eqb, eqb-true}
 use Rattle.base.proofs.Choice.{pick_all}
 use Rattle.base.specs.Choice.{pick}
 use Rattle.rules.specs.District.{District, most_strategies, most_distresses, most_pavements, most_segments, most_resources, count_places, greatest_place, strategies_at, per_strategy, pavements_at, per_pavement, segments_at, per_segment, district_places, ratings_at, leader_at, greatest_of}
-use Rattle.rules.specs.Format.{plain_form, leader_form, number, absent, slot, slot_of, first_strategy_record, first_pavement_record, first_segment_record, last_record, file_records, most_places, present, kind_field, field_at}
+use Rattle.rules.specs.Format.{plain_form, leader_form, number, absent, slot, slot_of, first_strategy_record, first_pavement_record, first_segment_record, last_record, file_records, most_places, present, kind_field, field_at, Slot}
 use Rattle.rules.specs.declared.Field.{Field}
-use Rattle.rules.specs.declared.Slot.{Slot}
 use Rattle.grammar.specs.Places.{Form, start_of, Ready}
 
 -- what holds of both forms holds of each

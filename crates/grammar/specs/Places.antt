@@ -2,8 +2,7 @@
 use Rattle.std.specs.Prelude.{ℕ, zero, suc, ◌+◌, ◌≤◌, ◌<◌, ◌≡◌, true, ◌⊎◌, length, take}
 use Rattle.rules.specs.District.{District, value_at, district_places}
 use Rattle.rules.specs.File.{leaderless}
-use Rattle.rules.specs.Format.{plain_form, leader_form, slot_of, file_records, most_places, present, field_at, inside}
-use Rattle.rules.specs.declared.Slot.{Slot}
+use Rattle.rules.specs.Format.{plain_form, leader_form, slot_of, file_records, most_places, present, field_at, inside, Slot}
 
 -- there are two forms
 abbrev pub Form : ℕ → Type 0

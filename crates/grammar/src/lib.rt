@@ -4,9 +4,8 @@
 
 ghost use Rattle.std.specs.Prelude.{◌≡◌, List, ℕ, ◌<◌, ◌-◌, ◌^◌, min};
 ghost use Rattle.base.specs.Choice.{pick};
-ghost use Rattle.rules.specs.Format.{number, absent, inside, slot, slot_of, present, count_field, limit_field, greatest_field, rows_field, strategy_field, pavement_field, rating_field, leader_field, segment_field, kind_field, field_at};
+ghost use Rattle.rules.specs.Format.{number, absent, inside, slot, slot_of, present, count_field, limit_field, greatest_field, rows_field, strategy_field, pavement_field, rating_field, leader_field, segment_field, kind_field, field_at, Slot as Record};
 ghost use Rattle.rules.specs.District.{most_distresses, bars_at, pavements_of};
-ghost use Rattle.rules.specs.declared.Slot.{Slot as Record};
 
 use rules::{District, Field, Slot, places, records};
 

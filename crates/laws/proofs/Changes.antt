@@ -4,7 +4,7 @@ use mathlib.Core.Path.{◌≡◌, refl, ap, subst}
 use mathlib.Core.Bool.{Bool, true, false, not, ◌&&◌, ◌||◌}
 use mathlib.Core.List.{List}
 use mathlib.Core.Logic.{inl, inr}
-use mathlib.Core.Option.{Option, none, some}
+use Rattle.std.specs.Prelude.{Option, None, Some}
 use native.Mathlib.Omega.{arith}
 use borrow.Author.Tests.{ltb-true, ltb-false, eqb-true, eqb-false}
 use lib.Dec.{ltb, eqb}
@@ -43,12 +43,12 @@ module _ (t : Table) (leader : ℕ → ℕ) (c : List ℕ) where
       go true e ok = inl (eqb-true j 0 e)
       go false e ok = inr (let z = eqb-false j 0 e in omega arith, s, candidate_worth t i j ok)
 
-  strategy_some : (f : ℕ → Option (List ℕ)) → ((a : ℕ) → a ≤ t.strategies → (e : List ℕ) → f a ≡ some e → Counted e) → (e : List ℕ) → first_strategy t f ≡ some e → Counted e
+  strategy_some : (f : ℕ → Option (List ℕ)) → ((a : ℕ) → a ≤ t.strategies → (e : List ℕ) → f a ≡ Some e → Counted e) → (e : List ℕ) → first_strategy t f ≡ Some e → Counted e
   unfolding first_strategy
   strategy_some f each e q =
       or_else_some Counted (f 0) (first t.strategies f) (each 0 (omega arith)) (first_some Counted t.strategies f (λ a l h. each a h)) q
 
-  single_some : (i a : ℕ) → 1 ≤ i → i ≤ t.segments → a ≤ t.strategies → (e : List ℕ) → single t leader c i a ≡ some e → Counted e
+  single_some : (i a : ℕ) → 1 ≤ i → i ≤ t.segments → a ≤ t.strategies → (e : List ℕ) → single t leader c i a ≡ Some e → Counted e
   unfolding single
   single_some i a l h s e q =
       let w = only_some (another t c i a && counts t leader c (give c i a)) q in
@@ -56,7 +56,7 @@ module _ (t : Table) (leader : ℕ → ℕ) (c : List ℕ) where
       let g = give_gives t c i a l h (another_allowed i a s x.0) in
       subst Counted w.1 (record { changed = one i a l h s; counted = x.1; gives = g })
 
-  pair_some : (i k a b : ℕ) → 1 ≤ i → i < k → k ≤ t.segments → a ≤ t.strategies → b ≤ t.strategies → (e : List ℕ) → pair t leader c i k a b ≡ some e → Counted e
+  pair_some : (i k a b : ℕ) → 1 ≤ i → i < k → k ≤ t.segments → a ≤ t.strategies → b ≤ t.strategies → (e : List ℕ) → pair t leader c i k a b ≡ Some e → Counted e
   unfolding pair
   pair_some i k a b l m h s v e q =
       let d = give (give c i a) k b in
@@ -67,11 +67,11 @@ module _ (t : Table) (leader : ℕ → ℕ) (c : List ℕ) where
       let f = give_gives t (give c i a) k b (omega arith) h (another_allowed k b v y.0) in
       subst Counted w.1 (record { changed = two i k a b l m h s v; counted = y.1; gives = gives_then t c (give c i a) d g f })
 
-  pick_some : (x : Bool) (f : Option (List ℕ)) (e : List ℕ) → (x ≡ true → f ≡ some e → Counted e) → pick x f none ≡ some e → Counted e
+  pick_some : (x : Bool) (f : Option (List ℕ)) (e : List ℕ) → (x ≡ true → f ≡ Some e → Counted e) → pick x f None ≡ Some e → Counted e
   pick_some true f e h q = h refl q
   pick_some false f e h q = absurd (let n : ◌≡◌ {A = ℕ} 0 1 = cc in omega arith)
 
-  pub change_some : (e : List ℕ) → change t leader c ≡ some e → Counted e
+  pub change_some : (e : List ℕ) → change t leader c ≡ Some e → Counted e
   unfolding change first_single singles_of first_pair pairs_from pairs_of pairs_with
   change_some e q =
       or_else_some Counted (first_single t leader c) (first_pair t leader c)
@@ -95,17 +95,17 @@ module _ (t : Table) (leader : ℕ → ℕ) (c : List ℕ) where
       let y = and_both (within t e) (respects leader t.segments e) x.1 in
       (ltb-true (total t c) (total t e) x.0, y.0, y.1)
 
-  pub change_rises : (e : List ℕ) → change t leader c ≡ some e → total t c < total t e
+  pub change_rises : (e : List ℕ) → change t leader c ≡ Some e → total t c < total t e
   change_rises e q = (counted_is e (change_some e q).counted).0
 
-  pub change_within : (e : List ℕ) → change t leader c ≡ some e → within t e ≡ true
+  pub change_within : (e : List ℕ) → change t leader c ≡ Some e → within t e ≡ true
   change_within e q = (counted_is e (change_some e q).counted).1
 
-  pub change_respects : (e : List ℕ) → change t leader c ≡ some e → respects leader t.segments e ≡ true
+  pub change_respects : (e : List ℕ) → change t leader c ≡ Some e → respects leader t.segments e ≡ true
   change_respects e q = (counted_is e (change_some e q).counted).2
 
   -- strategy numbers stay within the table's
-  pub change_numbers : (e : List ℕ) → change t leader c ≡ some e → ((k : ℕ) → strategy_at c k ≤ t.strategies) → (k : ℕ) → strategy_at e k ≤ t.strategies
+  pub change_numbers : (e : List ℕ) → change t leader c ≡ Some e → ((k : ℕ) → strategy_at c k ≤ t.strategies) → (k : ℕ) → strategy_at e k ≤ t.strategies
   change_numbers e q before = go e (change_some e q).changed
     where
       go : (e : List ℕ) → Changed e → (k : ℕ) → strategy_at e k ≤ t.strategies

@@ -4,7 +4,7 @@ use mathlib.Core.Path.{◌≡◌, refl, ap, subst, ◌∙◌}
 use mathlib.Core.Bool.{true, ◌&&◌}
 use mathlib.Core.List.{List}
 use mathlib.Core.Logic.{inr}
-use mathlib.Core.Option.{some}
+use Rattle.std.specs.Prelude.{Some}
 use native.Mathlib.Omega.{arith}
 use borrow.Author.Tests.{ltb-true, eqb-true, eq-eqb, ne_eqb}
 use lib.Dec.{ltb, eqb}
@@ -75,30 +75,30 @@ module _ (t : Table) (leader : ℕ → ℕ) where
       }
 
   -- a pick-up, of whatever segment and candidate
-  pub picked : (P : List ℕ → Type 0) (c : List ℕ) → ((i j : ℕ) → Fitting c i j → P (give c i j)) → (e : List ℕ) → pick_up t leader c ≡ some e → P e
+  pub picked : (P : List ℕ → Type 0) (c : List ℕ) → ((i j : ℕ) → Fitting c i j → P (give c i j)) → (e : List ℕ) → pick_up t leader c ≡ Some e → P e
   unfolding pick_up picked_up
   picked P c each e found = go (best_offer t leader c) refl found
     where
-      go : (i : ℕ) → best_offer t leader c ≡ i → picked_up t c i ≡ some e → P e
+      go : (i : ℕ) → best_offer t leader c ≡ i → picked_up t c i ≡ Some e → P e
       go zero is f = absurd (let z : ◌≡◌ {A = ℕ} 0 1 = cc in omega arith)
       go (suc i) is f =
           let same : give c (suc i) (offer t c (suc i)) ≡ e = cc in
           subst P same (each (suc i) (offer t c (suc i)) (best_fits c (suc i) is (omega arith)))
 
-  pub pick_up_holds : (c e : List ℕ) → pick_up t leader c ≡ some e → within t e ≡ true
+  pub pick_up_holds : (c e : List ℕ) → pick_up t leader c ≡ Some e → within t e ≡ true
   pick_up_holds c = picked (λ e. within t e ≡ true) c (λ i j f. f.holds)
 
-  pub pick_up_gives : (c e : List ℕ) → pick_up t leader c ≡ some e → Gives t c e
+  pub pick_up_gives : (c e : List ℕ) → pick_up t leader c ≡ Some e → Gives t c e
   pick_up_gives c = picked (Gives t c) c (λ i j f. give_gives t c i j f.some_segment f.segment (inr (f.some_strategy, f.strategy, f.candidate)))
 
   pub pick_up_respects :
-      (c e : List ℕ) → pick_up t leader c ≡ some e → Room t c → respects leader t.segments c ≡ true → respects leader t.segments e ≡ true
+      (c e : List ℕ) → pick_up t leader c ≡ Some e → Room t c → respects leader t.segments c ≡ true → respects leader t.segments e ≡ true
   pick_up_respects c e found room before =
       picked (λ e. respects leader t.segments e ≡ true) c
       (λ i j f. give_respects leader t.segments c i j f.some_segment (omega (arith, f.segment)) f.some_strategy f.may before) e found
 
   pub pick_up_rises :
-      ((i : ℕ) → 1 ≤ i → i ≤ t.segments → t.benefit i 0 ≡ 0) → (c e : List ℕ) → pick_up t leader c ≡ some e → Room t c → total t c < total t e
+      ((i : ℕ) → 1 ≤ i → i ≤ t.segments → t.benefit i 0 ≡ 0) → (c e : List ℕ) → pick_up t leader c ≡ Some e → Room t c → total t c < total t e
   unfolding chosen_benefit
   pick_up_rises nothing c e found room = picked (λ e. total t c < total t e) c rises e found
     where
@@ -109,7 +109,7 @@ module _ (t : Table) (leader : ℕ → ℕ) where
 
   -- ---- each segment is picked up at most once
 
-  pub pick_up_falls : (c e : List ℕ) → pick_up t leader c ≡ some e → Room t c → vacancies t e < vacancies t c
+  pub pick_up_falls : (c e : List ℕ) → pick_up t leader c ≡ Some e → Room t c → vacancies t e < vacancies t c
   pick_up_falls c e found room = picked (λ e. vacancies t e < vacancies t c) c fewer e found
     where
       fewer : (i j : ℕ) → Fitting c i j → vacancies t (give c i j) < vacancies t c

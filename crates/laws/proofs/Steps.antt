@@ -4,7 +4,7 @@ use mathlib.Core.Path.{◌≡◌, refl, ap, subst, ◌∙◌}
 use mathlib.Core.Bool.{Bool, true, false}
 use mathlib.Core.List.{List}
 use mathlib.Core.Logic.{inl, inr}
-use mathlib.Core.Option.{Option, none, some}
+use Rattle.std.specs.Prelude.{Option, None, Some}
 use native.Mathlib.Omega.{arith}
 use borrow.Author.Tests.{ltb-true}
 use Rattle.base.specs.Over.{best}
@@ -18,7 +18,7 @@ use Rattle.laws.specs.Tables.{LowerLeaders, Allowed, OfCandidates}
 use Rattle.laws.proofs.Gives.{Gives, give_gives, gives_then, gives_candidates}
 use Rattle.laws.proofs.Leaders.{pruned_gives, pruned_respects}
 
-pub no_step : {d : List ℕ} → none ≡ some d → ⊥
+pub no_step : {d : List ℕ} → None ≡ Some d → ⊥
 no_step e = let z : ◌≡◌ {A = ℕ} 0 1 = cc in omega arith
 
 module _ (t : Table) where
@@ -71,22 +71,22 @@ module _ (t : Table) (leader : ℕ → ℕ) where
   abbrev pub stepped : List ℕ → ℕ → List ℕ
   stepped c i = pruned leader t.segments (moved c i)
 
-  pub step_within : (c : List ℕ) → within t c ≡ true → step t leader c ≡ none
+  pub step_within : (c : List ℕ) → within t c ≡ true → step t leader c ≡ None
   unfolding step
   step_within c e = rw e
 
-  pub step_nobody : (c : List ℕ) → within t c ≡ false → weakest t c ≡ 0 → step t leader c ≡ none
+  pub step_nobody : (c : List ℕ) → within t c ≡ false → weakest t c ≡ 0 → step t leader c ≡ None
   unfolding step step_down
   step_nobody c e w = rw (e, w)
 
-  pub step_some : (c : List ℕ) → within t c ≡ false → (i : ℕ) → weakest t c ≡ i → 1 ≤ i → step t leader c ≡ some (stepped c i)
+  pub step_some : (c : List ℕ) → within t c ≡ false → (i : ℕ) → weakest t c ≡ i → 1 ≤ i → step t leader c ≡ Some (stepped c i)
   unfolding step step_down
   step_some c e zero w l = absurd (omega arith)
   step_some c e (suc i) w l = rw (e, w)
 
   -- the ways to go on
-  pub step_cases : (c : List ℕ) (P : Option (List ℕ) → Type 0) → (within t c ≡ true → P none) → (within t c ≡ false → weakest t c ≡ 0 → P none)
-      → ((i : ℕ) → weakest t c ≡ i → 1 ≤ i → i ≤ t.segments → P (some (stepped c i))) → P (step t leader c)
+  pub step_cases : (c : List ℕ) (P : Option (List ℕ) → Type 0) → (within t c ≡ true → P None) → (within t c ≡ false → weakest t c ≡ 0 → P None)
+      → ((i : ℕ) → weakest t c ≡ i → 1 ≤ i → i ≤ t.segments → P (Some (stepped c i))) → P (step t leader c)
   step_cases c P done nobody moves = known (within t c) refl (weakest t c) refl
     where
       known : (v : Bool) → within t c ≡ v → (i : ℕ) → weakest t c ≡ i → P (step t leader c)
@@ -99,15 +99,15 @@ module _ (t : Table) (leader : ℕ → ℕ) where
       gives_then t c (moved c i) (stepped c i) (give_gives t c i (next_candidate t i (strategy_at c i)) l h (next_allowed t i (strategy_at c i)))
       (pruned_gives leader t t.segments (moved c i) (omega arith))
 
-  pub step_gives : (c d : List ℕ) → step t leader c ≡ some d → Gives t c d
+  pub step_gives : (c d : List ℕ) → step t leader c ≡ Some d → Gives t c d
   step_gives c d e =
-      step_cases c (λ x. x ≡ some d → Gives t c d) (λ w n. absurd (no_step n)) (λ w z n. absurd (no_step n))
+      step_cases c (λ x. x ≡ Some d → Gives t c d) (λ w n. absurd (no_step n)) (λ w z n. absurd (no_step n))
       (λ i w l h q. let is : stepped c i ≡ d = cc in subst (Gives t c) is (stepped_gives c i l h)) e
 
-  pub step_allowed : (c d : List ℕ) → step t leader c ≡ some d → OfCandidates t c → OfCandidates t d
+  pub step_allowed : (c d : List ℕ) → step t leader c ≡ Some d → OfCandidates t c → OfCandidates t d
   step_allowed c d e = gives_candidates t c d (step_gives c d e)
 
-  pub step_respects : LowerLeaders leader t.segments → (c d : List ℕ) → step t leader c ≡ some d → respects leader t.segments d ≡ true
+  pub step_respects : LowerLeaders leader t.segments → (c d : List ℕ) → step t leader c ≡ Some d → respects leader t.segments d ≡ true
   step_respects lower c d e =
-      step_cases c (λ x. x ≡ some d → respects leader t.segments d ≡ true) (λ w n. absurd (no_step n)) (λ w z n. absurd (no_step n))
+      step_cases c (λ x. x ≡ Some d → respects leader t.segments d ≡ true) (λ w n. absurd (no_step n)) (λ w z n. absurd (no_step n))
       (λ i w l h q. let is : stepped c i ≡ d = cc in rw (← is) (pruned_respects leader t.segments (moved c i) lower)) e

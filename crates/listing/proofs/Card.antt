@@ -4,9 +4,9 @@ use mathlib.Core.Path.{◌≡◌, refl}
 use lib.ListN.{replicate}
 use Rattle.base.specs.Text.{text, digits_of, decimal}
 use Rattle.rules.specs.declared.Programme.{Programme}
-use Rattle.rules.specs.declared.Answer.TheVariants.{Accepted, Refused}
-use Rattle.rules.specs.declared.Roughness.TheVariants as Roughness
+use Rattle.rules.specs.Answers.{Accepted, Refused}
 use Rattle.listing.specs.Listing.{named, ended, line, lines_from, segment_line, steps_line, results, listing, pair_line, refusal, done, carried, stepped, valued, told, failed}
+use Rattle.rules.specs.Meter.{points_at}
 
 pub card : Programme
 card =
@@ -33,8 +33,8 @@ pub answers_said : (done (Accepted 0) ≡ text "ok\n")
     × (stepped 2 (Refused 14) ≡ text "console 2 refused 14\n")
     × (valued (text "ok ") (Accepted 87) ≡ text "ok 87\n")
     × (valued (text "points ") (Refused 10) ≡ text "refused 10\n")
-    × (told (Roughness.Points 20 4290847557) ≡ text "points 20 marker 4290847557\n")
-    × (told (Roughness.Refused 13) ≡ text "refused 13\n")
+    × (told (Accepted (points_at 20 4290847557)) ≡ text "points 20 marker 4290847557\n")
+    × (told (Refused 13) ≡ text "refused 13\n")
     × (failed (text "cannot open ") (text "a b") ≡ text "cannot open a b\n")
     × (decimal 18446744073709551615 ≡ text "18446744073709551615")
 unfolding text digits_of decimal named ended line pair_line refusal done carried stepped valued told failed

@@ -7,8 +7,7 @@ use Rattle.base.specs.Text.{text, most_digits, decimal}
 use Rattle.base.proofs.Text.{decimal_few}
 use Rattle.rules.specs.District.{most_segments}
 use Rattle.rules.specs.declared.Programme.{Programme}
-use Rattle.rules.specs.declared.Answer.{Answer}
-use Rattle.rules.specs.declared.Answer.TheVariants.{Accepted, Refused}
+use Rattle.rules.specs.Answers.{Answer, Accepted, Refused}
 use Rattle.listing.specs.Listing.{named, ended, line, segment_line, strategy_line, segment_lines, steps_line, results, listing, refusal, done, carried, pair_line, over_line, longest_line_of, longest_pair_of, longest_refusal, longest_stepped, longest_reason, longest_segment_line, longest_steps_line, longest_listing}
 use Rattle.listing.proofs.Lines.{lines_few}
 

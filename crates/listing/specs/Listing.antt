@@ -5,14 +5,11 @@ use Rattle.base.specs.Text.{text, most_digits, decimal}
 use Rattle.rules.specs.District.{most_segments, segments_of}
 use Rattle.rules.specs.declared.Unit.{Unit}
 use Rattle.rules.specs.declared.Programme.{Programme}
-use Rattle.rules.specs.declared.Answer.{Answer}
-use Rattle.rules.specs.declared.Answer.TheVariants.{Accepted, Refused}
+use Rattle.rules.specs.Answers.{Answer, Accepted, Refused, Answered}
 use Rattle.rules.specs.declared.Reason.{Reason}
 use Rattle.rules.specs.declared.Reason.TheVariants.{InProgramme, Barred, MinimumMissed, OverallMissed, NoBenefit, LeaderHasNothing, OverAlone, OverBeside, NoGreaterTotal}
+use Rattle.rules.specs.Calls.{Why}
 use Rattle.rules.specs.declared.Roughness.{Roughness}
-use Rattle.rules.specs.declared.Roughness.TheVariants.{Points}
-use Rattle.rules.specs.declared.Why.{Why}
-use Rattle.rules.specs.declared.Why.TheVariants.{Because}
 
 -- a word and a number, the same with an end behind them, and as a line
 unfoldable pub named : List ℕ → ℕ → List ℕ
@@ -108,13 +105,13 @@ reason_line (OverBeside r) = over_line r (text " beside the others\n")
 reason_line NoGreaterTotal = text "fits, but the total would be no greater\n"
 
 unfoldable pub explained : Why → List ℕ
-explained (Because reason) = reason_line reason
-explained (Why.Refused n) = refusal n
+explained (Accepted reason) = reason_line reason
+explained (Refused n) = refusal n
 
 -- roughness: the points, and the bits of the last marker
-unfoldable pub told : Roughness → List ℕ
-told (Points p bits) = pair_line (text "points ") p (text " marker ") bits
-told (Roughness.Refused n) = refusal n
+unfoldable pub told : Answered Roughness → List ℕ
+told (Accepted r) = pair_line (text "points ") r.points (text " marker ") r.marker
+told (Refused n) = refusal n
 
 -- what could not be done, and with which file
 unfoldable pub failed : List ℕ → List ℕ → List ℕ

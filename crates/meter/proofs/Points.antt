@@ -2,9 +2,8 @@
 use Rattle.std.proofs.Common.{◌≡◌, ℕ, ◌*◌, ◌/◌, ◌<◌, ◌≤◌, true, false, List, length, ◌∙◌, mul-div_cancel, arith, le-leb}
 use lib.Ieee.Exact.{HasValue}
 use borrow.Author.Tests.{lt-leb}
-use Rattle.rules.specs.Answers.{window_empty}
-use Rattle.rules.specs.Meter.{Heard, window_of, sum_of, mean_reaches, mays_points, roughness_refusal, points_unless, roughness_of}
-use Rattle.rules.specs.declared.Roughness.TheVariants.{Points, Refused}
+use Rattle.rules.specs.Answers.{window_empty, Accepted, Refused}
+use Rattle.rules.specs.Meter.{Heard, window_of, sum_of, mean_reaches, mays_points, roughness_refusal, points_unless, roughness_of, points_at}
 use Rattle.meter.specs.Window.{Holds}
 use Rattle.meter.specs.declared.Window.{Window}
 use Rattle.meter.proofs.Windows.{sum_most}
@@ -32,6 +31,6 @@ module _ (w : Window) (h : Heard) (H : Holds w h) where
   unfolding roughness_of roughness_refusal points_unless
   no_points e = rw (lt-leb 1 (length (window_of h)) (let q = H.count in omega arith))
 
-  pub some_points : (w.count ≡ 0 → ⊥) → (p : ℕ) → p ≡ mays_points (window_of h) → Points p w.bits ≡ roughness_of h
+  pub some_points : (w.count ≡ 0 → ⊥) → (p : ℕ) → p ≡ mays_points (window_of h) → Accepted (points_at p w.bits) ≡ roughness_of h
   unfolding roughness_of roughness_refusal points_unless
   some_points n p e = rw (le-leb 1 (length (window_of h)) (let q = H.count in omega arith)) (let b = H.bits in cc)

@@ -2,9 +2,8 @@
 use Rattle.std.proofs.Common.{◌≡◌, ℕ, zero, suc, ◌+◌, ◌-◌, ◌*◌, ◌%◌, ◌<◌, ◌≤◌, min, true, false, List, [], ◌∷◌, length, get_or, take, set, replicate, sym, refl, ◌∙◌, subst, mod-lt, arith, length-set, length-take, get_or-set_other, get_or-set_same}
 use lib.ListN.{length-replicate, get_or-replicate}
 use lib.Ieee.{Float, nan, binary32, add, sub, of_bits}
-use Rattle.rules.specs.Answers.{no_reading, answer_of, accepting}
+use Rattle.rules.specs.Answers.{no_reading, answer_of, accepting, Accepted, Refused}
 use Rattle.rules.specs.Meter.{Heard, is_reading, reading_of, sent_refusal, heard_with, hearing, heard_from, sum_of}
-use Rattle.rules.specs.declared.Answer.TheVariants.{Accepted, Refused}
 use Rattle.rules.specs.declared.Sent.{Sent}
 use Rattle.rules.specs.declared.Sent.TheVariants.{Index, Marker, Lost}
 use Rattle.meter.specs.Window.{record_of, bits_of, 0f, Counts, Holds, Follows, After}

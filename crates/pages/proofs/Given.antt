@@ -9,13 +9,11 @@ use Rattle.base.specs.Choice.{pick}
 use Rattle.grammar.proofs.InRanges.{in_ranges}
 use Rattle.file.proofs.Refusals.{exported_short, exported_fits}
 use Rattle.laws.proofs.Page.{lines_length, rows_length}
-use Rattle.rules.specs.Answers.{no_room_for_page}
+use Rattle.rules.specs.Answers.{no_room_for_page, Answer, Accepted, Refused}
 use Rattle.rules.specs.Calls.{page_refusal, Export, exported}
 use Rattle.rules.specs.District.{District, segments_of}
 use Rattle.rules.specs.File.{in_range}
 use Rattle.rules.specs.Page.{rows, lines, page, page_length}
-use Rattle.rules.specs.declared.Answer.{Answer}
-use Rattle.rules.specs.declared.Answer.TheVariants.{Accepted, Refused}
 use Rattle.rules.specs.declared.Programme.{Programme}
 use Rattle.pages.specs.Printed.{line_bytes, longest_page}
 

@@ -3,8 +3,7 @@ use Rattle.std.specs.Prelude.{ℕ, ◌+◌, ◌*◌, List}
 use Rattle.listing.specs.Listing.{refusal}
 use Rattle.rules.specs.District.{most_segments}
 use Rattle.rules.specs.Page.{page}
-use Rattle.rules.specs.declared.Answer.{Answer}
-use Rattle.rules.specs.declared.Answer.TheVariants.{Accepted, Refused}
+use Rattle.rules.specs.Answers.{Answer, Accepted, Refused}
 use Rattle.rules.specs.declared.Unit.{Unit}
 
 -- the unit's own

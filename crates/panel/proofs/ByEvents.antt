@@ -9,7 +9,6 @@ use Rattle.rules.specs.Desks.{Desk, fresh_desk, Event, desk_by, desk_from, desk_
 use Rattle.rules.specs.Lists as Lists
 use Rattle.rules.specs.Offices as Offices
 use Rattle.rules.specs.Offices.{Plan}
-use Rattle.rules.specs.Stations.{Which}
 use Rattle.rules.specs.declared.Unit.{Unit}
 use Rattle.desks.proofs.EveryDesk.{every_desk}
 use Rattle.station.specs.Kept.{office_in}
@@ -19,6 +18,7 @@ use Rattle.command.specs.declared.Command.TheVariants.{Nothing, Unknown, Load, E
 use Rattle.panel.specs.Console.{State, start, asking, queueing, happened, after, loading, Loads, read, unopened, unread, Exports, written, unwritten, LineLeads, load, export, other, KeepsState}
 use Rattle.panel.specs.Lines.{ByEvents, Keeping, Leads}
 use Rattle.panel.specs.declared.Console.{Console}
+use Rattle.rules.specs.declared.Which.{Which}
 
 -- the desk follows from events
 record Reached (s : State) : Type 0 where

@@ -9,14 +9,13 @@ use lib.ListN.{length, length-append}
 use borrow.Author.Tests.{leb-true}
 use Rattle.base.specs.Text.{text, Put}
 use Rattle.listing.specs.Listing.{refusal, done, failed}
-use Rattle.rules.specs.Answers.{no_such_office, buffer_too_short, unless, answer_of}
+use Rattle.rules.specs.Answers.{no_such_office, buffer_too_short, unless, answer_of, Accepted}
 use Rattle.rules.specs.Calls.{export_refusal, exported, export_of}
 use Rattle.rules.specs.File.{encode}
 use Rattle.rules.specs.Lists.{ExportTo, outcome_of}
 use Rattle.rules.specs.Offices.{Held, Plan, office_outcome}
 use Rattle.rules.specs.Desks.{Desk, Event}
-use Rattle.rules.specs.Stations.{Which, Both, own, number_of, call_of, brings_tables, StationOutcome, station_outcome}
-use Rattle.rules.specs.declared.Answer.TheVariants.{Accepted}
+use Rattle.rules.specs.Stations.{Both, own, number_of, call_of, brings_tables, StationOutcome, station_outcome}
 use Rattle.rules.specs.declared.Unit.{Unit}
 use Rattle.command.proofs.Reading.{path_fits}
 use Rattle.command.specs.Reading.{path_of, command_in}
@@ -34,6 +33,7 @@ use Rattle.panel.specs.Console.{State, state_of, answered, happened, printed_for
 use Rattle.panel.specs.Lines.{Keeping, Leads}
 use Rattle.panel.specs.declared.Console.{Console}
 use Rattle.panel.specs.declared.Turn.{Turn}
+use Rattle.rules.specs.declared.Which.{Which}
 
 -- ---- lengths
 

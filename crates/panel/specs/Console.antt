@@ -1,19 +1,17 @@
 -- What the console answers to a line, and what is held after it.
 use Rattle.std.specs.Prelude.{ℕ, List, [], ◌≡◌, length}
-use Rattle.std.proofs.Math.Option.{Option, none, some}
+use Rattle.std.specs.Prelude.{Option, None, Some}
 use Rattle.base.specs.Text.{text, Put}
-use Rattle.rules.specs.Answers.{no_such_office}
+use Rattle.rules.specs.Answers.{no_such_office, Answer, Accepted}
 use Rattle.rules.specs.File.{longest_file}
 use Rattle.rules.specs.Lists as Lists
 use Rattle.rules.specs.Lists.{ExportTo}
 use Rattle.rules.specs.Offices as Offices
 use Rattle.rules.specs.Offices.{Held, OfficeCall, Plan}
-use Rattle.rules.specs.Stations.{Which, Both, own, office_of, call_of}
+use Rattle.rules.specs.Stations.{Both, own, office_of, call_of}
 use Rattle.rules.specs.Desks as Desks
 use Rattle.rules.specs.Desks.{Desk, fresh_desk, step_of, Event, Arrive, Ask, desk_by, answer_to}
 use Rattle.rules.specs.Survey.{survey_of}
-use Rattle.rules.specs.declared.Answer.{Answer}
-use Rattle.rules.specs.declared.Answer.TheVariants.{Accepted}
 use Rattle.rules.specs.declared.Edit.{Edit}
 use Rattle.rules.specs.declared.Unit.{Unit}
 use Rattle.command.specs.Reading.{path_of, command_in}
@@ -25,6 +23,7 @@ use Rattle.desk.specs.Kept.{KeepsDesk}
 use Rattle.station.specs.Questions.{why_for, roughness_for}
 use Rattle.panel.specs.declared.Console.{Console}
 use Rattle.panel.specs.declared.Turn.{Turn}
+use Rattle.rules.specs.declared.Which.{Which}
 
 -- an answer has at most as many bytes as the longest page
 abbrev pub longest_answer : ℕ
@@ -60,8 +59,8 @@ happened s e = state_of (desk_by s.desk e) s.office
 
 -- of an office what is printed of its unit
 abbrev pub printed_for : Option Which → (Unit → List ℕ) → Both Held → List ℕ
-printed_for none print b = refusal no_such_office
-printed_for (some w) print b = print (own w b).unit
+printed_for None print b = refusal no_such_office
+printed_for (Some w) print b = print (own w b).unit
 
 abbrev pub printed : (Unit → List ℕ) → Both Held → ℕ → List ℕ
 printed print b n = printed_for (office_of n) print b

@@ -3,13 +3,13 @@ use Rattle.std.specs.Prelude.{ℕ, ◌+◌, ◌≤◌, List, [], ◌∷◌, ◌+
 use Rattle.rules.specs.Calls.{show_of}
 use Rattle.rules.specs.Demands.{Sound}
 use Rattle.rules.specs.Desks.{Event, desk_after}
-use Rattle.rules.specs.Stations.{Which}
 use Rattle.station.specs.Kept.{office_in}
 use Rattle.desk.specs.Kept.{KeepsDesk}
 use Rattle.command.specs.Reading.{longest_line}
 use Rattle.panel.specs.Console.{State, LineLeads, KeepsState}
 use Rattle.panel.specs.declared.Console.{Console}
 use Rattle.panel.specs.declared.Turn.{Turn}
+use Rattle.rules.specs.declared.Which.{Which}
 
 -- a console whose desk keeps what a list of events leads to
 pub record ByEvents (c : Console) : Type 0 where

@@ -3,7 +3,7 @@ use Prim.Native.Nat.{ℕ, zero, suc, ◌+◌, ◌*◌, ◌≤◌, ◌<◌}
 use mathlib.Core.Path.{◌≡◌, refl, sym, ◌∙◌}
 use mathlib.Core.Bool.{Bool, true, false}
 use mathlib.Core.List.{List}
-use mathlib.Core.Option.{none, some}
+use Rattle.std.specs.Prelude.{None, Some}
 use native.Mathlib.Nat.{mul-le-mul}
 use native.Mathlib.Omega.{arith}
 use Rattle.base.proofs.Runs.{Reached, reached_start, reached_next, reached_end, reached_spent}
@@ -19,7 +19,7 @@ use Rattle.tables.specs.Arrays.{tables, leader_in, Bounded, Running}
 use Rattle.phase1.specs.Reduce.{Shares, Measured, Held, Fitted, LedWithin}
 use Rattle.phase1.proofs.Pruning.{gives_chosen}
 
-stepped_down : (t : Table) (leader : ℕ → ℕ) (c : List ℕ) (i : ℕ) → 1 ≤ i → step_down t leader c i ≡ some (stepped t leader c i)
+stepped_down : (t : Table) (leader : ℕ → ℕ) (c : List ℕ) (i : ℕ) → 1 ≤ i → step_down t leader c i ≡ Some (stepped t leader c i)
 unfolding step_down
 stepped_down t leader c zero l = absurd (omega arith)
 stepped_down t leader c (suc i) l = refl
@@ -68,7 +68,7 @@ module _ {z : Size} {b u s c sums : List ℕ} (fitted : Fitted z b u s c sums) (
         (gives_measured fitted.held (pruned (leader_in ls) m (give c i j))
         (gives_then limited c (give c i j) (pruned (leader_in ls) m (give c i j)) next_gives (pruned_gives (leader_in ls) limited m (give c i j) led.few)))
 
-    pub steps_down : (l : List ℕ) → step_down (tables z b u l) (leader_in ls) c i ≡ some d
+    pub steps_down : (l : List ℕ) → step_down (tables z b u l) (leader_in ls) c i ≡ Some d
     steps_down l = rw (← next u l, ← led.same (give c i j), ← after) at (stepped_down (tables z b u l) (leader_in ls) c i li)
 
 -- ---- all the steps
@@ -95,7 +95,7 @@ module _ {z : Size} {ls b u l s c₀ c sums : List ℕ} {m : ℕ} (down : Down z
   done : ((phase1 t leader c₀).last ≡ c) × ((phase1 t leader c₀).count ≡ m) → Done
   done e = (down.held.running, (sym e.0, sym e.1))
 
-  stop : step t leader c ≡ none → Done
+  stop : step t leader c ≡ None → Done
   unfolding phase1
   stop e = done (reached_end (step t leader) (z.segments * z.strategies) c₀ c m down.reached e)
 
@@ -123,10 +123,10 @@ module _ {z : Size} {ls b u l s c₀ c sums : List ℕ} {m : ℕ} (down : Down z
       weakest_inside = rw is (weakest_le t c)
 
       -- the weakest segment steps
-      pub down_next : (i ≡ 0 → ⊥) → m < z.segments * z.strategies → {d sums₂ : List ℕ} → ((l : List ℕ) → step_down (tables z b u l) leader c i ≡ some d)
+      pub down_next : (i ≡ 0 → ⊥) → m < z.segments * z.strategies → {d sums₂ : List ℕ} → ((l : List ℕ) → step_down (tables z b u l) leader c i ≡ Some d)
           → Running z u d sums₂ → Down z ls b u l s c₀ d sums₂ (m + 1)
       down_next ne h {d} to running =
-          let some-step : step t leader c ≡ some d =
+          let some-step : step t leader c ≡ Some d =
           step_some t leader c (is_within over) i (sym is) (omega arith) ∙ sym (stepped_down t leader c i (omega arith)) ∙ to l in
           record {
             held = record {

@@ -3,7 +3,7 @@
 #![tactic(auto)]
 
 ghost use Rattle.std.specs.Prelude.{◌≡◌, false, List, ℕ, ◌+◌, ◌-◌, ◌*◌, ◌/◌, ◌^◌, ◌<◌, ◌≤◌, get_or, length};
-ghost use Rattle.std.proofs.Math.Option.{some};
+ghost use Rattle.std.specs.Prelude.{Some};
 ghost use Rattle.base.specs.Over.{sum};
 ghost use Rattle.rules.specs.District.{most_segments, most_strategies, most_resources};
 ghost use Rattle.rules.specs.Table.{Table};
@@ -382,7 +382,7 @@ fn step(
     requires fitted { Fitted z benefits.now uses.now shares.now choice.old sums.old × ShareSums z shares.now choice.old held.now }
     requires le_i { (1 ≤ i) × (i ≤ z.segments) }
     ensures running { Running z uses.now choice.new sums.new }
-    ensures by_index { (l : List ℕ) → step_down (tables z benefits.now uses.now l) (leader_in leaders.now) choice.old i ≡ some choice.new }
+    ensures by_index { (l : List ℕ) → step_down (tables z benefits.now uses.now l) (leader_in leaders.now) choice.old i ≡ Some choice.new }
     ensures share_sums { ShareSums z shares.now choice.new result }
 {
     let x = choice[i - 1];

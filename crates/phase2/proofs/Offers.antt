@@ -3,7 +3,7 @@ use Prim.Native.Nat.{ℕ, zero, suc, ◌+◌, ◌≤◌, ◌<◌}
 use mathlib.Core.Path.{◌≡◌, refl, ap, sym, ◌∙◌}
 use mathlib.Core.Bool.{Bool, true, false, ◌&&◌, and_assoc, true≢false}
 use mathlib.Core.List.{List}
-use mathlib.Core.Option.{none, some}
+use Rattle.std.specs.Prelude.{None, Some}
 use native.Mathlib.Omega.{arith}
 use borrow.Author.Tests.{lt-ltb, ltb-true}
 use lib.Dec.{ltb, eqb}
@@ -81,8 +81,8 @@ module _ (z : Size) (b u l c : List ℕ) where
         pub best_taken : ok ≡ true → most < value → Best (n + 1) (n + 1) value
         unfolding offer_benefit
         best_taken e h =
-            let some : 1 ≤ offer t c (n + 1) = positive (offer t c (n + 1)) refl in
-            let passes = vacant_is (n + 1) ∙ both (free (n + 1)) (ltb 0 (offer t c (n + 1))) (sym tested ∙ e) (lt-ltb 0 (offer t c (n + 1)) some) in
+            let Some : 1 ≤ offer t c (n + 1) = positive (offer t c (n + 1)) refl in
+            let passes = vacant_is (n + 1) ∙ both (free (n + 1)) (ltb 0 (offer t c (n + 1))) (sym tested ∙ e) (lt-ltb 0 (offer t c (n + 1)) Some) in
             leads_taken (vacant t leader c) (offer_benefit t c) n top most leads worth passes h
           where
             positive : (o : ℕ) → offer t c (n + 1) ≡ o → 1 ≤ o
@@ -107,11 +107,11 @@ module _ (z : Size) (b u l c : List ℕ) where
 
     -- ---- a pick-up
 
-    pub pick_none : {i : ℕ} → i ≡ best_offer t leader c → i ≡ 0 → pick_up t leader c ≡ none
+    pub pick_none : {i : ℕ} → i ≡ best_offer t leader c → i ≡ 0 → pick_up t leader c ≡ None
     unfolding pick_up picked_up
     pick_none e q = let z : best_offer t leader c ≡ 0 = sym e ∙ q in rw z
 
-    pick_some : (i j : ℕ) → i ≡ best_offer t leader c → (i ≡ 0 → ⊥) → j ≡ offer t c i → pick_up t leader c ≡ some (give c i j)
+    pick_some : (i j : ℕ) → i ≡ best_offer t leader c → (i ≡ 0 → ⊥) → j ≡ offer t c i → pick_up t leader c ≡ Some (give c i j)
     unfolding pick_up picked_up
     pick_some zero j e ne q = absurd (ne refl)
     pick_some (suc i) j e ne q = rw (← e, q)
@@ -132,7 +132,7 @@ picking_start {z} ls b u l {start} running =
 
 module _ {z : Size} {ls b u l start c sums : List ℕ} {m : ℕ} (here : Picking z ls b u l start c sums m) where
   pub picking_end :
-      pick_up (tables z b u l) (leader_in ls) c ≡ none → (c ≡ (phase2 (tables z b u l) (leader_in ls) start).last) × (m ≡ (phase2 (tables z b u l) (leader_in ls) start).count)
+      pick_up (tables z b u l) (leader_in ls) c ≡ None → (c ≡ (phase2 (tables z b u l) (leader_in ls) start).last) × (m ≡ (phase2 (tables z b u l) (leader_in ls) start).count)
   unfolding phase2
   picking_end e =
       let done = reached_end (pick_up (tables z b u l) (leader_in ls)) z.segments start c m here.reached e in
@@ -143,7 +143,7 @@ module _ {z : Size} {ls b u l start c sums : List ℕ} {m : ℕ} (here : Picking
       {i j : ℕ} {e sums₂ : List ℕ} → i ≡ best_offer (tables z b u l) (leader_in ls) c → (i ≡ 0 → ⊥) → j ≡ offer (tables z b u l) c i → e ≡ give c i j
       → Running z u e sums₂ → (m < z.segments) × Picking z ls b u l start e sums₂ (m + 1)
   picking_next {i} {j} {e} best some-i offered given running =
-      let next : pick_up (tables z b u l) (leader_in ls) c ≡ some e = pick_some z b u l c (leader_in ls) i j best some-i offered ∙ ap some (sym given) in
+      let next : pick_up (tables z b u l) (leader_in ls) c ≡ Some e = pick_some z b u l c (leader_in ls) i j best some-i offered ∙ ap Some (sym given) in
       let fewer = pick_up_falls (tables z b u l) (leader_in ls) c e next (omega (arith, here.running.bounded.segments, here.running.chosen.places)) in
       let less : m < z.segments = omega (arith, here.left) in (
         less,

@@ -3,7 +3,7 @@ use Prim.Native.Nat.{ℕ, zero, suc, ◌+◌, ◌-◌, ◌^◌, ◌≤◌, ◌<�
 use mathlib.Core.Path.{◌≡◌, refl, sym, ap, ◌∙◌}
 use mathlib.Core.Bool.{Bool, true, false, ◌&&◌, and-false, or-true, true≢false}
 use mathlib.Core.List.{List}
-use mathlib.Core.Option.{Option, none, some}
+use Rattle.std.specs.Prelude.{Option, None, Some}
 use native.Mathlib.Omega.{arith}
 use borrow.Author.Tests.{lt-ltb, le-ltb, ltb-false, ne_eqb}
 use lib.Dec.{ltb, eqb}
@@ -109,68 +109,68 @@ over_two t leader c i k a b e =
 -- ---- the nested searches, as the loops go through them
 
 module _ (t : Table) where
-  pub strategy_none : (f : ℕ → Option (List ℕ)) → ((a : ℕ) → a < t.strategies + 1 → f a ≡ none) → first_strategy t f ≡ none
+  pub strategy_none : (f : ℕ → Option (List ℕ)) → ((a : ℕ) → a < t.strategies + 1 → f a ≡ None) → first_strategy t f ≡ None
   unfolding first_strategy
   strategy_none f h = rw (h 0 (omega arith)) (first_none t.strategies f (λ a l u. h a (omega arith)))
 
-  pub strategy_found : (f : ℕ → Option (List ℕ)) (a : ℕ) (e : List ℕ) → a < t.strategies + 1 → ((v : ℕ) → v < a → f v ≡ none) → f a ≡ some e → first_strategy t f ≡ some e
+  pub strategy_found : (f : ℕ → Option (List ℕ)) (a : ℕ) (e : List ℕ) → a < t.strategies + 1 → ((v : ℕ) → v < a → f v ≡ None) → f a ≡ Some e → first_strategy t f ≡ Some e
   unfolding first_strategy
   strategy_found f zero e l before q = rw q
   strategy_found f (suc a) e l before q =
       rw (before 0 (omega arith)) (first_found t.strategies f (suc a) e (omega arith) (omega arith) (λ v lv u. before v u) q)
 
   module _ (leader : ℕ → ℕ) (c : List ℕ) where
-    pub single_none : (i a : ℕ) → counts_one t leader c i a ≡ false → single t leader c i a ≡ none
+    pub single_none : (i a : ℕ) → counts_one t leader c i a ≡ false → single t leader c i a ≡ None
     unfolding single
     single_none i a e = rw e
 
-    pub singles_none : (i : ℕ) → ((a : ℕ) → a < t.strategies + 1 → single t leader c i a ≡ none) → singles_of t leader c i ≡ none
+    pub singles_none : (i : ℕ) → ((a : ℕ) → a < t.strategies + 1 → single t leader c i a ≡ None) → singles_of t leader c i ≡ None
     unfolding singles_of
     singles_none i h = strategy_none (single t leader c i) h
 
-    pub singles_end : ((i : ℕ) → i < t.segments + 1 → 1 ≤ i → singles_of t leader c i ≡ none) → first_single t leader c ≡ none
+    pub singles_end : ((i : ℕ) → i < t.segments + 1 → 1 ≤ i → singles_of t leader c i ≡ None) → first_single t leader c ≡ None
     unfolding first_single
     singles_end h = first_none t.segments (singles_of t leader c) (λ i l u. h i (omega arith) l)
 
-    pub single_found : (i a : ℕ) → 1 ≤ i → i ≤ t.segments → ((p : ℕ) → p < i → 1 ≤ p → singles_of t leader c p ≡ none)
-        → a < t.strategies + 1 → ((v : ℕ) → v < a → single t leader c i v ≡ none) → counts_one t leader c i a ≡ true → first_single t leader c ≡ some (give c i a)
+    pub single_found : (i a : ℕ) → 1 ≤ i → i ≤ t.segments → ((p : ℕ) → p < i → 1 ≤ p → singles_of t leader c p ≡ None)
+        → a < t.strategies + 1 → ((v : ℕ) → v < a → single t leader c i v ≡ None) → counts_one t leader c i a ≡ true → first_single t leader c ≡ Some (give c i a)
     unfolding first_single singles_of single
     single_found i a l h before la none-a e =
         first_found t.segments (singles_of t leader c) i (give c i a) l h (λ p lp u. before p u lp)
         (strategy_found (single t leader c i) a (give c i a) la none-a (rw e))
 
-    pub pair_none : (i k a b : ℕ) → counts_two t leader c i k a b ≡ false → pair t leader c i k a b ≡ none
+    pub pair_none : (i k a b : ℕ) → counts_two t leader c i k a b ≡ false → pair t leader c i k a b ≡ None
     unfolding pair
     pair_none i k a b e = rw e
 
-    pub with_none : (i k a : ℕ) → ((b : ℕ) → b < t.strategies + 1 → pair t leader c i k a b ≡ none) → pairs_with t leader c i k a ≡ none
+    pub with_none : (i k a : ℕ) → ((b : ℕ) → b < t.strategies + 1 → pair t leader c i k a b ≡ None) → pairs_with t leader c i k a ≡ None
     unfolding pairs_with
     with_none i k a h = strategy_none (pair t leader c i k a) h
 
-    pub of_none : (i k : ℕ) → ((a : ℕ) → a < t.strategies + 1 → pairs_with t leader c i k a ≡ none) → pairs_of t leader c i k ≡ none
+    pub of_none : (i k : ℕ) → ((a : ℕ) → a < t.strategies + 1 → pairs_with t leader c i k a ≡ None) → pairs_of t leader c i k ≡ None
     unfolding pairs_of
     of_none i k h = same (ltb i k) (first_strategy t (pairs_with t leader c i k)) (strategy_none (pairs_with t leader c i k) h)
       where
-        same : (x : Bool) (o : Option (List ℕ)) → o ≡ none → pick x o none ≡ none
+        same : (x : Bool) (o : Option (List ℕ)) → o ≡ None → pick x o None ≡ None
         same true o e = e
         same false o e = refl
 
-    pub of_low : (i k : ℕ) → k < i + 1 → pairs_of t leader c i k ≡ none
+    pub of_low : (i k : ℕ) → k < i + 1 → pairs_of t leader c i k ≡ None
     unfolding pairs_of
     of_low i k l = rw (le-ltb i k (omega arith))
 
-    pub from_none : (i : ℕ) → ((k : ℕ) → k < t.segments + 1 → 1 ≤ k → pairs_of t leader c i k ≡ none) → pairs_from t leader c i ≡ none
+    pub from_none : (i : ℕ) → ((k : ℕ) → k < t.segments + 1 → 1 ≤ k → pairs_of t leader c i k ≡ None) → pairs_from t leader c i ≡ None
     unfolding pairs_from
     from_none i h = first_none t.segments (pairs_of t leader c i) (λ k l u. h k (omega arith) l)
 
-    pub pairs_end : ((i : ℕ) → i < t.segments + 1 → 1 ≤ i → pairs_from t leader c i ≡ none) → first_pair t leader c ≡ none
+    pub pairs_end : ((i : ℕ) → i < t.segments + 1 → 1 ≤ i → pairs_from t leader c i ≡ None) → first_pair t leader c ≡ None
     unfolding first_pair
     pairs_end h = first_none t.segments (pairs_from t leader c) (λ i l u. h i (omega arith) l)
 
     pub of_found : (i k a b : ℕ) → i < k
-        → a < t.strategies + 1 → ((v : ℕ) → v < a → pairs_with t leader c i k v ≡ none)
-        → b < t.strategies + 1 → ((v : ℕ) → v < b → pair t leader c i k a v ≡ none)
-        → counts_two t leader c i k a b ≡ true → pairs_of t leader c i k ≡ some (give (give c i a) k b)
+        → a < t.strategies + 1 → ((v : ℕ) → v < a → pairs_with t leader c i k v ≡ None)
+        → b < t.strategies + 1 → ((v : ℕ) → v < b → pair t leader c i k a v ≡ None)
+        → counts_two t leader c i k a b ≡ true → pairs_of t leader c i k ≡ Some (give (give c i a) k b)
     unfolding pairs_of pairs_with pair
     of_found i k a b ik la none-a lb none-b e =
         let d = give (give c i a) k b in
@@ -178,8 +178,8 @@ module _ (t : Table) where
         (strategy_found (pairs_with t leader c i k) a d la none-a (strategy_found (pair t leader c i k a) b d lb none-b (rw e)))
 
     pub pair_found : (i k : ℕ) (d : List ℕ) → 1 ≤ i → i < k → k ≤ t.segments
-        → ((p : ℕ) → p < i → 1 ≤ p → pairs_from t leader c p ≡ none) → ((p : ℕ) → p < k → 1 ≤ p → pairs_of t leader c i p ≡ none)
-        → pairs_of t leader c i k ≡ some d → first_pair t leader c ≡ some d
+        → ((p : ℕ) → p < i → 1 ≤ p → pairs_from t leader c p ≡ None) → ((p : ℕ) → p < k → 1 ≤ p → pairs_of t leader c i p ≡ None)
+        → pairs_of t leader c i k ≡ Some d → first_pair t leader c ≡ Some d
     unfolding first_pair pairs_from
     pair_found i k d li ik hk none-i none-k e =
         first_found t.segments (pairs_from t leader c) i d li (omega arith) (λ p lp u. none-i p u lp)
@@ -193,7 +193,7 @@ with_may_count t c i k a =
     another t c i a && (ltb (present t c i k) (t.benefit i a + top t k) && within t (give (give c i a) k 0))
 
 module _ (t : Table) (leader : ℕ → ℕ) (c : List ℕ) (room : t.segments ≤ length c) (i k : ℕ) (low : 1 ≤ i) (above : i < k) (high : k ≤ t.segments) where
-  pub low_pair : (a b : ℕ) → t.benefit i a + t.benefit k b ≤ present t c i k → pair t leader c i k a b ≡ none
+  pub low_pair : (a b : ℕ) → t.benefit i a + t.benefit k b ≤ present t c i k → pair t leader c i k a b ≡ None
   low_pair a b h = pair_none t leader c i k a b (low_two t leader c i a low (omega arith) room k b above high h)
 
   module _ (worthless : (i : ℕ) → t.benefit i 0 ≡ 0) where
@@ -201,7 +201,7 @@ module _ (t : Table) (leader : ℕ → ℕ) (c : List ℕ) (room : t.segments �
     top_ge i zero h = omega (arith, worthless i)
     top_ge i (suc j) h = most_part t.strategies (t.benefit i) (suc j) (omega arith) (omega arith)
 
-    pub no_of : pair_may_rise t c i k ≡ false → pairs_of t leader c i k ≡ none
+    pub no_of : pair_may_rise t c i k ≡ false → pairs_of t leader c i k ≡ None
     no_of e =
         let no_more = ltb-false (present t c i k) (top t i + top t k) e in
         of_none t leader c i k (λ a la. with_none t leader c i k a (λ b lb. low_pair a b (omega (arith, top_ge i a la, top_ge k b lb))))
@@ -228,10 +228,10 @@ module _ (t : Table) (leader : ℕ → ℕ) (c : List ℕ) (room : t.segments �
           go false q = refl
           go true q = sym (within_less t (give (give c i a) k b) (give (give c i a) k 0) less q) ∙ e
 
-      pub no_with : with_may_count t c i k a ≡ false → pairs_with t leader c i k a ≡ none
+      pub no_with : with_may_count t c i k a ≡ false → pairs_with t leader c i k a ≡ None
       no_with e = with_none t leader c i k a (λ b lb. go b lb (another t c i a) refl (ltb (present t c i k) (t.benefit i a + top t k)) refl)
         where
-          go : (b : ℕ) → b < t.strategies + 1 → (x : Bool) → another t c i a ≡ x → (y : Bool) → ltb (present t c i k) (t.benefit i a + top t k) ≡ y → pair t leader c i k a b ≡ none
+          go : (b : ℕ) → b < t.strategies + 1 → (x : Bool) → another t c i a ≡ x → (y : Bool) → ltb (present t c i k) (t.benefit i a + top t k) ≡ y → pair t leader c i k a b ≡ None
           go b lb false q y qy = pair_none t leader c i k a b (not_first t leader c i k a b q)
           go b lb true q false qy = low_pair a b (omega (arith, ltb-false (present t c i k) (t.benefit i a + top t k) qy, top_ge k b lb))
           go b lb true q true qy = pair_none t leader c i k a b (over_two t leader c i k a b (not_within b (rw (q, qy) at e)))
@@ -279,13 +279,13 @@ module _ {z : Size} {leader : ℕ → ℕ} {b u l c₀ c sums : List ℕ} {m : �
   abbrev t : Table
   t = tables z b u l
 
-  pub under_end : change t leader c ≡ none → (c ≡ (phase3 t leader c₀).last) × (m ≡ (phase3 t leader c₀).count)
+  pub under_end : change t leader c ≡ None → (c ≡ (phase3 t leader c₀).last) × (m ≡ (phase3 t leader c₀).count)
   unfolding phase3
   under_end e =
       let ended = reached_end (change t leader) (total t (bests t)) c₀ c m under.reached e in
       (sym ended.0, sym ended.1)
 
-  module _ {e : List ℕ} (q : change t leader c ≡ some e) where
+  module _ {e : List ℕ} (q : change t leader c ≡ Some e) where
     -- each change raises the total, which bounds them
     under_less : m + 1 ≤ total t (bests t)
     under_less =
@@ -308,17 +308,17 @@ module _ {z : Size} {leader : ℕ → ℕ} {b u l c₀ c sums : List ℕ} {m : �
 
 -- ---- the code's own changes
 
-pub nothing_made : (c : List ℕ) (x : Change) → is_nothing x ≡ true → made c x ≡ none
+pub nothing_made : (c : List ℕ) (x : Change) → is_nothing x ≡ true → made c x ≡ None
 nothing_made c Nothing e = refl
 nothing_made c (One i a) e = absurd (true≢false (sym e))
 nothing_made c (Two i k a b) e = absurd (true≢false (sym e))
 
-pub change_made : (c : List ℕ) (x : Change) → is_nothing x ≡ false → made c x ≡ some (after c x)
+pub change_made : (c : List ℕ) (x : Change) → is_nothing x ≡ false → made c x ≡ Some (after c x)
 change_made c Nothing e = absurd (true≢false e)
 change_made c (One i a) e = refl
 change_made c (Two i k a b) e = refl
 
-pub found_nothing : {z : Size} {c : List ℕ} {x : Change} {search : Option (List ℕ)} → x ≡ Nothing → search ≡ none → Found z c x search
+pub found_nothing : {z : Size} {c : List ℕ} {x : Change} {search : Option (List ℕ)} → x ≡ Nothing → search ≡ None → Found z c x search
 found_nothing e q = rw (e, q) (record { is = refl; inside = tt })
 
 -- single changes come before pairs
@@ -336,15 +336,15 @@ module _ (t : Table) (leader : ℕ → ℕ) {z : Size} {c : List ℕ} {x : Chang
 
 -- what a search found, as the loop of changes goes on or ends
 module _ {z : Size} {c : List ℕ} {x : Change} {search : Option (List ℕ)} (found : Found z c x search) where
-  pub turn : is_nothing x ≡ false → search ≡ some (after c x)
+  pub turn : is_nothing x ≡ false → search ≡ Some (after c x)
   turn e = sym found.is ∙ change_made c x e
 
-  pub no_turn : is_nothing x ≡ true → search ≡ none
+  pub no_turn : is_nothing x ≡ true → search ≡ None
   no_turn e = sym found.is ∙ nothing_made c x e
 
 -- a pair that is found comes first where those before it are none
 pub found_pair : (t : Table) (leader : ℕ → ℕ) {z : Size} {c : List ℕ} {x : Change} (i k : ℕ) → 1 ≤ i → i < k → k ≤ t.segments
-    → ((p : ℕ) → p < i → 1 ≤ p → pairs_from t leader c p ≡ none) → ((p : ℕ) → p < k → 1 ≤ p → pairs_of t leader c i p ≡ none)
+    → ((p : ℕ) → p < i → 1 ≤ p → pairs_from t leader c p ≡ None) → ((p : ℕ) → p < k → 1 ≤ p → pairs_of t leader c i p ≡ None)
     → Found z c x (pairs_of t leader c i k) → is_nothing x ≡ false → Found z c x (first_pair t leader c)
 found_pair t leader {z} {c} {x} i k li ik hk none-i none-k found e =
     record { is = change_made c x e ∙ sym (pair_found t leader c i k (after c x) li ik hk none-i none-k (turn found e)); inside = found.inside }

@@ -3,7 +3,7 @@ use Prim.Native.Nat.{ℕ, zero, suc, ◌+◌, ◌-◌, ◌≤◌, ◌<◌, min}
 use mathlib.Core.Path.{◌≡◌, refl, sym, ap, ◌∙◌}
 use mathlib.Core.Bool.{Bool, true, false, not, true≢false}
 use mathlib.Core.List.{List, [], ◌∷◌}
-use mathlib.Core.Option.{none}
+use Rattle.std.specs.Prelude.{None}
 use native.Mathlib.Omega.{arith}
 use borrow.Author.Count.{below_more}
 use borrow.Author.Tests.{lt-leb, leb-false, eqb-true, eqb-false}
@@ -203,7 +203,7 @@ module _ {z : Size} {p u l c sums given : List ℕ} {i k : ℕ} (s : Setting z p
 
   module _ (leader : ℕ → ℕ) (a b : ℕ) (row : List ℕ) where
     pair_not : (next : List ℕ) → Lower row next → (Tight t i k x y (numbers row) c → Tight t i k x y (numbers next) c)
-        → ((d : List ℕ) → Tight t i k x y (numbers next) d → pair t leader d i k a b ≡ none) → PairTest t leader c i k a b row next false
+        → ((d : List ℕ) → Tight t i k x y (numbers next) d → pair t leader d i k a b ≡ None) → PairTest t leader c i k a b row next false
     pair_not next lower tight h =
         record { lower = lower; tight = tight; counted = λ q. absurd (true≢false (sym q)); passed = λ _ d q. h d q.tight }
 
@@ -275,10 +275,10 @@ module _ (t : Table) (leader : ℕ → ℕ) (c : List ℕ) (i k : ℕ) where
 
     -- all of them are
     module _ (h : t.strategies + 1 ≤ a) where
-      all_passed : (d : List ℕ) → Alike t c i k row d → pairs_of t leader d i k ≡ none
+      all_passed : (d : List ℕ) → Alike t c i k row d → pairs_of t leader d i k ≡ None
       all_passed d q = of_none t leader d i k (λ v lv. g.before v (omega arith) d q)
 
-      pub searching_none : pairs_of t leader c i k ≡ none
+      pub searching_none : pairs_of t leader c i k ≡ None
       searching_none = all_passed c alike
 
       -- a row that still has its mark holds for the strategies of that

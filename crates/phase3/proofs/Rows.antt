@@ -3,7 +3,7 @@ use Prim.Native.Nat.{ℕ, ◌+◌, ◌-◌, ◌*◌, ◌≤◌, ◌<◌}
 use mathlib.Core.Path.{◌≡◌, refl, sym, ap, ◌∙◌}
 use mathlib.Core.Bool.{Bool, true, false, ◌&&◌, true≢false}
 use mathlib.Core.List.{List, ◌++◌}
-use mathlib.Core.Option.{none}
+use Rattle.std.specs.Prelude.{None}
 use native.Mathlib.Omega.{arith}
 use borrow.Author.Tests.{ltb-true, ltb-false, eqb-true}
 use borrow.Rule.Slice.PartMut.{mid_of, post_of, put_mid, same_len_mid}
@@ -122,7 +122,7 @@ under slacks row r q = ltb-true (get_or slacks (r - 1) 0) (get_or row r 0) q
 -- a row whose mark names what segments i and k have, with every slack below its number, passes them over
 pub still_none : {z : Size} {leader : ℕ → ℕ} (p : List ℕ) {u l c sums slacks memory : List ℕ} → Memory (tables z p u l) leader memory → Running z u c sums → Slacks z.resources l sums slacks
     → (i k : ℕ) → 1 ≤ i → i < k → k ≤ z.segments → (n : ℕ) → n ≡ row_places
-    → (m : ℕ) → m ≡ mark (strategy_at c i) (strategy_at c k) → holds_still z.resources slacks (mid_of (row_at i k) n memory) m ≡ true → pairs_of (tables z p u l) leader c i k ≡ none
+    → (m : ℕ) → m ≡ mark (strategy_at c i) (strategy_at c k) → holds_still z.resources slacks (mid_of (row_at i k) n memory) m ≡ true → pairs_of (tables z p u l) leader c i k ≡ None
 still_none {z} {leader} p {u} {l} {c} {sums} {slacks} {memory} holds running are i k low above high n en m em e =
     holds.rows i k low above high (strategy_at c i) (strategy_at c k)
     (omega (arith, running.chosen.numbers i, running.bounded.strategies))

@@ -1,6 +1,6 @@
 -- What the code's own changes stand for, and each segment's greatest benefit.
 use Rattle.std.specs.Prelude.{ℕ, ◌+◌, ◌-◌, ◌≤◌, ◌<◌, ◌≡◌, Bool, true, false, ◌&&◌, List, ltb, get_or, length}
-use Rattle.std.proofs.Math.Option.{Option, none, some}
+use Rattle.std.specs.Prelude.{Option, None, Some}
 use Rattle.base.specs.Over.{most}
 use Rattle.rules.specs.District.{most_segments}
 use Rattle.rules.specs.Table.{Table}
@@ -23,9 +23,9 @@ is_nothing (Two i k a b) = false
 
 -- the same as the rules give it: none where there is no change
 abbrev pub made : List ℕ → Change → Option (List ℕ)
-made c Nothing = none
-made c (One i a) = some (give c i a)
-made c (Two i k a b) = some (give (give c i a) k b)
+made c Nothing = None
+made c (One i a) = Some (give c i a)
+made c (Two i k a b) = Some (give (give c i a) k b)
 
 -- a change's numbers are the table's
 abbrev pub Inside : Size → Change → Type 0

@@ -2,7 +2,7 @@
 -- they have, and for each resource a number. While they have these strategies, and every resource's slack, its limit less its sum, is below
 -- its number, still no pair counts. A pair that leaders alone refuse is not remembered: it counts as soon as a third segment lets it.
 use Rattle.std.specs.Prelude.{ℕ, ◌+◌, ◌-◌, ◌*◌, ◌^◌, ◌≤◌, ◌<◌, ◌≡◌, Bool, true, false, ◌&&◌, List, eqb, ltb, get_or, length}
-use Rattle.std.proofs.Math.Option.{none}
+use Rattle.std.specs.Prelude.{None}
 use Rattle.base.specs.Over.{all}
 use Rattle.rules.specs.District.{most_segments, most_strategies, most_resources}
 use Rattle.rules.specs.Table.{Table}
@@ -72,7 +72,7 @@ numbers_at memory at r = get_or memory (at + r) 0
 -- a row holds for the strategies that its mark names: of the programmes that are tight with them none has a pair that counts
 abbrev pub Holds : Table → (ℕ → ℕ) → ℕ → ℕ → (ℕ → ℕ) → Type 0
 Holds t leader i k row =
-    (x y : ℕ) → x ≤ most_strategies → y ≤ most_strategies → row 0 ≡ mark x y → (c : List ℕ) → Tight t i k x y row c → pairs_of t leader c i k ≡ none
+    (x y : ℕ) → x ≤ most_strategies → y ≤ most_strategies → row 0 ≡ mark x y → (c : List ℕ) → Tight t i k x y row c → pairs_of t leader c i k ≡ None
 
 -- and so does every row of the memory
 pub record Memory (t : Table) (leader : ℕ → ℕ) (memory : List ℕ) : Type 0 where
@@ -96,11 +96,11 @@ pub record Alike (t : Table) (c : List ℕ) (i k : ℕ) (row d : List ℕ) : Typ
 
 -- in such programmes no pair counts that gives segment i strategy a
 abbrev pub PassedWith : Table → (ℕ → ℕ) → List ℕ → ℕ → ℕ → List ℕ → ℕ → Type 0
-PassedWith t leader c i k row a = (d : List ℕ) → Alike t c i k row d → pairs_with t leader d i k a ≡ none
+PassedWith t leader c i k row a = (d : List ℕ) → Alike t c i k row d → pairs_with t leader d i k a ≡ None
 
 -- and none that gives them strategies a and b
 abbrev pub PassedPair : Table → (ℕ → ℕ) → List ℕ → ℕ → ℕ → List ℕ → ℕ → ℕ → Type 0
-PassedPair t leader c i k row a b = (d : List ℕ) → Alike t c i k row d → pair t leader d i k a b ≡ none
+PassedPair t leader c i k row a b = (d : List ℕ) → Alike t c i k row d → pair t leader d i k a b ≡ None
 
 -- where the search stands: the row has its mark or none, programme c is tight, and no first strategy below a counts
 pub record Searching (t : Table) (leader : ℕ → ℕ) (c : List ℕ) (i k : ℕ) (row : List ℕ) (a : ℕ) : Type 0 where

@@ -3,16 +3,15 @@ use Prim.Native.Nat.{ℕ, zero, suc, ◌≤◌, ◌<◌}
 use mathlib.Core.Path.{◌≡◌, refl, ap, ◌∙◌}
 use mathlib.Core.Bool.{Bool}
 use mathlib.Core.List.{List, [], ◌∷◌, ◌++◌}
-use mathlib.Core.Option.{none, some}
+use Rattle.std.specs.Prelude.{None, Some}
 use native.Mathlib.Omega.{arith}
 use borrow.Author.Tests.{lt-ltb, le-ltb}
 use lib.Dec.{ltb}
 use lib.ListN.{length, take, drop, get_or}
 use Rattle.base.specs.Choice.{only}
-use Rattle.rules.specs.Answers.{no_such_console, queue_full, answer_of, accepting}
+use Rattle.rules.specs.Answers.{no_such_console, queue_full, answer_of, accepting, Accepted, Refused}
 use Rattle.rules.specs.Desks as Desks
 use Rattle.rules.specs.Desks.{next_to, queue_of, with_queue, with_turn, most_waiting, oldest_of}
-use Rattle.rules.specs.declared.Answer.TheVariants.{Accepted, Refused}
 use Rattle.rules.specs.declared.Console.{Console}
 use Rattle.rules.specs.declared.Console.TheVariants.{One, Two, Three, Four}
 use Rattle.rules.specs.declared.Waiting.{Waiting}
@@ -38,7 +37,7 @@ module _ (q : Queues) (w : Waiting) where
   pub admitted :
       (c : Console) (xs : Queue) (ys : Queue) (n : ℕ) (p : Queues) → waiting_in xs ≡ queue_of c (queues_in q) → n ≡ length (waiting_in xs) → n < most_waiting
       → waiting_in ys ≡ waiting_in xs ++ (w ∷ []) → queues_in p ≡ with_turn q.turn (with_queue c (waiting_in ys) (queues_in q))
-      → Admits q (some c) w (record { answer = Accepted 0; queues = p })
+      → Admits q (Some c) w (record { answer = Accepted 0; queues = p })
   unfolding answer_of accepting
   admitted c xs ys n p own size h e f =
       let ws = queue_of c (queues_in q) in
@@ -53,7 +52,7 @@ module _ (q : Queues) (w : Waiting) where
   -- there is none
   pub not_admitted :
       (c : Console) (xs : Queue) (n : ℕ) → waiting_in xs ≡ queue_of c (queues_in q) → n ≡ length (waiting_in xs) → most_waiting ≤ n
-      → Admits q (some c) w (record { answer = Refused queue_full; queues = q })
+      → Admits q (Some c) w (record { answer = Refused queue_full; queues = q })
   unfolding answer_of accepting
   not_admitted c xs n own size h =
       record {
@@ -62,7 +61,7 @@ module _ (q : Queues) (w : Waiting) where
       }
 
   -- no console has the number
-  pub nowhere : Admits q none w (record { answer = Refused no_such_console; queues = q })
+  pub nowhere : Admits q None w (record { answer = Refused no_such_console; queues = q })
   unfolding answer_of accepting
   nowhere = record { settled = refl; refused = λ m e. refl }
 

@@ -1,10 +1,10 @@
 -- What the queues of this crate stand for, in any state: those of rules, specs/Desks.antt. Of a queue as many edits count as there are places at most.
 use Rattle.std.specs.Prelude.{ℕ, ◌≡◌, List, take}
-use Rattle.std.proofs.Math.Option.{Option, none, some}
+use Rattle.std.specs.Prelude.{Option, None, Some}
 use Rattle.base.specs.Choice.{only}
 use Rattle.rules.specs.Desks as Desks
 use Rattle.rules.specs.Desks.{refusal_at, arrival_by}
-use Rattle.rules.specs.declared.Answer.TheVariants.{Refused}
+use Rattle.rules.specs.Answers.{Refused}
 use Rattle.rules.specs.declared.Console.{Console}
 use Rattle.rules.specs.declared.Waiting.{Waiting}
 use Rattle.queues.specs.declared.Queue.{Queue}
@@ -22,8 +22,8 @@ queues_in q =
     record { one = waiting_in q.one; two = waiting_in q.two; three = waiting_in q.three; four = waiting_in q.four; turn = q.turn }
 
 abbrev pub named_in : Named → Option Console
-named_in (Is c) = some c
-named_in Nobody = none
+named_in (Is c) = Some c
+named_in Nobody = None
 
 abbrev pub arrival_in : Arrival → Desks.Arrival
 arrival_in a = record { answer = a.answer; queues = queues_in a.queues }

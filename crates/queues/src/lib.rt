@@ -3,7 +3,7 @@
 #![tactic(auto)]
 
 ghost use Rattle.std.specs.Prelude.{◌≡◌, [], ◌∷◌, ◌++◌, ℕ, ◌<◌, length, drop};
-ghost use Rattle.std.proofs.Math.Option.{some};
+ghost use Rattle.std.specs.Prelude.{Some};
 ghost use Rattle.base.specs.Search.{or_else};
 ghost use Rattle.rules.specs.Desks.{console_number, console_of, next_to, fresh_queues, queue_of, with_queue, with_turn, most_waiting, oldest_at, taken};
 ghost use Rattle.queues.specs.Waits.{waiting_in, queues_in, named_in, Admits, taken_in};
@@ -231,7 +231,7 @@ fn refuse(q: Queues, number: usize) -> Arrival
 
 // At a console that there is.
 fn admit(q: Queues, c: Console, w: Waiting) -> Arrival
-    ensures { Admits q (some c) w result }
+    ensures { Admits q (Some c) w result }
 {
     let x = own(q, c);
     let n = size(x);

@@ -9,7 +9,7 @@ use Rattle.rules.specs.Reasons.{or_last, hindrance, reason_for}
 use Rattle.rules.specs.Calls.{explained}
 use Rattle.rules.specs.declared.Reason.{Reason}
 use Rattle.rules.specs.declared.Reason.TheVariants.{NoGreaterTotal}
-use Rattle.rules.specs.declared.Why.TheVariants.{Because, Refused}
+use Rattle.rules.specs.Answers.{Accepted, Refused}
 
 refused_is : (n : ℕ) (q : Reason) → ¬ (n ≡ 0) → Refused n ≡ explained n q
 unfolding explained
@@ -19,7 +19,7 @@ refused_is (suc n) q some = refl
 pub refused_as : {n m : ℕ} (q : Reason) → n ≡ m → ¬ (n ≡ 0) → Refused n ≡ explained m q
 refused_as {n} q e some = rw (← e) (refused_is n q some)
 
-pub because : {n m : ℕ} {q r : Reason} → n ≡ m → n ≡ 0 → r ≡ q → Because r ≡ explained m q
+pub because : {n m : ℕ} {q r : Reason} → n ≡ m → n ≡ 0 → r ≡ q → Accepted r ≡ explained m q
 unfolding explained
 because e z f = rw (← e, z, f)
 

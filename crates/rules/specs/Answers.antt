@@ -1,9 +1,9 @@
 -- Document 01, "Where a call is refused": the refusals by name, those of document 02's requests behind them, and how a refusal and a result
 -- become an answer, for every call alike. A refusal is its number, and 0 where there is none.
-use Rattle.std.specs.Prelude.{ℕ, zero, suc, Bool, true, false}
+use Rattle.std.specs.Prelude.{ℕ, zero, suc, Bool, true, false, Result, Ok, Err}
 use Rattle.base.specs.Over.{between}
-use Rattle.rules.specs.declared.Answer.{Answer}
-use Rattle.rules.specs.declared.Answer.TheVariants.{Accepted, Refused}
+use Rattle.rules.specs.declared.refusals.Refusal.{Refusal}
+use Rattle.rules.specs.declared.refusals.Refusal.TheVariants.{CutShort, OtherKind, OtherLength, OutOfRange, BytesFollow, NoSuchSegment, NoSuchNumber, NewOutOfRange, BufferTooShort, NoSuchPoints, NoRoomForPage, NoReading, WindowEmpty, LeaderNotBelow, LeaderSet, NoSuchOffice, TablesInUse, WrongField, WrongLine, NoSuchConsole, QueueFull}
 
 -- ---- the refusals, in the table's order
 
@@ -80,6 +80,30 @@ no_such_console = 20
 abbrev pub queue_full : ℕ
 queue_full = 21
 
+-- each by its name in the code
+abbrev pub number_of : Refusal → ℕ
+number_of CutShort = cut_short
+number_of OtherKind = other_kind
+number_of OtherLength = other_length
+number_of OutOfRange = out_of_range
+number_of BytesFollow = bytes_follow
+number_of NoSuchSegment = no_such_segment
+number_of NoSuchNumber = no_such_number
+number_of NewOutOfRange = new_out_of_range
+number_of BufferTooShort = buffer_too_short
+number_of NoSuchPoints = no_such_points
+number_of NoRoomForPage = no_room_for_page
+number_of NoReading = no_reading
+number_of WindowEmpty = window_empty
+number_of LeaderNotBelow = leader_not_below
+number_of LeaderSet = leader_set
+number_of NoSuchOffice = no_such_office
+number_of TablesInUse = tables_in_use
+number_of WrongField = wrong_field
+number_of WrongLine = wrong_line
+number_of NoSuchConsole = no_such_console
+number_of QueueFull = queue_full
+
 -- ---- how one comes about
 
 -- refusal n where the test fails, else what the later tests say
@@ -103,10 +127,29 @@ first_refusal (suc n) f = or_later (first_refusal n f) (f (suc n))
 
 -- ---- what is answered and what is held
 
--- the answer: a value where nothing refuses it, else the number, marked as a refusal
-unfoldable pub answer_of : ℕ → ℕ → Answer
+-- what a call answers: a value, or the number of a refusal, marked so that it cannot be read as a value
+pub data Answered (A : Type 0) : Type 0 where
+  Accepted : A → Answered A
+  Refused : ℕ → Answered A
+
+-- the value of most calls is a number: 0, a length, points
+abbrev pub Answer : Type 0
+Answer = Answered ℕ
+
+-- the value where nothing refuses it, else the number
+unfoldable pub answer_of : {A : Type 0} → ℕ → A → Answered A
 answer_of zero value = Accepted value
 answer_of (suc n) value = Refused (suc n)
+
+-- what the code's results say: the value, or the refusal's number
+abbrev pub answer_in : {A : Type 0} → Result A Refusal → Answered A
+answer_in (Ok value) = Accepted value
+answer_in (Err refusal) = Refused (number_of refusal)
+
+-- what refuses it, 0 where nothing does
+abbrev pub refusal_in : {A : Type 0} → Result A Refusal → ℕ
+refusal_in (Ok value) = 0
+refusal_in (Err refusal) = number_of refusal
 
 -- what is held after it: the new where nothing refuses it, else what stood there
 unfoldable pub accepting : {A : Type 0} → ℕ → A → A → A

@@ -7,16 +7,12 @@ use Rattle.rules.specs.File.{Read, refused, found, decode, encode}
 use Rattle.rules.specs.Plan.{plan_of}
 use Rattle.rules.specs.Page.{page, page_length}
 use Rattle.rules.specs.Reasons.{reason_for}
-use Rattle.rules.specs.Answers.{no_such_segment, no_such_number, new_out_of_range, buffer_too_short, no_room_for_page, leader_not_below, unless, one_to, answer_of, accepting}
+use Rattle.rules.specs.Answers.{no_such_segment, no_such_number, new_out_of_range, buffer_too_short, no_room_for_page, leader_not_below, unless, one_to, answer_of, accepting, Answered, Answer}
 use Rattle.rules.specs.declared.Edit.{Edit}
 use Rattle.rules.specs.declared.Edit.TheVariants.{Bar, Unbar, SetLimit, SetRating, SetLeader}
 use Rattle.rules.specs.declared.Programme.{Programme}
 use Rattle.rules.specs.declared.Unit.{Unit}
 use Rattle.rules.specs.declared.Reason.{Reason}
-use Rattle.rules.specs.declared.Reply.{Reply}
-use Rattle.rules.specs.declared.Answer.{Answer}
-use Rattle.rules.specs.declared.Why.{Why}
-use Rattle.rules.specs.declared.Why.TheVariants.{Because, Refused}
 
 -- ---- the refusal of each call, the first condition that it meets
 
@@ -84,6 +80,11 @@ unit_of d = record { district = d; programme = plan_of d }
 unfoldable pub fresh_unit : Unit
 fresh_unit = unit_of fresh_district
 
+-- an answer and the unit as the call leaves it
+pub record Reply : Type 0 where
+  pub answer : Answer
+  pub unit : Unit
+
 -- accepted, the call returns 0 and the district replaces the one held
 unfoldable pub answered : Unit → ℕ → District → Reply
 answered u n d = record { answer = answer_of n 0; unit = accepting n (unit_of d) u }
@@ -115,10 +116,12 @@ page_of u buffer = exported (page_refusal u.district buffer) (page u.district u.
 unfoldable pub show_of : Unit → Programme
 show_of u = u.programme
 
+abbrev pub Why : Type 0
+Why = Answered Reason
+
 -- a reason where nothing refuses the question, else the refusal's number
 unfoldable pub explained : ℕ → Reason → Why
-explained zero reason = Because reason
-explained (suc n) reason = Refused (suc n)
+explained n reason = answer_of n reason
 
 -- the refusals are those of a bar
 unfoldable pub why_of : Unit → ℕ → ℕ → Why

@@ -1,12 +1,11 @@
 -- Files turned up and down (document 02, request 9), computed from these rules. The test card in the form with leaders is written byte for byte
 -- from the documents.
 use Rattle.std.specs.Prelude.{ℕ, ◌≡◌, refl, List, [], ◌∷◌, ◌++◌, map, take, drop, set, replicate}
-use Rattle.rules.specs.Answers.{answer_of, accepting}
+use Rattle.rules.specs.Answers.{answer_of, accepting, Accepted, Refused}
 use Rattle.rules.specs.Calls.{exported}
 use Rattle.rules.specs.Conversions.{up_refusal, up_file, down_refusal, down_file, turned_into, up_of, down_of}
 use Rattle.rules.specs.Marked.{card}
 use Rattle.rules.specs.Results.{result_of}
-use Rattle.rules.specs.declared.Answer.TheVariants.{Accepted, Refused}
 
 -- kind 8, and a byte more in each of the two segments, the last
 abbrev pub card_up : List ℕ

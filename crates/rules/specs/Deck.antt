@@ -6,23 +6,29 @@
 --
 -- Columns, and rows of the layout, are counted from 1; lines from 0, the title.
 use Rattle.std.specs.Prelude.{ℕ, ◌+◌, ◌-◌, ◌*◌, Bool, true, false, ◌&&◌, List, [], ◌∷◌, ◌++◌, leb, ltb, eqb, length, get_or, take, drop, replicate}
-use Rattle.std.proofs.Math.Option.{Option, none, some}
+use Rattle.std.specs.Prelude.{Option, None, Some}
 use Rattle.base.specs.Choice.{pick, only}
 use Rattle.base.specs.Over.{all, listed}
 use Rattle.base.specs.Text.{up_to, on_from, skipped, value_from}
 use Rattle.rules.specs.Answers.{wrong_field, wrong_line, unless, or_later, first_refusal}
 use Rattle.rules.specs.District.{most_segments, traffic_at, environment_at, length_at, width_at, segments_of}
 use Rattle.rules.specs.Format.{plain_form, slot, most_places, inside, kind_field}
-use Rattle.rules.specs.declared.Columns.{Columns}
 use Rattle.rules.specs.declared.Field.{Field}
 use Rattle.rules.specs.declared.Notation.{Notation}
 use Rattle.rules.specs.declared.Notation.TheVariants.{Whole, Hundredths, Units}
 
 -- ---- the layout of the cards
 
+pub record Columns : Type 0 where
+  pub first : ℕ
+  pub last : ℕ
+  pub notation : Notation
+  pub kind : ℕ
+  pub place : ℕ
+
 -- the first column and the last, how the number in them is written, and which number of which kind of the file's records it is
 abbrev pub columns : ℕ → ℕ → Notation → ℕ → ℕ → Columns
-columns first last notation kind place = record { 0 = first; 1 = last; 2 = notation; 3 = kind; 4 = place }
+columns first last notation kind place = record { first = first; last = last; notation = notation; kind = kind; place = place }
 
 unfoldable pub layout : List Columns
 layout =
@@ -56,7 +62,7 @@ rows_before_segment = per_card
 
 -- the bytes of a card in these columns
 unfoldable pub cut : Columns → List ℕ → List ℕ
-cut c card = drop (c.0 - 1) (take c.1 card)
+cut c card = drop (c.first - 1) (take c.last card)
 
 -- ---- how numbers are written
 
@@ -75,7 +81,7 @@ nothing_but b bs = eqb (length (skipped b bs)) 0
 
 -- a whole-number field: blanks may stand in front; the rest is digits, at least one, the last in the last column
 unfoldable pub whole_in : List ℕ → Option ℕ
-whole_in field = pick (nothing_but blank field) none (value_from 0 (skipped blank field))
+whole_in field = pick (nothing_but blank field) None (value_from 0 (skipped blank field))
 
 -- a decimal field: blanks may stand on both sides; at least one digit before the point, none to two behind it. Its parts are what stands before the
 -- point, the point with all that follows, what stands between the point and the next blank, and all from that blank on
@@ -100,11 +106,11 @@ unfoldable pub hundredths_digits : List ℕ → List ℕ
 hundredths_digits field = before_point field ++ (after_point field ++ drop (length (after_point field)) (zero_digit ∷ zero_digit ∷ []))
 
 unfoldable pub hundredths_in : List ℕ → Option ℕ
-hundredths_in field = pick (has_decimal_form field) (value_from 0 (hundredths_digits field)) none
+hundredths_in field = pick (has_decimal_form field) (value_from 0 (hundredths_digits field)) None
 
 -- in whole units: what stands before the point, where all digits behind it are 0
 unfoldable pub units_in : List ℕ → Option ℕ
-units_in field = pick (has_decimal_form field && nothing_but zero_digit (after_point field)) (value_from 0 (before_point field)) none
+units_in field = pick (has_decimal_form field && nothing_but zero_digit (after_point field)) (value_from 0 (before_point field)) None
 
 unfoldable pub written : Notation → List ℕ → Option ℕ
 written Whole field = whole_in field
@@ -115,24 +121,24 @@ written Units field = units_in field
 
 -- a number where it is in the range
 unfoldable pub only_inside : Field → Option ℕ → Option ℕ
-only_inside f none = none
-only_inside f (some v) = only (inside f v) v
+only_inside f None = None
+only_inside f (Some v) = only (inside f v) v
 
 -- the file's range of that number, by its kind and place; the counts stand for a district, so that a highway type goes up to the deck's own count
 unfoldable pub range_of : List ℕ → Columns → Field
-range_of counts c = kind_field counts (slot plain_form c.3 most_places 0) c.4
+range_of counts c = kind_field counts (slot plain_form c.kind most_places 0) c.place
 
 -- the number of row n on a card, or nothing where its field is badly written or the number is out of its range
 unfoldable pub field_on : List ℕ → List ℕ → ℕ → Option ℕ
-field_on counts card n = only_inside (range_of counts (row n)) (written (row n).2 (cut (row n) card))
+field_on counts card n = only_inside (range_of counts (row n)) (written (row n).notation (cut (row n) card))
 
 unfoldable pub is_number : Option ℕ → Bool
-is_number none = false
-is_number (some v) = true
+is_number None = false
+is_number (Some v) = true
 
 unfoldable pub or_zero : Option ℕ → ℕ
-or_zero none = 0
-or_zero (some v) = v
+or_zero None = 0
+or_zero (Some v) = v
 
 -- field k of the five of a card, where b rows stand before its own: whether it is good, and its number
 unfoldable pub is_good : List ℕ → List ℕ → ℕ → ℕ → Bool

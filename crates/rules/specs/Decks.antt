@@ -1,7 +1,7 @@
 -- Decks in the report's layout (document 02, request 11), computed from these rules.
 use Rattle.std.specs.Prelude.{ℕ, List, [], ◌∷◌, ◌++◌, map, ◌≡◌, refl, take, drop, replicate}
 use Prim.Native.String.{String}
-use Rattle.std.proofs.Math.Option.{none, some}
+use Rattle.std.specs.Prelude.{None, Some}
 use Rattle.base.specs.Over.{all, listed_from, listed}
 use Rattle.base.specs.Text.{text, up_to, on_from, skipped, value_from}
 use Rattle.rules.specs.Answers.{first_refusal}
@@ -17,7 +17,7 @@ pub wholes :
     map whole_in
     (text "   12" ∷ text "00064" ∷ text "  12 " ∷ text "  1 2" ∷ text "     " ∷ text "   -1" ∷ text "   +1" ∷ text "  \t12" ∷ text "   1/" ∷ text "   1:" ∷ text "  12."
     ∷ text "0000000000000000000000000000000000000012" ∷ text "9999999999999999999999999999999999999999" ∷ [])
-    ≡ some 12 ∷ some 64 ∷ none ∷ none ∷ none ∷ none ∷ none ∷ none ∷ none ∷ none ∷ none ∷ some 12 ∷ some 9999999999999999999999999999999999999999 ∷ []
+    ≡ Some 12 ∷ Some 64 ∷ None ∷ None ∷ None ∷ None ∷ None ∷ None ∷ None ∷ None ∷ None ∷ Some 12 ∷ Some 9999999999999999999999999999999999999999 ∷ []
 unfolding text skipped value_from nothing_but whole_in
 wholes = refl
 
@@ -26,14 +26,14 @@ wholes = refl
 pub decimals :
     map hundredths_in
     (text " 12.  " ∷ text "12.5" ∷ text "012.05 " ∷ text " .5" ∷ text "12.500" ∷ text "125" ∷ text "1.2." ∷ text "1 2.5" ∷ text "12 .5" ∷ text "12. 5" ∷ text "12.5 0" ∷ text "12.x" ∷ text "12,5" ∷ text "+12.5" ∷ text "-12.5" ∷ text "\t12.5" ∷ [])
-    ≡ some 1200 ∷ some 1250 ∷ some 1205 ∷ replicate 13 none
+    ≡ Some 1200 ∷ Some 1250 ∷ Some 1205 ∷ replicate 13 None
 unfolding text up_to on_from skipped value_from nothing_but before_point from_point after_point after_digits has_decimal_form hundredths_digits hundredths_in
 decimals = refl
 
 -- a width
 pub feet :
     map units_in (text "12." ∷ text "12.0" ∷ text " 12.00 " ∷ text "12.5" ∷ text "12.01" ∷ text "12" ∷ text "12.000" ∷ [])
-    ≡ some 12 ∷ some 12 ∷ some 12 ∷ none ∷ none ∷ none ∷ none ∷ []
+    ≡ Some 12 ∷ Some 12 ∷ Some 12 ∷ None ∷ None ∷ None ∷ None ∷ []
 unfolding text up_to on_from skipped value_from nothing_but before_point from_point after_point after_digits has_decimal_form units_in
 feet = refl
 

@@ -1,6 +1,6 @@
 -- The three demands on the unit, as statements. Document 01 refers to them by number; docs/CLAIMS.md has their sentences.
 use Rattle.std.specs.Prelude.{ℕ, suc, ◌+◌, ◌≤◌, ◌<◌, ◌≡◌, Bool, true, false, ◌&&◌, ◌||◌, List, ◌++◌, leb, eqb, pos, ◌≤ℤ◌, length, drop}
-use Rattle.std.proofs.Math.Option.{none}
+use Rattle.std.specs.Prelude.{None}
 use Rattle.std.specs.Int.Signed.{lt_z}
 use Rattle.base.specs.Bytes.{Bytes}
 use Rattle.base.specs.Over.{all}
@@ -13,16 +13,14 @@ use Rattle.rules.specs.Table.{Table, table_of}
 use Rattle.rules.specs.Phases.{strategy_at, within, heeds, pick_up, change}
 use Rattle.rules.specs.Page.{page_length}
 use Rattle.rules.specs.Plan.{reduced, filled, improved, programme_of}
-use Rattle.rules.specs.Answers.{no_such_points, window_empty}
+use Rattle.rules.specs.Answers.{no_such_points, window_empty, Accepted, Refused}
 use Rattle.rules.specs.Survey.{block_of, points_of, survey_refusal, survey_of}
 use Rattle.rules.specs.Calls.{load_refusal, district_in, load_of, Export, export_of, show_of}
 use Rattle.rules.specs.Lists.{Call, Load, Alter, ExportTo, PageTo, Show, AskWhy, refusal_of, altered, lent_to, outcome_of, district_after, unit_after}
-use Rattle.rules.specs.Meter.{Heard, heard_with, heard_after, window_of, mays_points, roughness_refusal, roughness_of}
+use Rattle.rules.specs.Meter.{Heard, heard_with, heard_after, window_of, mays_points, roughness_refusal, points_at, roughness_of}
 use Rattle.rules.specs.Offices.{Held, OfficeCall, Plan, Send, AskRoughness, office_refusal, lent_bytes, office_outcome, held_after, unit_calls, sent_in}
 use Rattle.rules.specs.declared.Programme.{Programme}
 use Rattle.rules.specs.declared.Unit.{Unit}
-use Rattle.rules.specs.declared.Answer.TheVariants.{Accepted, Refused}
-use Rattle.rules.specs.declared.Roughness.TheVariants.{Points, Refused as Roughness-as-Refused}
 
 -- ---- Demand 1, every answer is settled
 
@@ -63,8 +61,8 @@ EveryPoints = (code degree extent seal : ℕ) → PointsSettled code degree exte
 -- phase 1, r, ends when every limit holds, and phases 2 and 3 when there is nothing more to do: none because its bound is used up
 pub record Finished (t : Table) (leader : ℕ → ℕ) (r : Run (List ℕ)) : Type 0 where
   pub steps : within t r.last ≡ true
-  pub pickups : pick_up t leader (filled t leader r).last ≡ none
-  pub changes : change t leader (improved t leader r).last ≡ none
+  pub pickups : pick_up t leader (filled t leader r).last ≡ None
+  pub changes : change t leader (improved t leader r).last ≡ None
 
 -- an accepted export of a file
 abbrev pub file_in : List ℕ → List ℕ → Export
@@ -202,8 +200,8 @@ pub record OfficeClaim (cs : List OfficeCall) : Type 0 where
 
 -- the points themselves, as survey points: the Mays rows' with the marker's bits, or the refusal
 pub record RoughnessSettled (h : Heard) : Type 0 where
-  pub accepted : roughness_refusal h ≡ 0 → roughness_of h ≡ Points (mays_points (window_of h)) h.marker
-  pub refused : ¬ (roughness_refusal h ≡ 0) → roughness_of h ≡ Roughness-as-Refused window_empty
+  pub accepted : roughness_refusal h ≡ 0 → roughness_of h ≡ Accepted (points_at (mays_points (window_of h)) h.marker)
+  pub refused : ¬ (roughness_refusal h ≡ 0) → roughness_of h ≡ Refused window_empty
 
 abbrev pub EveryOfficeAnswer : Type 0
 EveryOfficeAnswer = (o : Held) (c : OfficeCall) → OfficeSettled o c

@@ -2,20 +2,20 @@
 -- most four steps for each edit before it in its queue, and four for itself; each accepted edit is carried out once and in the order of its queue; and
 -- what is answered is what the list of calls gets in which each edit stands at its step, so that all that is promised of lists of calls holds.
 use Rattle.std.specs.Prelude.{ℕ, zero, suc, ◌+◌, ◌*◌, ◌≤◌, ◌<◌, ◌≡◌, true, List, [], ◌∷◌, ◌++◌, eqb, length, take}
-use Rattle.std.proofs.Math.Option.{Option, none, some}
+use Rattle.std.specs.Prelude.{Option, None, Some}
 use Rattle.base.specs.Choice.{pick}
 use Rattle.rules.specs.District.{District, shared_tables}
-use Rattle.rules.specs.Answers.{no_such_office, no_such_console, queue_full}
+use Rattle.rules.specs.Answers.{no_such_office, no_such_console, queue_full, Answer, Accepted, Refused}
 use Rattle.rules.specs.Calls.{unit_of, show_of}
 use Rattle.rules.specs.Offices.{Held}
-use Rattle.rules.specs.Stations.{Which, First, Second, other, Both, own, number_of, fresh_both, StationCall, station_outcome, station_from, station_after, districts_after, without}
+use Rattle.rules.specs.Stations.{other, Both, own, number_of, fresh_both, StationCall, station_outcome, station_from, station_after, districts_after, without}
 use Rattle.rules.specs.Demands.{Sound, Shown}
 use Rattle.rules.specs.StationDemands.{StationClaim, nothing_more, Got, gets, got_by, throughout, leaves_tables, not_in_use}
 use Rattle.rules.specs.Desks.{console_number, next_to, Queues, queue_of, with_queue, with_turn, most_waiting, Arrival, arrival_of, Taken, taken, Desk, fresh_desk, carrying, step_of, Event, Arrive, Step, Ask, desk_by, answer_to, desk_from, desk_after, gathered, calls_at, calls_from, calls_in, carried_by, accepted_from, carried_from, steps_in}
 use Rattle.rules.specs.declared.Console.{Console}
 use Rattle.rules.specs.declared.Waiting.{Waiting}
-use Rattle.rules.specs.declared.Answer.{Answer}
-use Rattle.rules.specs.declared.Answer.TheVariants.{Accepted, Refused}
+use Rattle.rules.specs.declared.Which.{Which}
+use Rattle.rules.specs.declared.Which.TheVariants.{First, Second}
 
 -- ---- Each event is settled, of a desk in any state
 
@@ -72,7 +72,7 @@ pub record Carries (d : Desk) (c : Console) (w : Waiting) (ws : List Waiting) : 
 pub record Idles (d : Desk) : Type 0 where
   pub step : step_of d ≡ record { console = 0; answer = Accepted 0; desk = d }
   pub call : calls_at d Step ≡ []
-  pub none : (c : Console) → carried_by c d Step ≡ []
+  pub None : (c : Console) → carried_by c d Step ≡ []
 
 pub record StepSettled (d : Desk) : Type 0 where
   -- none waits;
@@ -117,8 +117,8 @@ pub record Given : Type 0 where
 
 -- a step gives the answer of its edit; an arrival gives no more than its own
 abbrev pub step_gives : Option Taken → Answer → List Given
-step_gives none answer = []
-step_gives (some t) answer = record { office = t.waiting.office; got = record { answer = answer; bytes = []; told = nothing_more } } ∷ []
+step_gives None answer = []
+step_gives (Some t) answer = record { office = t.waiting.office; got = record { answer = answer; bytes = []; told = nothing_more } } ∷ []
 
 unfoldable pub gives : Desk → Event → List Given
 gives d (Arrive n w) = []

@@ -1,18 +1,17 @@
 -- Document 02, request 12: four consoles before one planner, together a desk. Each console has a queue of edits; a step carries out one of them, and
 -- the consoles have their turns in circular order. What both offices hold is changed by steps, and by the calls of a station as ever.
 use Rattle.std.specs.Prelude.{ℕ, suc, ◌&&◌, List, [], ◌∷◌, ◌++◌, ltb, eqb, length}
-use Rattle.std.proofs.Math.Option.{Option, none, some}
+use Rattle.std.specs.Prelude.{Option, None, Some}
 use Rattle.base.specs.Choice.{pick}
 use Rattle.base.specs.Search.{or_else}
-use Rattle.rules.specs.Answers.{no_such_office, no_such_console, queue_full, unless, answer_of, accepting}
+use Rattle.rules.specs.Answers.{no_such_office, no_such_console, queue_full, unless, answer_of, accepting, Answer, Accepted}
 use Rattle.rules.specs.Lists.{Alter}
 use Rattle.rules.specs.Offices.{Held, Plan}
-use Rattle.rules.specs.Stations.{Which, Both, office_of, fresh_both, StationCall, call_of, StationOutcome, station_outcome}
+use Rattle.rules.specs.Stations.{Both, office_of, fresh_both, StationCall, call_of, StationOutcome, station_outcome}
 use Rattle.rules.specs.declared.Console.{Console}
 use Rattle.rules.specs.declared.Console.TheVariants.{One, Two, Three, Four}
 use Rattle.rules.specs.declared.Waiting.{Waiting}
-use Rattle.rules.specs.declared.Answer.{Answer}
-use Rattle.rules.specs.declared.Answer.TheVariants.{Accepted}
+use Rattle.rules.specs.declared.Which.{Which}
 
 -- ---- the consoles
 
@@ -24,7 +23,7 @@ console_number Three = 3
 console_number Four = 4
 
 abbrev pub console_of : ℕ → Option Console
-console_of n = pick (eqb n 1) (some One) (pick (eqb n 2) (some Two) (pick (eqb n 3) (some Three) (pick (eqb n 4) (some Four) none)))
+console_of n = pick (eqb n 1) (Some One) (pick (eqb n 2) (Some Two) (pick (eqb n 3) (Some Three) (pick (eqb n 4) (Some Four) None)))
 
 -- the next in circular order
 abbrev pub next_to : Console → Console
@@ -69,13 +68,13 @@ most_waiting = 8
 
 -- 20 where no console has the number, 21 where no place is free there
 abbrev pub refusal_at : Option Console → Queues → ℕ
-refusal_at none q = no_such_console
-refusal_at (some c) q = unless (ltb (length (queue_of c q)) most_waiting) queue_full 0
+refusal_at None q = no_such_console
+refusal_at (Some c) q = unless (ltb (length (queue_of c q)) most_waiting) queue_full 0
 
 -- 16, which comes before both, where no office has its number
 abbrev pub refusal_behind : Option Which → ℕ → ℕ
-refusal_behind none r = no_such_office
-refusal_behind (some w) r = r
+refusal_behind None r = no_such_office
+refusal_behind (Some w) r = r
 
 -- nothing else is tested before the edit's step
 unfoldable pub arrival_refusal : Queues → ℕ → Waiting → ℕ
@@ -83,8 +82,8 @@ arrival_refusal q n w = refusal_behind (office_of w.office) (refusal_at (console
 
 -- last in its queue
 abbrev pub queued_at : Option Console → Waiting → Queues → Queues
-queued_at none w q = q
-queued_at (some c) w q = with_queue c (queue_of c q ++ (w ∷ [])) q
+queued_at None w q = q
+queued_at (Some c) w q = with_queue c (queue_of c q ++ (w ∷ [])) q
 
 pub record Arrival : Type 0 where
   pub answer : Answer
@@ -107,8 +106,8 @@ pub record Taken : Type 0 where
 
 -- the oldest of console c; the turn is then the next one's
 abbrev pub oldest_of : Console → List Waiting → Queues → Option Taken
-oldest_of c [] q = none
-oldest_of c (w ∷ ws) q = some record { console = c; waiting = w; queues = with_turn (next_to c) (with_queue c ws q) }
+oldest_of c [] q = None
+oldest_of c (w ∷ ws) q = Some record { console = c; waiting = w; queues = with_turn (next_to c) (with_queue c ws q) }
 
 abbrev pub oldest_at : Queues → Console → Option Taken
 oldest_at q c = oldest_of c (queue_of c q) q
@@ -144,8 +143,8 @@ carried_out t o = record { console = console_number t.console; answer = o.answer
 
 -- where none waits nothing changes, not the turn either
 abbrev pub step_with : Desk → Option Taken → Stepped
-step_with d none = record { console = 0; answer = Accepted 0; desk = d }
-step_with d (some t) = carried_out t (station_outcome d.held (carrying t.waiting))
+step_with d None = record { console = 0; answer = Accepted 0; desk = d }
+step_with d (Some t) = carried_out t (station_outcome d.held (carrying t.waiting))
 
 unfoldable pub step_of : Desk → Stepped
 step_of d = step_with d (taken d.queues)
@@ -183,8 +182,8 @@ gathered f d (e ∷ es) = f d e ++ gathered f (desk_by d e) es
 -- ---- the calls that events make, each edit standing at its step
 
 abbrev pub call_for : Option Taken → List StationCall
-call_for none = []
-call_for (some t) = carrying t.waiting ∷ []
+call_for None = []
+call_for (Some t) = carrying t.waiting ∷ []
 
 unfoldable pub calls_at : Desk → Event → List StationCall
 calls_at d (Arrive n w) = []
@@ -207,8 +206,8 @@ accepted_by c d (Ask call) = []
 
 -- those that are carried out
 abbrev pub taken_for : Console → Option Taken → List Waiting
-taken_for c none = []
-taken_for c (some t) = pick (eqb (console_number t.console) (console_number c)) (t.waiting ∷ []) []
+taken_for c None = []
+taken_for c (Some t) = pick (eqb (console_number t.console) (console_number c)) (t.waiting ∷ []) []
 
 unfoldable pub carried_by : Console → Desk → Event → List Waiting
 carried_by c d (Arrive n w) = []

@@ -6,9 +6,8 @@ use Rattle.base.specs.Choice.{pick}
 use Rattle.base.specs.Bytes.{bytes_of, number_of}
 use Rattle.base.specs.Over.{all}
 use Rattle.rules.specs.District.{District, district_places, segments_of, leader_of}
-use Rattle.rules.specs.Format.{plain_form, leader_form, field_at, present, slot_of, file_records, inside}
+use Rattle.rules.specs.Format.{plain_form, leader_form, field_at, present, slot_of, file_records, inside, Slot}
 use Rattle.rules.specs.Answers.{cut_short, other_kind, other_length, out_of_range, bytes_follow}
-use Rattle.rules.specs.declared.Slot.{Slot}
 use Rattle.rules.specs.declared.Field.{Field}
 
 -- what bytes are read as: a refusal by its number, or values and the bytes that follow

@@ -7,7 +7,6 @@ use Rattle.base.specs.Choice.{pick}
 use Rattle.base.specs.Over.{between}
 use Rattle.rules.specs.District.{District, most_segments, most_strategies, most_years, most_distresses, most_pavements, most_resources, count_places, gains_at, percents_at, per_strategy, minima_at, per_pavement, length_at, width_at, bars_at, ratings_at, leader_at, per_segment, segments_of, strategies_of, years_of, distresses_of, pavements_of, resources_of, greatest_of}
 use Rattle.rules.specs.declared.Field.{Field}
-use Rattle.rules.specs.declared.Slot.{Slot}
 
 -- a number of w bytes, from lo to hi; where hi < lo it is a signed byte, whose negative numbers are the bytes from 128 on
 abbrev pub number : ℕ → ℕ → ℕ → Field
@@ -33,6 +32,12 @@ abbrev pub leader_form : ℕ
 leader_form = 8
 
 -- ---- the records in order
+
+pub record Slot : Type 0 where
+  pub form : ℕ
+  pub kind : ℕ
+  pub places : ℕ
+  pub nth : ℕ
 
 abbrev pub slot : ℕ → ℕ → ℕ → ℕ → Slot
 slot form kind places nth = record { form = form; kind = kind; places = places; nth = nth }

@@ -4,7 +4,7 @@ use Rattle.std.specs.Prelude.{ℕ, ◌≡◌, refl, true, List, [], ◌∷◌, �
 use Rattle.rules.specs.District.{limit_of}
 use Rattle.rules.specs.Lists.{Load, Alter, ExportTo, Show, AskWhy}
 use Rattle.rules.specs.Offices.{Held, Plan, Send, AskRoughness}
-use Rattle.rules.specs.Stations.{Which, First, Second, fresh_both, StationCall, call_of, without}
+use Rattle.rules.specs.Stations.{fresh_both, StationCall, call_of, without}
 use Rattle.rules.specs.StationDemands.{Got, throughout, leaves_tables, not_in_use}
 use Rattle.rules.specs.Desks.{fresh_queues, arrival_refusal, arrival_of, taken, Desk, fresh_desk, step_of, Event, Arrive, Step, Ask, desk_by, answer_to, desk_from, desk_after, gathered, calls_at, calls_in, accepted_by, carried_by, accepted_from, carried_from, steps_in}
 use Rattle.rules.specs.DeskDemands.{further, Given, gives, all_given, given_to}
@@ -16,8 +16,9 @@ use Rattle.rules.specs.declared.Edit.{Edit}
 use Rattle.rules.specs.declared.Edit.TheVariants.{Bar, Unbar, SetLimit, SetRating, SetLeader}
 use Rattle.rules.specs.declared.Sent.TheVariants.{Index, Marker}
 use Rattle.rules.specs.declared.Waiting.{Waiting}
-use Rattle.rules.specs.declared.Answer.{Answer}
-use Rattle.rules.specs.declared.Answer.TheVariants.{Accepted, Refused}
+use Rattle.rules.specs.Answers.{Answer, Accepted, Refused}
+use Rattle.rules.specs.declared.Which.{Which}
+use Rattle.rules.specs.declared.Which.TheVariants.{First, Second}
 
 -- ---- what events return: an arrival, and a call, its answer; a step the console with its edit's answer
 pub data Returned : Type 0 where

@@ -1,13 +1,10 @@
 -- Document 01, "The calls", on demand 3: lists of calls on a fresh unit.
 use Rattle.std.specs.Prelude.{ℕ, List, [], ◌∷◌}
 use Rattle.rules.specs.District.{District, fresh_district}
-use Rattle.rules.specs.Answers.{accepting, answer_of}
-use Rattle.rules.specs.Calls.{load_refusal, export_refusal, page_refusal, bar_refusal, edit_refusal, edited, district_in, fresh_unit, load_of, alter_of, Export, export_of, page_of}
+use Rattle.rules.specs.Answers.{accepting, answer_of, Answer, Accepted}
+use Rattle.rules.specs.Calls.{load_refusal, export_refusal, page_refusal, bar_refusal, edit_refusal, edited, district_in, fresh_unit, load_of, alter_of, Export, export_of, page_of, Reply}
 use Rattle.rules.specs.declared.Edit.{Edit}
 use Rattle.rules.specs.declared.Unit.{Unit}
-use Rattle.rules.specs.declared.Reply.{Reply}
-use Rattle.rules.specs.declared.Answer.{Answer}
-use Rattle.rules.specs.declared.Answer.TheVariants.{Accepted}
 
 -- what a caller may ask, with all that is handed in
 pub data Call : Type 0 where

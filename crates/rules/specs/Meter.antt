@@ -2,11 +2,10 @@
 use Rattle.std.specs.Prelude.{ℕ, zero, suc, ◌+◌, ◌*◌, ◌/◌, ◌%◌, ◌^◌, Bool, not, ◌&&◌, ◌||◌, leb, ltb, eqb, length, take}
 use mathlib.Core.List.{List, [], ◌∷◌, foldr}
 use Rattle.base.specs.Choice.{pick}
-use Rattle.rules.specs.Answers.{no_reading, window_empty, unless, accepting}
+use Rattle.rules.specs.Answers.{no_reading, window_empty, unless, accepting, Answered, answer_of}
+use Rattle.rules.specs.declared.Roughness.{Roughness}
 use Rattle.rules.specs.declared.Sent.{Sent}
 use Rattle.rules.specs.declared.Sent.TheVariants.{Index, Marker, Lost}
-use Rattle.rules.specs.declared.Roughness.{Roughness}
-use Rattle.rules.specs.declared.Roughness.TheVariants.{Points, Refused}
 
 -- ---- a reading, from the 32 bits of its float: sign, exponent and fraction
 
@@ -99,10 +98,13 @@ mays_points window =
 unfoldable pub roughness_refusal : Heard → ℕ
 roughness_refusal h = unless (leb 1 (length (window_of h))) window_empty 0
 
--- the points with the marker's bits where nothing refuses them, else the refusal's number
-unfoldable pub points_unless : ℕ → ℕ → ℕ → Roughness
-points_unless zero points marker = Points points marker
-points_unless (suc n) points marker = Refused (suc n)
+-- points, and the bits of the last marker
+abbrev pub points_at : ℕ → ℕ → Roughness
+points_at points marker = record { points = points; marker = marker }
 
-unfoldable pub roughness_of : Heard → Roughness
+-- both where nothing refuses them, else the refusal's number
+unfoldable pub points_unless : ℕ → ℕ → ℕ → Answered Roughness
+points_unless n points marker = answer_of n (points_at points marker)
+
+unfoldable pub roughness_of : Heard → Answered Roughness
 roughness_of h = points_unless (roughness_refusal h) (mays_points (window_of h)) h.marker

@@ -1,11 +1,10 @@
 -- Records of the meter, computed from these rules. Bits and points are worked out elsewhere, by a program without floats (reference/).
 use Rattle.std.specs.Prelude.{ℕ, ◌≡◌, refl, List, [], ◌∷◌, ◌++◌, map, replicate}
 use Rattle.rules.specs.Meter.{size_of, is_reading, reading_of, silence, sent_refusal, heard_with, hearing, heard_from, heard_after, sum_of, mean_reaches, mays_points, roughness_refusal, points_unless, roughness_of}
-use Rattle.rules.specs.Answers.{accepting}
+use Rattle.rules.specs.Answers.{accepting, answer_of, Accepted, Refused, Answered}
 use Rattle.rules.specs.declared.Sent.{Sent}
 use Rattle.rules.specs.declared.Sent.TheVariants.{Index, Marker, Lost}
 use Rattle.rules.specs.declared.Roughness.{Roughness}
-use Rattle.rules.specs.declared.Roughness.TheVariants.{Points, Refused}
 
 -- ---- which bits are a reading
 
@@ -39,8 +38,8 @@ others_refused = refl
 -- ---- points
 
 -- points and the marker's bits; 13 alone where there is no reading
-abbrev told : Roughness → List ℕ
-told (Points points marker) = points ∷ marker ∷ []
+abbrev told : Answered Roughness → List ℕ
+told (Accepted r) = r.points ∷ r.marker ∷ []
 told (Refused n) = n ∷ []
 
 abbrev points_after : List Sent → List ℕ
@@ -71,7 +70,7 @@ levels =
 pub at_the_thresholds :
     map points_after levels
     ≡ map (λ p. p ∷ 0 ∷ []) (0 ∷ 5 ∷ 5 ∷ 10 ∷ 10 ∷ 20 ∷ 20 ∷ 30 ∷ 30 ∷ 40 ∷ 40 ∷ 50 ∷ 0 ∷ 5 ∷ 10 ∷ 20 ∷ 20 ∷ 30 ∷ 30 ∷ 40 ∷ 40 ∷ 50 ∷ [])
-unfolding size_of is_reading reading_of silence sent_refusal heard_with hearing heard_from heard_after accepting sum_of mean_reaches mays_points roughness_refusal points_unless roughness_of
+unfolding size_of is_reading reading_of silence sent_refusal heard_with hearing heard_from heard_after accepting sum_of mean_reaches mays_points roughness_refusal points_unless roughness_of answer_of
 at_the_thresholds = refl
 
 -- ---- windows
@@ -103,5 +102,5 @@ pub window_slides :
     ∷ (40 ∷ 0 ∷ []) ∷ (50 ∷ 0 ∷ []) ∷ (40 ∷ 0 ∷ [])
     ∷ (0 ∷ 4290847557 ∷ []) ∷ (50 ∷ 2147483648 ∷ [])
     ∷ []
-unfolding size_of is_reading reading_of silence sent_refusal heard_with hearing heard_from heard_after accepting sum_of mean_reaches mays_points roughness_refusal points_unless roughness_of
+unfolding size_of is_reading reading_of silence sent_refusal heard_with hearing heard_from heard_after accepting sum_of mean_reaches mays_points roughness_refusal points_unless roughness_of answer_of
 window_slides = refl

@@ -1,13 +1,12 @@
 -- Document 02, request 6: beside the planning unit stands the window of a roughness meter. Both together are an office, as request 10 calls it.
 -- The list of all its calls.
 use Rattle.std.specs.Prelude.{ℕ, List, [], ◌∷◌}
-use Rattle.rules.specs.Answers.{answer_of}
+use Rattle.rules.specs.Answers.{answer_of, Answer}
 use Rattle.rules.specs.Meter.{Heard, silence, sent_refusal, hearing, roughness_refusal}
 use Rattle.rules.specs.Calls.{fresh_unit}
 use Rattle.rules.specs.Lists.{Call, refusal_of, lent_to, Outcome, outcome_of}
 use Rattle.rules.specs.declared.Unit.{Unit}
 use Rattle.rules.specs.declared.Sent.{Sent}
-use Rattle.rules.specs.declared.Answer.{Answer}
 
 -- what an office holds: its unit, and what was heard from the van
 pub record Held : Type 0 where

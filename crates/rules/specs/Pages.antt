@@ -5,7 +5,7 @@ use Rattle.base.specs.Text.{text}
 use Rattle.rules.specs.Calls.{fresh_unit, page_of}
 use Rattle.rules.specs.Writer.{Roads, strategy, nothing_demanded, segment, barring, district_of}
 use Rattle.rules.specs.Results.{Paged, given, printed, result_of, WorkedCase, ◌⇒◌, Agree}
-use Rattle.rules.specs.declared.Answer.TheVariants.{Accepted, Refused}
+use Rattle.rules.specs.Answers.{Accepted, Refused}
 
 abbrev pub heading_line : String
 heading_line = "NO MILES  FT ST        BENEFIT        R1        R2        R3        R4          "

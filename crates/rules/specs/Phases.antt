@@ -3,7 +3,7 @@
 -- What a sum or a test runs over is a function's last number: `chosen_usage c r` over the segments, `pull_by c i` over the resources.
 -- `total` and `within` are Rating's, over a table. What depends on leaders (document 02, request 8) takes them beside the table.
 use Rattle.std.specs.Prelude.{ℕ, zero, suc, ◌-◌, ◌*◌, ◌/◌, Bool, not, ◌&&◌, ◌||◌, List, leb, ltb, eqb, get_or, set}
-use Rattle.std.proofs.Math.Option.{Option, none, some}
+use Rattle.std.specs.Prelude.{Option, None, Some}
 use Rattle.base.specs.Choice.{pick, only}
 use Rattle.base.specs.Over.{sum, all, best, listed, divide_up}
 use Rattle.base.specs.Search.{first, or_else, Run, run}
@@ -120,11 +120,11 @@ module _ (t : Table) (leader : ℕ → ℕ) where
   -- segment i steps, and where that leaves it nothing, so do all that follow from it; 0 is no segment, which does not occur while some limit
   -- does not hold
   unfoldable pub step_down : List ℕ → ℕ → Option (List ℕ)
-  step_down c zero = none
-  step_down c (suc i) = some (pruned leader t.segments (give c (suc i) (next_candidate t (suc i) (strategy_at c (suc i)))))
+  step_down c zero = None
+  step_down c (suc i) = Some (pruned leader t.segments (give c (suc i) (next_candidate t (suc i) (strategy_at c (suc i)))))
 
   unfoldable pub step : List ℕ → Option (List ℕ)
-  step c = pick (within t c) none (step_down c (weakest t c))
+  step c = pick (within t c) None (step_down c (weakest t c))
 
   -- A segment has at most S candidates to step from, which bounds the steps.
   unfoldable pub phase1 : List ℕ → Run (List ℕ)
@@ -148,8 +148,8 @@ module _ (t : Table) where
   greater_offer c a b = ltb (offer_benefit c b) (offer_benefit c a)
 
   unfoldable pub picked_up : List ℕ → ℕ → Option (List ℕ)
-  picked_up c zero = none
-  picked_up c (suc i) = some (give c (suc i) (offer c (suc i)))
+  picked_up c zero = None
+  picked_up c (suc i) = Some (give c (suc i) (offer c (suc i)))
 
 module _ (t : Table) (leader : ℕ → ℕ) where
   -- segment i has nothing, may have something, and could take it
@@ -203,7 +203,7 @@ module _ (t : Table) (leader : ℕ → ℕ) where
   pairs_with c i k a = first_strategy t (pair c i k a)
 
   unfoldable pub pairs_of : List ℕ → ℕ → ℕ → Option (List ℕ)
-  pairs_of c i k = pick (ltb i k) (first_strategy t (pairs_with c i k)) none
+  pairs_of c i k = pick (ltb i k) (first_strategy t (pairs_with c i k)) None
 
   unfoldable pub pairs_from : List ℕ → ℕ → Option (List ℕ)
   pairs_from c i = first t.segments (pairs_of c i)

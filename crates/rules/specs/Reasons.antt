@@ -1,6 +1,6 @@
 -- Document 02, request 4, with the reason of request 8: why segment i has, or has not, strategy j, in a district d that holds the programme c.
 use Rattle.std.specs.Prelude.{ℕ, Bool, not, ◌&&◌, List, [], ◌∷◌, ltb, eqb, pos}
-use Rattle.std.proofs.Math.Option.{Option, none, some}
+use Rattle.std.specs.Prelude.{Option, None, Some}
 use Rattle.std.specs.Int.Signed.{le_z}
 use Rattle.base.specs.Choice.{pick, only}
 use Rattle.base.specs.Search.{or_else, first}
@@ -26,8 +26,8 @@ told NoGreaterTotal = 9 ∷ []
 
 -- the last, where no other is found
 abbrev pub or_last : Option Reason → Reason
-or_last (some reason) = reason
-or_last none = NoGreaterTotal
+or_last (Some reason) = reason
+or_last None = NoGreaterTotal
 
 module _ (d : District) (c : List ℕ) (i j : ℕ) where
   -- the programme with strategy j on segment i, in place of what the segment has
@@ -63,4 +63,4 @@ module _ (d : District) (c : List ℕ) (i j : ℕ) where
 
   -- a district out of the file's ranges, to which no list of calls leads, has no hindrance named
   unfoldable pub reason_for : Reason
-  reason_for = or_last (pick (in_range d) hindrance none)
+  reason_for = or_last (pick (in_range d) hindrance None)

@@ -6,7 +6,7 @@ use Rattle.rules.specs.declared.Edit.TheVariants.{Bar, Unbar, SetLimit, SetRatin
 use Rattle.rules.specs.Results.{shown, holding, shows, why_in, result_of, WorkedCase, ◌⇒◌, Agree}
 use Rattle.rules.specs.Marked.{card}
 use Rattle.rules.specs.declared.Unit.{Unit}
-use Rattle.rules.specs.declared.Answer.TheVariants.{Accepted}
+use Rattle.rules.specs.Answers.{Accepted}
 
 abbrev pub files : List (List ℕ)
 files =

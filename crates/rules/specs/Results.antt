@@ -5,9 +5,9 @@ use Prim.Native.String.{String}
 use mathlib.Core.List.{List, [], ◌∷◌, ◌++◌, map, foldr}
 use Rattle.rules.specs.declared.Unit.{Unit}
 use Rattle.rules.specs.declared.Programme.{Programme}
-use Rattle.rules.specs.declared.Why.{Why}
-use Rattle.rules.specs.declared.Why.TheVariants.{Because, Refused}
+use Rattle.rules.specs.Calls.{Why}
 use Rattle.base.specs.Choice.{pick}
+use Rattle.rules.specs.Answers.{Accepted, Refused}
 use Rattle.base.specs.Bits
 use Rattle.base.specs.Over
 use Rattle.base.specs.Search
@@ -85,7 +85,7 @@ in_row rows = map (λ x. pos x) (Writer.each (λ row. row) rows)
 
 -- an answer in numbers: a reason that holds, or 0 and the refusal
 unfoldable pub answered_in : Unit → ℕ → ℕ → Why → List ℕ
-answered_in u i j (Because reason) =
+answered_in u i j (Accepted reason) =
     pick (Reasons.holds u.district u.programme.strategies i j reason) (Reasons.told reason) []
 answered_in u i j (Refused n) = 0 ∷ n ∷ []
 
@@ -94,7 +94,7 @@ why_in u i j = answered_in u i j (Calls.why_of u i j)
 
 -- the same where nothing refuses the question and the district is in the file's ranges
 unfoldable pub reason_in : Unit → ℕ → ℕ → List ℕ
-reason_in u i j = answered_in u i j (Because (Reasons.or_last (Reasons.hindrance u.district u.programme.strategies i j)))
+reason_in u i j = answered_in u i j (Accepted (Reasons.or_last (Reasons.hindrance u.district u.programme.strategies i j)))
 
 -- for each strategy of each segment, in a row
 unfoldable pub for_each : Unit → (ℕ → ℕ → List ℕ) → List ℤ

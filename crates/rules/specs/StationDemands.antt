@@ -1,25 +1,23 @@
 -- What is promised of a station (document 02, request 10): the demands, of each office after every list of calls made by both; and that the calls of
 -- one office change an answer to the other through a load that changes the shared tables, and through refusal 17, alone.
 use Rattle.std.specs.Prelude.{ℕ, suc, ◌≤◌, ◌≡◌, Bool, true, false, not, ◌&&◌, List, [], ◌∷◌, eqb, length}
-use Rattle.std.proofs.Math.Option.{Option, none, some}
+use Rattle.std.specs.Prelude.{Option, None, Some}
 use Rattle.base.specs.Bytes.{Bytes}
 use Rattle.base.specs.Choice.{pick}
 use Rattle.rules.specs.District.{District, segments_of, shared_tables, same_tables}
 use Rattle.rules.specs.Format.{plain_form}
 use Rattle.rules.specs.File.{encode_as, encode}
-use Rattle.rules.specs.Answers.{no_such_office, tables_in_use}
-use Rattle.rules.specs.Calls.{district_in, unit_of, show_of, why_of}
+use Rattle.rules.specs.Answers.{no_such_office, tables_in_use, Answer, Accepted, Answered}
+use Rattle.rules.specs.Calls.{district_in, unit_of, show_of, why_of, Why}
 use Rattle.rules.specs.Lists.{Call, Load, Alter, ExportTo, PageTo, Show, AskWhy, district_after, unit_after}
 use Rattle.rules.specs.Meter.{heard_after, roughness_of}
 use Rattle.rules.specs.Offices.{Held, OfficeCall, Plan, Send, AskRoughness, office_outcome, sent_in}
-use Rattle.rules.specs.Stations.{Which, other, Both, own, together, office_of, fresh_both, StationCall, call_of, call_by, brings_tables, with_tables, held_beside, station_refusal, StationOutcome, refused_all, station_outcome, station_after, districts_after, made_by, calls_by, without}
+use Rattle.rules.specs.Stations.{other, Both, own, together, office_of, fresh_both, StationCall, call_of, call_by, brings_tables, with_tables, held_beside, station_refusal, StationOutcome, refused_all, station_outcome, station_after, districts_after, made_by, calls_by, without}
 use Rattle.rules.specs.Demands.{office_returned, office_altered, file_in, led_by_none, ByTheRules, Sound, Shown}
 use Rattle.rules.specs.declared.Unit.{Unit}
 use Rattle.rules.specs.declared.Programme.{Programme}
-use Rattle.rules.specs.declared.Why.{Why}
 use Rattle.rules.specs.declared.Roughness.{Roughness}
-use Rattle.rules.specs.declared.Answer.{Answer}
-use Rattle.rules.specs.declared.Answer.TheVariants.{Accepted}
+use Rattle.rules.specs.declared.Which.{Which}
 
 -- ---- Demand 1, of what both hold in any state and any call
 
@@ -121,7 +119,7 @@ pub data Told : Type 0 where
   nothing_more : Told
   programme : Programme → Told
   reason : Why → Told
-  points : Roughness → Told
+  points : Answered Roughness → Told
 
 unfoldable pub unit_tells : Unit → Call → Told
 unit_tells u (Load file) = nothing_more
@@ -137,8 +135,8 @@ office_tells o (Send s) = nothing_more
 office_tells o AskRoughness = points (roughness_of o.heard)
 
 abbrev pub told_to : Option Which → Both Held → OfficeCall → Told
-told_to none b c = nothing_more
-told_to (some w) b c = office_tells (own w b) c
+told_to None b c = nothing_more
+told_to (Some w) b c = office_tells (own w b) c
 
 -- all that a caller gets: the answer, the lent bytes as they come back, and what is told
 pub record Got : Type 0 where

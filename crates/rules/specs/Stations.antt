@@ -2,21 +2,17 @@
 -- programme and window each has for itself. Every call names its office by number; survey points, which is of no office,
 -- names none.
 use Rattle.std.specs.Prelude.{ℕ, zero, suc, Bool, false, not, ◌&&◌, List, [], ◌∷◌, leb, eqb}
-use Rattle.std.proofs.Math.Option.{Option, none, some}
+use Rattle.std.specs.Prelude.{Option, None, Some}
 use Rattle.base.specs.Choice.{pick}
 use Rattle.rules.specs.District.{District, segments_of, fresh_district, shared_tables, same_tables}
-use Rattle.rules.specs.Answers.{no_such_office, tables_in_use, unless, or_later, accepting}
+use Rattle.rules.specs.Answers.{no_such_office, tables_in_use, unless, or_later, accepting, Answer, Refused}
+use Rattle.rules.specs.declared.Which.{Which}
+use Rattle.rules.specs.declared.Which.TheVariants.{First, Second}
 use Rattle.rules.specs.Calls.{district_in, unit_of}
 use Rattle.rules.specs.Lists.{Call, Load, Alter, ExportTo, PageTo, Show, AskWhy, refusal_of, altered}
 use Rattle.rules.specs.Offices.{Held, fresh_held, OfficeCall, Plan, Send, AskRoughness, office_refusal, lent_bytes, OfficeOutcome, office_outcome}
-use Rattle.rules.specs.declared.Answer.{Answer}
-use Rattle.rules.specs.declared.Answer.TheVariants.{Refused}
 
 -- ---- the two offices
-
-pub data Which : Type 0 where
-  First : Which
-  Second : Which
 
 abbrev pub other : Which → Which
 other First = Second
@@ -43,7 +39,7 @@ number_of First = 1
 number_of Second = 2
 
 abbrev pub office_of : ℕ → Option Which
-office_of n = pick (eqb n 1) (some First) (pick (eqb n 2) (some Second) none)
+office_of n = pick (eqb n 1) (Some First) (pick (eqb n 2) (Some Second) None)
 
 unfoldable pub fresh_both : Both Held
 fresh_both = record { first = fresh_held; second = fresh_held }
@@ -93,8 +89,8 @@ held_beside o p c = pick (brings_tables o.unit.district c) (with_tables (office_
 
 -- the office's number comes first
 abbrev pub refusal_for : Option Which → Both Held → OfficeCall → ℕ
-refusal_for none b c = no_such_office
-refusal_for (some w) b c = refusal_beside (own w b) (own (other w) b) c
+refusal_for None b c = no_such_office
+refusal_for (Some w) b c = refusal_beside (own w b) (own (other w) b) c
 
 unfoldable pub station_refusal : Both Held → StationCall → ℕ
 station_refusal b c = refusal_for (office_of c.office) b c.call
@@ -118,8 +114,8 @@ concluded zero w b c = beside w (held_beside (own w b) (own (other w) b) c) (off
 concluded (suc n) w b c = refused_all (suc n) b c
 
 abbrev pub outcome_for : Option Which → Both Held → OfficeCall → StationOutcome
-outcome_for none b c = refused_all no_such_office b c
-outcome_for (some w) b c = concluded (refusal_beside (own w b) (own (other w) b) c) w b c
+outcome_for None b c = refused_all no_such_office b c
+outcome_for (Some w) b c = concluded (refusal_beside (own w b) (own (other w) b) c) w b c
 
 unfoldable pub station_outcome : Both Held → StationCall → StationOutcome
 station_outcome b c = outcome_for (office_of c.office) b c.call
@@ -141,11 +137,11 @@ altered_both w b c =
     together w (altered (own w b) c) (pick (brings_tables (own w b) (Plan c)) (shared_tables (altered (own w b) c)) (own (other w) b))
 
 unfoldable pub districts_by : Option Which → Both District → OfficeCall → Both District
-districts_by none b c = b
-districts_by (some w) b (Plan c) =
+districts_by None b c = b
+districts_by (Some w) b (Plan c) =
     accepting (or_later (refusal_of (own w b) c) (tables_refusal (own w b) (own (other w) b) (Plan c))) (altered_both w b c) b
-districts_by (some w) b (Send s) = b
-districts_by (some w) b AskRoughness = b
+districts_by (Some w) b (Send s) = b
+districts_by (Some w) b AskRoughness = b
 
 unfoldable pub districts_from : Both District → List StationCall → Both District
 districts_from b [] = b

@@ -2,8 +2,7 @@
 use Rattle.std.specs.Prelude.{ℕ, ◌+◌, ◌-◌, ◌&&◌, List, [], ◌∷◌, leb, eqb, get_or}
 use Rattle.base.specs.Choice.{pick}
 use Rattle.base.specs.Over.{between}
-use Rattle.rules.specs.Answers.{no_such_points, unless, answer_of}
-use Rattle.rules.specs.declared.Answer.{Answer}
+use Rattle.rules.specs.Answers.{no_such_points, unless, answer_of, Answer}
 
 abbrev pub row : ℕ → ℕ → ℕ → List ℕ
 row a b c = a ∷ b ∷ c ∷ []

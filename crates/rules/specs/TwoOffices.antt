@@ -5,20 +5,19 @@ use Rattle.base.specs.Over.{listed_from}
 use Rattle.base.specs.Same.{same}
 use Rattle.rules.specs.District.{District, most_segments, most_strategies, most_distresses, most_pavements, most_resources, per_strategy, per_pavement, per_segment, district_places, is_shared, shared_from, shared_tables, same_tables}
 use Rattle.rules.specs.Plan.{no_programme}
-use Rattle.rules.specs.Meter.{size_of, is_reading, reading_of, silence, sent_refusal, heard_with, hearing, sum_of, mean_reaches, mays_points, roughness_refusal, points_unless, roughness_of}
+use Rattle.rules.specs.Meter.{size_of, is_reading, reading_of, silence, sent_refusal, heard_with, hearing, sum_of, mean_reaches, mays_points, roughness_refusal, points_unless, roughness_of, points_at}
 use Rattle.rules.specs.Lists.{Load, Alter, ExportTo, Show, AskWhy}
 use Rattle.rules.specs.Offices.{Held, OfficeCall, Plan, Send, AskRoughness, fresh_held, office_refusal, lent_bytes, office_outcome}
-use Rattle.rules.specs.Stations.{Which, First, Second, other, number_of, Both, StationCall, call_of, fresh_both, brings_tables, tables_refusal, refusal_beside, held_beside, station_refusal, concluded, station_outcome, station_from, station_after, without}
+use Rattle.rules.specs.Stations.{other, number_of, Both, StationCall, call_of, fresh_both, brings_tables, tables_refusal, refusal_beside, held_beside, station_refusal, concluded, station_outcome, station_from, station_after, without}
 use Rattle.rules.specs.StationDemands.{nothing_more, programme, reason, points, Got, unit_tells, office_tells, gets, got_from, got_by, throughout, leaves_tables, not_in_use}
 use Rattle.rules.specs.Writer.{Segment, Roads, strategy, nothing_demanded, segment, barring, filled_up, file_of, file_with_leaders, district_of}
 use Rattle.rules.specs.Results.{holding, result_of}
 use Rattle.rules.specs.declared.Edit.TheVariants.{Bar, SetLimit}
 use Rattle.rules.specs.declared.Sent.TheVariants.{Index, Marker}
 use Rattle.rules.specs.declared.Reason.TheVariants.{Barred}
-use Rattle.rules.specs.declared.Why.TheVariants.{Because}
-use Rattle.rules.specs.declared.Roughness.TheVariants.{Points}
-use Rattle.rules.specs.declared.Answer.{Answer}
-use Rattle.rules.specs.declared.Answer.TheVariants.{Accepted, Refused}
+use Rattle.rules.specs.Answers.{Answer, Accepted, Refused}
+use Rattle.rules.specs.declared.Which.{Which}
+use Rattle.rules.specs.declared.Which.TheVariants.{First, Second}
 
 -- ---- districts that share their tables, and others
 
@@ -141,7 +140,7 @@ pub put_back :
     ≡ plainly (Accepted 0)
     ∷ plainly (Accepted 0)
     ∷ plainly (Accepted 0)
-    ∷ record { answer = Accepted 0; bytes = []; told = points (Points 0 7) }
+    ∷ record { answer = Accepted 0; bytes = []; told = points (Accepted (points_at 0 7)) }
     ∷ record { answer = Accepted 0; bytes = []; told = programme no_programme }
     ∷ plainly (Accepted 0)
     ∷ (let file = file_of (sharing (0 ∷ 9 ∷ []) []) in record { answer = Accepted (length file); bytes = filled_up 0 100 file; told = nothing_more })
@@ -180,7 +179,7 @@ both_have = record { first = office north; second = office (sharing (30 ∷ []) 
 
 pub asked_why :
     gets both_have (call_of 2 (Plan (AskWhy 1 1))) ∷ []
-    ≡ record { answer = Accepted 0; bytes = []; told = reason (Because Barred) } ∷ []
+    ≡ record { answer = Accepted 0; bytes = []; told = reason (Accepted Barred) } ∷ []
 unfolding answers_to
 asked_why = refl
 

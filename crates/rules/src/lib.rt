@@ -1,9 +1,12 @@
 // The types that the rules speak of. The rules themselves, document 01 as definitions, are in specs/.
 #![tactic(auto)]
 
+mod numbered;
 pub mod places;
 pub mod records;
 pub mod refusals;
+
+pub use refusals::Refusal;
 
 // A district: its numbers, each at its place.
 pub type District = [usize; places::DISTRICT_PLACES];
@@ -17,16 +20,6 @@ pub struct Field {
     pub hi: usize,
 }
 
-// A record of the file: the file's form, the record's kind, how many places its numbers have in a district, and which
-// of its kind it is, from 0.
-#[derive(Clone, Copy)]
-pub struct Slot {
-    pub form: usize,
-    pub kind: usize,
-    pub places: usize,
-    pub nth: usize,
-}
-
 // How a number is written on a card: in a whole-number field, in a decimal field, which is read in hundredths, or in a
 // decimal field whose value is whole.
 #[derive(Clone, Copy)]
@@ -35,11 +28,6 @@ pub enum Notation {
     Hundredths,
     Units,
 }
-
-// Columns of a card: the first and the last, from 1, how their number is written, and which number it is of which kind
-// of the file's records.
-#[derive(Clone, Copy)]
-pub struct Columns(pub usize, pub usize, pub Notation, pub usize, pub usize);
 
 // The result of planning: which strategy each of 64 places gets (0 is nothing), three sums, and how much work each
 // phase did.
@@ -80,12 +68,19 @@ pub struct Waiting {
 }
 
 // The consoles at which edits arrive.
-#[derive(Clone, Copy)]
+#[derive(Clone, Copy, Debug, PartialEq, Eq)]
 pub enum Console {
-    One,
-    Two,
-    Three,
-    Four,
+    One = 1,
+    Two = 2,
+    Three = 3,
+    Four = 4,
+}
+
+// The two offices on one unit.
+#[derive(Clone, Copy, Debug, PartialEq, Eq)]
+pub enum Which {
+    First,
+    Second,
 }
 
 // Why a segment has, or has not, a strategy. A minimum missed names distress and year, a limit passed the resource:
@@ -103,13 +98,6 @@ pub enum Reason {
     NoGreaterTotal,
 }
 
-// What the question why returns: a reason, or the number of a refusal.
-#[derive(Clone, Copy)]
-pub enum Why {
-    Because(Reason),
-    Refused(usize),
-}
-
 // A record from the survey van: an index or a mile marker, with the 32 bits of its float, or a lost sample.
 #[derive(Clone, Copy)]
 pub enum Sent {
@@ -118,23 +106,12 @@ pub enum Sent {
     Lost,
 }
 
-// What the call for roughness points returns: the points and the bits of the last marker, or the number of a refusal.
+// What the call for roughness points returns: the points and the bits of the last marker.
 #[derive(Clone, Copy)]
-pub enum Roughness {
-    Points(usize, u32),
-    Refused(usize),
+pub struct Roughness {
+    pub points: usize,
+    pub marker: u32,
 }
 
-// What a call returns: a value (0, a length, points), or the number of a refusal.
-#[derive(Clone, Copy)]
-pub enum Answer {
-    Accepted(usize),
-    Refused(usize),
-}
-
-// An answer and the unit as the call leaves it.
-#[derive(Clone, Copy)]
-pub struct Reply {
-    pub answer: Answer,
-    pub unit: Unit,
-}
+// What a call returns: a value (0, a length, points), or what refuses it.
+pub type Answer = Result<usize, Refusal>;

@@ -1,52 +1,45 @@
-// The numbers of the refusals, in the documents' order (specs/Answers.antt).
+// What refuses a call, in the documents' order. Each refusal has the number that the documents give it
+// (specs/Answers.antt).
+ghost use Rattle.std.specs.Prelude.{◌≡◌};
+ghost use Rattle.rules.specs.Answers.{number_of};
 
-// A file ends within a record.
-pub const CUT_SHORT: usize = 1;
+#[derive(Clone, Copy, Debug, PartialEq, Eq)]
+pub enum Refusal {
+    // A file ends within a record.
+    CutShort = 1,
+    OtherKind = 2,
+    OtherLength = 3,
+    OutOfRange = 4,
+    BytesFollow = 5,
+    NoSuchSegment = 6,
+    // No such strategy, resource or distress.
+    NoSuchNumber = 7,
+    // A new limit or rating.
+    NewOutOfRange = 8,
+    BufferTooShort = 9,
+    NoSuchPoints = 10,
+    NoRoomForPage = 11,
+    // A value that is no reading, and points where there is no reading.
+    NoReading = 12,
+    WindowEmpty = 13,
+    LeaderNotBelow = 14,
+    // A leader is set in a file that is to have none.
+    LeaderSet = 15,
+    // A number that is no office's; shared tables that differ from those held, while the other office has segments.
+    NoSuchOffice = 16,
+    TablesInUse = 17,
+    // A field that breaks its rule or its range, and a line of another length or a deck that ends before it.
+    WrongField = 18,
+    WrongLine = 19,
+    // A number that is no console's, and a queue without a free place.
+    NoSuchConsole = 20,
+    QueueFull = 21,
+}
 
-pub const OTHER_KIND: usize = 2;
+impl From<Refusal> for usize {
+    ghost from_gives = { λ refusal n. n ≡ number_of refusal };
 
-pub const OTHER_LENGTH: usize = 3;
-
-pub const OUT_OF_RANGE: usize = 4;
-
-pub const BYTES_FOLLOW: usize = 5;
-
-pub const NO_SUCH_SEGMENT: usize = 6;
-// No such strategy, resource or distress.
-pub const NO_SUCH_NUMBER: usize = 7;
-// A new limit or rating.
-pub const NEW_OUT_OF_RANGE: usize = 8;
-
-pub const BUFFER_TOO_SHORT: usize = 9;
-
-pub const NO_SUCH_POINTS: usize = 10;
-
-// Of document 02's request 2.
-pub const NO_ROOM_FOR_PAGE: usize = 11;
-
-// Of request 6: a value that is no reading, and points where there is no reading.
-pub const NO_READING: usize = 12;
-
-pub const WINDOW_EMPTY: usize = 13;
-
-// Of request 8.
-pub const LEADER_NOT_BELOW: usize = 14;
-
-// Of request 9: a leader is set in a file that is to have none.
-pub const LEADER_SET: usize = 15;
-
-// Of request 10: a number that is no office's; shared tables that differ from those held, while the other office has
-// segments.
-pub const NO_SUCH_OFFICE: usize = 16;
-
-pub const TABLES_IN_USE: usize = 17;
-
-// Of request 11: a field that breaks its rule or its range, and a line of another length or a deck that ends before it.
-pub const WRONG_FIELD: usize = 18;
-
-pub const WRONG_LINE: usize = 19;
-
-// Of request 12: a number that is no console's, and a queue without a free place.
-pub const NO_SUCH_CONSOLE: usize = 20;
-
-pub const QUEUE_FULL: usize = 21;
+    fn from(refusal: Refusal) -> usize {
+        refusal as usize
+    }
+}

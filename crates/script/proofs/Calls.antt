@@ -9,7 +9,7 @@ use Rattle.rules.specs.Lists.{Call, Show}
 use Rattle.rules.specs.Offices.{Plan}
 use Rattle.rules.specs.Desks.{Ask}
 use Rattle.rules.specs.Stations.{StationCall, call_of}
-use Rattle.rules.specs.declared.Answer.{Answer}
+use Rattle.rules.specs.Answers.{Answer}
 use Rattle.rules.specs.declared.Edit.{Edit}
 use Rattle.rules.specs.declared.Sent.{Sent}
 use Rattle.command.specs.declared.Command.{Command}

@@ -11,13 +11,13 @@ use Rattle.rules.specs.Calls.{show_of}
 use Rattle.rules.specs.Demands.{Sound}
 use Rattle.rules.specs.Desks.{Event, desk_by, answer_to, desk_from, desk_after}
 use Rattle.rules.specs.DeskDemands.{desk_district}
-use Rattle.rules.specs.Stations.{Which}
 use Rattle.command.specs.declared.Command.{Command}
 use Rattle.desks.proofs.EveryDesk.{every_desk}
 use Rattle.station.specs.Kept.{office_in}
 use Rattle.desk.specs.Kept.{KeepsDesk, Happens}
 use Rattle.desk.specs.declared.DeskReply.{DeskReply}
 use Rattle.script.specs.Script.{kind_in, number_at, command_in, queue_kind, body_in, event_of, event_in, named_by, Entry, entry_in, entries_in, entries_of, events_of, Answered, answered_from, answered_after, last_answer, office_from, last_office}
+use Rattle.rules.specs.declared.Which.{Which}
 
 -- the last reply stands for what came, from which the calls that are left lead to what the whole list comes to; and so for the office named
 pub record Stands (s : List ℕ) (at left : ℕ) (r : DeskReply) (n : ℕ) : Type 0 where

@@ -3,7 +3,7 @@
 -- A load is followed by its file, whose length is its first number. The first number of an export and of a page is its room. An edit that is to wait is
 -- followed by the 17 bytes of that edit, and its first number is its console.
 use Rattle.std.specs.Prelude.{ℕ, zero, suc, ◌+◌, min, List, [], ◌∷◌, map, ◌≡◌, refl, leb, eqb, length, get_or, take, drop, replicate}
-use Rattle.std.proofs.Math.Option.{Option, none, some}
+use Rattle.std.specs.Prelude.{Option, None, Some}
 use Rattle.base.specs.Bytes.{number_of}
 use Rattle.base.specs.Choice.{pick}
 use Rattle.rules.specs.File.{longest_file}
@@ -13,8 +13,7 @@ use Rattle.rules.specs.Stations.{call_of}
 use Rattle.rules.specs.Desks.{Desk, fresh_desk, Event, Arrive, Step, Ask, desk_by, answer_to}
 use Rattle.pages.specs.Printed.{longest_page}
 use Rattle.rules.specs.declared.Edit.{Edit}
-use Rattle.rules.specs.declared.Answer.{Answer}
-use Rattle.rules.specs.declared.Answer.TheVariants.{Accepted}
+use Rattle.rules.specs.Answers.{Answer, Accepted}
 use Rattle.command.specs.Reading.{at, row, rows, numbered, edit_in}
 use Rattle.command.specs.declared.Command.{Command}
 use Rattle.command.specs.declared.Name.{Name}
@@ -79,8 +78,8 @@ commanded Command.Step n file = Plan Show
 
 -- an edit that is to wait, at a console; where there is none, a show
 unfoldable pub queued_for : ℕ → ℕ → Option Edit → Event
-queued_for office console none = Ask (call_of office (Plan Show))
-queued_for office console (some e) = Arrive console (record { office = office; edit = e })
+queued_for office console None = Ask (call_of office (Plan Show))
+queued_for office console (Some e) = Arrive console (record { office = office; edit = e })
 
 -- by its kind, with office, command, first number and what follows
 unfoldable pub event_of : ℕ → ℕ → Command → ℕ → List ℕ → Event

@@ -10,11 +10,12 @@ ghost use Rattle.rules.specs.Lists.{ExportTo, PageTo, Show, AskWhy};
 ghost use Rattle.rules.specs.Offices.{Plan, AskRoughness};
 ghost use Rattle.rules.specs.Desks.{Step, Ask, desk_after};
 ghost use Rattle.rules.specs.DeskDemands.{desk_district};
-ghost use Rattle.rules.specs.Stations.{Which, call_of};
+ghost use Rattle.rules.specs.Stations.{call_of};
 ghost use Rattle.station.specs.Kept.{office_in};
 ghost use Rattle.command.specs.Reading.{edit_in};
 ghost use Rattle.desk.specs.Kept.{KeepsDesk, Happens};
 ghost use Rattle.script.specs.Script.{command_in, body_in, queue_kind, commanded, queued_for, event_of, named_by, entries_of, events_of, last_answer, last_office};
+ghost use Rattle.rules.specs.declared.Which.{Which};
 
 use command::Command;
 use desk::{Desk, DeskReply};

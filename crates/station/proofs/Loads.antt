@@ -4,12 +4,11 @@ use mathlib.Core.Path.{◌≡◌, refl, ap, ◌∙◌}
 use mathlib.Core.Bool.{true, false}
 use mathlib.Core.List.{List}
 use Rattle.rules.specs.District.{District, segments_of, shared_tables, same_tables}
-use Rattle.rules.specs.Answers.{tables_in_use}
+use Rattle.rules.specs.Answers.{tables_in_use, Accepted, Refused}
 use Rattle.rules.specs.Calls.{load_refusal, district_in, unit_of}
 use Rattle.rules.specs.Lists.{Load, refusal_of}
 use Rattle.rules.specs.Offices.{OfficeCall, Plan, office_refusal, OfficeOutcome}
-use Rattle.rules.specs.Stations.{Which, other, own, number_of, refusal_beside, with_tables}
-use Rattle.rules.specs.declared.Answer.TheVariants.{Accepted, Refused}
+use Rattle.rules.specs.Stations.{other, own, number_of, refusal_beside, with_tables}
 use Rattle.rules.specs.declared.Unit.{Unit}
 use Rattle.office.specs.declared.Office.{Office}
 use Rattle.stations.proofs.Calls.{refusal_by}
@@ -19,6 +18,7 @@ use Rattle.station.specs.Kept.{office_in, units_in, PlansBoth}
 use Rattle.station.specs.declared.Station.{Station}
 use Rattle.station.proofs.Replies.{named_refused, plans}
 use Rattle.station.proofs.Units.{parts, unit_in}
+use Rattle.rules.specs.declared.Which.{Which}
 
 module _ (s : Station) (n : ℕ) (w : Which) (named : n ≡ number_of w) (file : List ℕ) where
   abbrev load : OfficeCall

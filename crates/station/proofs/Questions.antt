@@ -3,20 +3,16 @@ use Prim.Native.Nat.{ℕ, zero, suc}
 use mathlib.Core.Path.{◌≡◌, refl, ap, ◌∙◌}
 use mathlib.Core.Bool.{Bool, true, false}
 use mathlib.Core.List.{List, []}
-use mathlib.Core.Option.{Option, none, some}
+use Rattle.std.specs.Prelude.{Option, None, Some}
 use Rattle.rules.specs.District.{District}
-use Rattle.rules.specs.Answers.{no_such_office, answer_of}
-use Rattle.rules.specs.Calls.{Export, explained, why_of}
+use Rattle.rules.specs.Answers.{no_such_office, answer_of, Answer, Refused}
+use Rattle.rules.specs.Calls.{Export, explained, why_of, Why}
 use Rattle.rules.specs.Lists.{Call, Show, AskWhy, lent_to, written, outcome_of}
 use Rattle.rules.specs.Meter.{points_unless, roughness_of}
 use Rattle.rules.specs.Offices.{Held, OfficeCall, Plan, AskRoughness, lent_bytes, planned, office_outcome}
-use Rattle.rules.specs.Stations.{Which, First, Second, Both, own, number_of, office_of, call_of, brings_tables, station_outcome}
-use Rattle.rules.specs.declared.Answer.{Answer}
-use Rattle.rules.specs.declared.Answer.TheVariants.{Refused}
+use Rattle.rules.specs.Stations.{Both, own, number_of, office_of, call_of, brings_tables, station_outcome}
 use Rattle.rules.specs.declared.Reason.{Reason}
-use Rattle.rules.specs.declared.Roughness.{Roughness}
 use Rattle.rules.specs.declared.Unit.{Unit}
-use Rattle.rules.specs.declared.Why.{Why}
 use Rattle.stations.proofs.Calls.{outcome_nobody}
 use Rattle.stations.proofs.EveryStationAnswer.{both_stay}
 use Rattle.station.specs.Kept.{is_office, KeepsBoth, RepliesTo, units_in, Lends, KeepsNamed}
@@ -25,6 +21,9 @@ use Rattle.station.specs.declared.Shown.{Shown}
 use Rattle.station.specs.declared.Station.{Station}
 use Rattle.station.proofs.Numbers.{office_named, nobody_named, named_some}
 use Rattle.station.proofs.Replies.{stays_replies}
+use Rattle.rules.specs.declared.Roughness.{Roughness}
+use Rattle.rules.specs.declared.Which.{Which}
+use Rattle.rules.specs.declared.Which.TheVariants.{First, Second}
 
 module _ (b : Both Held) (n : ℕ) (c : OfficeCall) where
   -- to none
@@ -42,8 +41,8 @@ module _ (b : Both Held) (n : ℕ) (c : OfficeCall) where
         ∙ both_stay w b c (brings (own w b).unit.district) answer bytes out
 
     told :
-        (answer : Option Which → Answer) → answer none ≡ Refused no_such_office
-        → ((w : Which) → office_outcome (own w b) c ≡ record { answer = answer (some w); held = own w b; bytes = lent_bytes c })
+        (answer : Option Which → Answer) → answer None ≡ Refused no_such_office
+        → ((w : Which) → office_outcome (own w b) c ≡ record { answer = answer (Some w); held = own w b; bytes = lent_bytes c })
         → station_outcome b (call_of n c) ≡ record { answer = answer (office_of n); held = b; bytes = lent_bytes c }
     told answer to_none to = go (is_office n) refl
       where
@@ -115,6 +114,6 @@ unfolding why_for
 why_kept s n i j r tells b keeps = tells ∙ go (office_of n)
   where
     go : (o : Option Which) → why_for o (units_in s) i j ≡ why_for o b i j
-    go none = refl
-    go (some First) = ap (λ (u : Unit). why_of u i j) (keeps First).unit
-    go (some Second) = ap (λ (u : Unit). why_of u i j) (keeps Second).unit
+    go None = refl
+    go (Some First) = ap (λ (u : Unit). why_of u i j) (keeps First).unit
+    go (Some Second) = ap (λ (u : Unit). why_of u i j) (keeps Second).unit

@@ -5,13 +5,11 @@ use mathlib.Core.Bool.{false, true≢false}
 use mathlib.Core.List.{List}
 use native.Mathlib.Omega.{arith}
 use Rattle.rules.specs.District.{District}
-use Rattle.rules.specs.Answers.{no_such_office, answer_of}
+use Rattle.rules.specs.Answers.{no_such_office, answer_of, Answer, Accepted, Refused}
 use Rattle.rules.specs.Lists.{Call, outcome_of}
 use Rattle.rules.specs.Meter.{sent_refusal}
 use Rattle.rules.specs.Offices.{Held, OfficeCall, Plan, Send, lent_bytes, OfficeOutcome, office_outcome}
-use Rattle.rules.specs.Stations.{Which, First, Second, other, Both, own, together, number_of, StationCall, call_of, call_by, brings_tables, StationOutcome, beside, refused_all, station_outcome}
-use Rattle.rules.specs.declared.Answer.{Answer}
-use Rattle.rules.specs.declared.Answer.TheVariants.{Accepted, Refused}
+use Rattle.rules.specs.Stations.{other, Both, own, together, number_of, StationCall, call_of, call_by, brings_tables, StationOutcome, beside, refused_all, station_outcome}
 use Rattle.rules.specs.declared.Sent.{Sent}
 use Rattle.rules.specs.declared.Unit.{Unit}
 use Rattle.meter.specs.declared.Window.{Window}
@@ -26,6 +24,8 @@ use Rattle.station.specs.declared.Station.{Station}
 use Rattle.station.specs.declared.StationReply.{StationReply}
 use Rattle.station.proofs.Numbers.{nobody_named, named_office, for_named}
 use Rattle.station.proofs.Units.{with_heard, outcome_heard, parts, unit_in, units_kept, planned_kept}
+use Rattle.rules.specs.declared.Which.{Which}
+use Rattle.rules.specs.declared.Which.TheVariants.{First, Second}
 
 -- ---- from a station in any state to what both hold
 

@@ -2,17 +2,19 @@
 use Prim.Native.Nat.{ℕ, zero, suc}
 use mathlib.Core.Path.{◌≡◌, refl, sym, ap, ap₂, ◌∙◌}
 use mathlib.Core.Bool.{Bool, true, false}
-use mathlib.Core.Option.{Option, none, some}
+use Rattle.std.specs.Prelude.{Option, None, Some}
 use Rattle.base.specs.Choice.{pick}
 use Rattle.rules.specs.District.{District}
 use Rattle.rules.specs.Lists.{Call, outcome_of}
 use Rattle.rules.specs.Meter.{silence}
 use Rattle.rules.specs.Offices.{Held, Plan, office_refusal, office_outcome}
-use Rattle.rules.specs.Stations.{Which, First, Second, Both, own, call_of, office_of, brings_tables, refusal_beside, with_tables, held_beside, StationOutcome, beside, concluded, outcome_for, station_outcome}
+use Rattle.rules.specs.Stations.{Both, own, call_of, office_of, brings_tables, refusal_beside, with_tables, held_beside, StationOutcome, beside, concluded, outcome_for, station_outcome}
 use Rattle.rules.specs.declared.Unit.{Unit}
 use Rattle.office.specs.declared.Office.{Office}
 use Rattle.station.specs.Kept.{office_in, KeepsBoth, units_in}
 use Rattle.station.specs.declared.Station.{Station}
+use Rattle.rules.specs.declared.Which.{Which}
+use Rattle.rules.specs.declared.Which.TheVariants.{First, Second}
 
 -- ---- of what both hold
 
@@ -53,7 +55,7 @@ module _ (b : Both Held) (c : Call) where
   concluded_heard Second zero = ap (λ (p : Held). beside Second p (office_outcome b.second (Plan c))) (beside_heard b.second b.first c)
   concluded_heard w (suc n) = refl
 
-  by_heard : (w : Which) → outcome_for (some w) b (Plan c) ≡ with_heard b (outcome_for (some w) (silent b) (Plan c))
+  by_heard : (w : Which) → outcome_for (Some w) b (Plan c) ≡ with_heard b (outcome_for (Some w) (silent b) (Plan c))
   unfolding refusal_beside office_refusal
   by_heard First = concluded_heard First (refusal_beside b.first b.second (Plan c))
   by_heard Second = concluded_heard Second (refusal_beside b.second b.first (Plan c))
@@ -63,8 +65,8 @@ module _ (b : Both Held) (c : Call) where
   outcome_heard n = go (office_of n)
     where
       go : (o : Option Which) → outcome_for o b (Plan c) ≡ with_heard b (outcome_for o (silent b) (Plan c))
-      go none = refl
-      go (some w) = by_heard w
+      go None = refl
+      go (Some w) = by_heard w
 
 -- ---- of a station
 

@@ -1,24 +1,24 @@
 -- What the offices of a station stand for: what both hold by rules, specs/Stations.antt.
 use Rattle.std.specs.Prelude.{ℕ, ◌≡◌, Bool, true, false, List}
-use Rattle.std.proofs.Math.Option.{Option, none, some}
-use Rattle.rules.specs.Answers.{no_such_office}
+use Rattle.std.specs.Prelude.{Option, None, Some}
+use Rattle.rules.specs.Answers.{no_such_office, Answer, Refused}
 use Rattle.rules.specs.Lists.{Call}
 use Rattle.rules.specs.Meter.{silence}
 use Rattle.rules.specs.Offices.{Held, Plan, Send}
-use Rattle.rules.specs.Stations.{Which, First, Second, other, Both, own, number_of, office_of, StationCall, call_of, station_outcome}
-use Rattle.rules.specs.declared.Answer.{Answer}
-use Rattle.rules.specs.declared.Answer.TheVariants.{Refused}
+use Rattle.rules.specs.Stations.{other, Both, own, number_of, office_of, StationCall, call_of, station_outcome}
 use Rattle.rules.specs.declared.Sent.{Sent}
 use Rattle.office.specs.Kept.{Keeps, Sends}
 use Rattle.office.specs.declared.Office.{Office}
 use Rattle.station.specs.declared.Station.{Station}
 use Rattle.station.specs.declared.StationReply.{StationReply}
+use Rattle.rules.specs.declared.Which.{Which}
+use Rattle.rules.specs.declared.Which.TheVariants.{First, Second}
 
 -- ---- numbers
 
 abbrev pub is_some : Option Which → Bool
-is_some none = false
-is_some (some w) = true
+is_some None = false
+is_some (Some w) = true
 
 -- an office has the number
 unfoldable pub is_office : ℕ → Bool

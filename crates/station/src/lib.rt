@@ -8,11 +8,12 @@ ghost use Rattle.rules.specs.District.{shared_tables};
 ghost use Rattle.rules.specs.Lists.{Load, Alter, ExportTo, PageTo, Show, AskWhy};
 ghost use Rattle.rules.specs.Offices.{Held, AskRoughness};
 ghost use Rattle.rules.specs.StationDemands.{EveryStationAnswer, EveryStationFile, EveryStation, TablesAgree, LeavingOut};
-ghost use Rattle.rules.specs.Stations.{Which, Both, other, number_of, office_of, fresh_both, call_of};
-ghost use Rattle.rules.specs.declared.Answer.TheVariants.{Accepted, Refused};
+ghost use Rattle.rules.specs.Stations.{Both, other, number_of, office_of, fresh_both, call_of};
+ghost use Rattle.rules.specs.Answers.{Accepted, Refused};
 ghost use Rattle.stations.specs.EachOffice.{EachOffice};
 ghost use Rattle.station.specs.Kept.{is_office, office_in, KeepsBoth, RepliesTo, units_in, PlansBoth, Lends, KeepsNamed, SendsBoth};
 ghost use Rattle.station.specs.Questions.{shown_for, why_for, roughness_for, why_answer, roughness_answer};
+ghost use Rattle.rules.specs.declared.Which.{Which};
 
 use office::{Office, OfficeReply};
 use rules::places::SEGMENT_COUNT;

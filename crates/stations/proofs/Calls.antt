@@ -3,7 +3,7 @@ use Prim.Native.Nat.{ℕ, zero, suc}
 use mathlib.Core.Path.{◌≡◌, refl, ap, ◌∙◌}
 use mathlib.Core.Bool.{Bool, true, false, not, ◌&&◌, and-false}
 use mathlib.Core.List.{[], ◌∷◌}
-use mathlib.Core.Option.{none, some}
+use Rattle.std.specs.Prelude.{None, Some}
 use native.Mathlib.Omega.{arith}
 use borrow.Author.Tests.{eqb-true}
 use lib.Dec.{leb, eqb}
@@ -12,19 +12,21 @@ use Rattle.rules.specs.District.{District, segments_of, is_shared, shared_from, 
 use Rattle.rules.specs.Answers.{no_such_office, tables_in_use, unless, or_later}
 use Rattle.rules.specs.Calls.{unit_of}
 use Rattle.rules.specs.Offices.{Held, OfficeCall, office_refusal, office_outcome}
-use Rattle.rules.specs.Stations.{Which, First, Second, other, Both, own, together, number_of, office_of, StationCall, call_by, brings_tables, tables_refusal, refusal_beside, with_tables, held_beside, station_refusal, concluded, refused_all, station_outcome}
+use Rattle.rules.specs.Stations.{other, Both, own, together, number_of, office_of, StationCall, call_by, brings_tables, tables_refusal, refusal_beside, with_tables, held_beside, station_refusal, concluded, refused_all, station_outcome}
+use Rattle.rules.specs.declared.Which.{Which}
+use Rattle.rules.specs.declared.Which.TheVariants.{First, Second}
 
 -- ---- whose a call is
 
-pub number_named : (w : Which) → office_of (number_of w) ≡ some w
+pub number_named : (w : Which) → office_of (number_of w) ≡ Some w
 number_named First = refl
 number_named Second = refl
 
-pub named : (w : Which) (n : ℕ) → eqb n (number_of w) ≡ true → office_of n ≡ some w
+pub named : (w : Which) (n : ℕ) → eqb n (number_of w) ≡ true → office_of n ≡ Some w
 named First n e = rw e
 named Second n e = rw (eqb-true n 2 e)
 
-pub neither : (w : Which) (n : ℕ) → eqb n (number_of w) ≡ false → eqb n (number_of (other w)) ≡ false → office_of n ≡ none
+pub neither : (w : Which) (n : ℕ) → eqb n (number_of w) ≡ false → eqb n (number_of (other w)) ≡ false → office_of n ≡ None
 neither First n p q = rw (p, q)
 neither Second n p q = rw (q, p)
 
@@ -104,18 +106,18 @@ module _ (o p : Held) (c : OfficeCall) where
 
 -- ---- all that a call does
 
-pub outcome_nobody : (b : Both Held) (c : StationCall) → office_of c.office ≡ none → station_outcome b c ≡ refused_all no_such_office b c.call
+pub outcome_nobody : (b : Both Held) (c : StationCall) → office_of c.office ≡ None → station_outcome b c ≡ refused_all no_such_office b c.call
 unfolding station_outcome
 outcome_nobody b c e = rw e
 
 pub outcome_of_lem :
-    (w : Which) (b : Both Held) (c : StationCall) → office_of c.office ≡ some w
+    (w : Which) (b : Both Held) (c : StationCall) → office_of c.office ≡ Some w
     → station_outcome b c ≡ concluded (refusal_beside (own w b) (own (other w) b) c.call) w b c.call
 unfolding station_outcome
 outcome_of_lem w b c e = rw e
 
 pub refusal_of_lem :
-    (w : Which) (b : Both Held) (c : StationCall) → office_of c.office ≡ some w
+    (w : Which) (b : Both Held) (c : StationCall) → office_of c.office ≡ Some w
     → station_refusal b c ≡ refusal_beside (own w b) (own (other w) b) c.call
 unfolding station_refusal
 refusal_of_lem w b c e = rw e

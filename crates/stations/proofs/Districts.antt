@@ -2,13 +2,14 @@
 use Prim.Native.Nat.{ℕ, zero, suc}
 use mathlib.Core.Path.{◌≡◌, refl}
 use mathlib.Core.List.{List, [], ◌∷◌}
-use mathlib.Core.Option.{Option, none, some}
+use Rattle.std.specs.Prelude.{Option, None, Some}
 use Rattle.rules.specs.District.{District, fresh_district}
 use Rattle.rules.specs.Answers.{or_later, accepting}
 use Rattle.rules.specs.Lists.{Call, refusal_of}
 use Rattle.rules.specs.Offices.{OfficeCall, Plan, Send, AskRoughness}
-use Rattle.rules.specs.Stations.{Which, other, Both, own, office_of, StationCall, tables_refusal, altered_both, districts_by, districts_from, districts_after}
+use Rattle.rules.specs.Stations.{other, Both, own, office_of, StationCall, tables_refusal, altered_both, districts_by, districts_from, districts_after}
 use Rattle.stations.proofs.Calls.{earlier_none}
+use Rattle.rules.specs.declared.Which.{Which}
 
 module _
     (P : Both District → Type 0)
@@ -16,14 +17,14 @@ module _
   where
     next_kept : (o : Option Which) (ds : Both District) (c : OfficeCall) → P ds → P (districts_by o ds c)
     unfolding districts_by accepting
-    next_kept none ds c p = p
-    next_kept (some w) ds (Plan k) p = go (or_later (refusal_of (own w ds) k) (tables_refusal (own w ds) (own (other w) ds) (Plan k))) refl
+    next_kept None ds c p = p
+    next_kept (Some w) ds (Plan k) p = go (or_later (refusal_of (own w ds) k) (tables_refusal (own w ds) (own (other w) ds) (Plan k))) refl
       where
         go : (n : ℕ) → or_later (refusal_of (own w ds) k) (tables_refusal (own w ds) (own (other w) ds) (Plan k)) ≡ n → P (accepting n (altered_both w ds k) ds)
         go zero e = keeps w ds k (earlier_none _ _ e) p
         go (suc n) e = p
-    next_kept (some w) ds (Send s) p = p
-    next_kept (some w) ds AskRoughness p = p
+    next_kept (Some w) ds (Send s) p = p
+    next_kept (Some w) ds AskRoughness p = p
 
     from_kept : (cs : List StationCall) (ds : Both District) → P ds → P (districts_from ds cs)
     unfolding districts_from

@@ -7,7 +7,7 @@ use Rattle.rules.specs.District.{District}
 use Rattle.rules.specs.File.{in_range}
 use Rattle.rules.specs.Calls.{unit_of, show_of}
 use Rattle.rules.specs.Lists.{Call, district_after, unit_after}
-use Rattle.rules.specs.Stations.{Which, own, StationCall, station_after, districts_after}
+use Rattle.rules.specs.Stations.{own, StationCall, station_after, districts_after}
 use Rattle.rules.specs.Demands.{Sound, Shown}
 use Rattle.rules.specs.StationDemands.{EveryStation}
 use Rattle.rules.specs.declared.Unit.{Unit}
@@ -19,6 +19,7 @@ use Rattle.stations.proofs.Heard.{heard_after_lem}
 use Rattle.stations.proofs.Files.{reads}
 use Rattle.stations.proofs.Reached.{reached_after}
 use Rattle.stations.proofs.Reloads.{reloads}
+use Rattle.rules.specs.declared.Which.{Which}
 
 same_unit : (cs : List StationCall) (w : Which) → (own w (station_after cs)).unit ≡ unit_after (reached_after cs w).calls
 same_unit cs w =

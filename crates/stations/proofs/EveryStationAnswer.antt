@@ -3,14 +3,16 @@ use Prim.Native.Nat.{ℕ, zero, suc}
 use mathlib.Core.Path.{◌≡◌, refl, sym, ap, ◌∙◌}
 use mathlib.Core.Bool.{false}
 use mathlib.Core.List.{List}
-use mathlib.Core.Option.{none}
+use Rattle.std.specs.Prelude.{None}
 use borrow.Author.Tests.{ne_eqb}
 use Rattle.rules.specs.Offices.{Held, OfficeCall, office_refusal, office_outcome}
-use Rattle.rules.specs.Stations.{Which, First, Second, other, Both, own, together, office_of, call_of, call_by, brings_tables, held_beside, station_refusal, StationOutcome, beside, refused_all, concluded, station_outcome}
-use Rattle.rules.specs.declared.Answer.{Answer}
+use Rattle.rules.specs.Stations.{other, Both, own, together, office_of, call_of, call_by, brings_tables, held_beside, station_refusal, StationOutcome, beside, refused_all, concluded, station_outcome}
+use Rattle.rules.specs.Answers.{Answer}
 use Rattle.rules.specs.StationDemands.{EveryStationAnswer}
 use Rattle.demands.proofs.EveryOfficeAnswer.{every_office_answer}
 use Rattle.stations.proofs.Calls.{brings_none, own_accepts, other_stays, outcome_nobody, refusal_by, concluded_by}
+use Rattle.rules.specs.declared.Which.{Which}
+use Rattle.rules.specs.declared.Which.TheVariants.{First, Second}
 
 module _ (w : Which) (b : Both Held) (c : OfficeCall) where
   by_refusal : (n : ℕ) → station_refusal b (call_by w c) ≡ n → station_outcome b (call_by w c) ≡ concluded n w b c
@@ -30,7 +32,7 @@ module _ (w : Which) (b : Both Held) (c : OfficeCall) where
   pub own_accepted : station_refusal b (call_by w c) ≡ 0 → office_refusal (own w b) c ≡ 0
   own_accepted e = own_accepts (own w b) (own (other w) b) c (sym (refusal_by w b c) ∙ e)
 
-unnamed : (n : ℕ) → ¬ (n ≡ 1) → ¬ (n ≡ 2) → office_of n ≡ none
+unnamed : (n : ℕ) → ¬ (n ≡ 1) → ¬ (n ≡ 2) → office_of n ≡ None
 unnamed n p q = rw (ne_eqb n 1 p, ne_eqb n 2 q)
 
 pub every_station_answer : EveryStationAnswer

@@ -7,13 +7,14 @@ use Rattle.rules.specs.File.{encode_as}
 use Rattle.rules.specs.Calls.{load_refusal, district_in, load_of, Export, export_of}
 use Rattle.rules.specs.Lists.{Load, ExportTo, refusal_of, written, outcome_of}
 use Rattle.rules.specs.Offices.{Held, Plan, office_refusal, planned, office_outcome}
-use Rattle.rules.specs.Stations.{Which, other, Both, own, call_by, brings_tables, held_beside, station_refusal, StationOutcome}
+use Rattle.rules.specs.Stations.{other, Both, own, call_by, brings_tables, held_beside, station_refusal, StationOutcome}
 use Rattle.rules.specs.StationDemands.{load_by, back_to, file_from, EveryStationFile}
 use Rattle.rules.specs.Demands.{file_in}
 use Rattle.rules.specs.declared.Unit.{Unit}
 use Rattle.demands.proofs.EveryFile.{every_file}
 use Rattle.stations.proofs.Calls.{own_part}
 use Rattle.stations.proofs.EveryStationAnswer.{accepted_outcome, own_accepted, both_stay}
+use Rattle.rules.specs.declared.Which.{Which}
 
 module _ (b : Both Held) (w : Which) (file : List ℕ) (loads : station_refusal b (call_by w (Plan (Load file))) ≡ 0) where
   file_loads : load_refusal file ≡ 0

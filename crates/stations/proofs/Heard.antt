@@ -3,14 +3,16 @@ use Prim.Native.Nat.{ℕ, zero, suc}
 use mathlib.Core.Path.{◌≡◌, refl, ap, ◌∙◌}
 use mathlib.Core.Bool.{Bool, true, false}
 use mathlib.Core.List.{List, [], ◌∷◌}
-use mathlib.Core.Option.{none, some}
+use Rattle.std.specs.Prelude.{None, Some}
 use Rattle.base.specs.Choice.{pick}
 use Rattle.rules.specs.Answers.{or_later, accepting}
 use Rattle.rules.specs.Meter.{Heard, sent_refusal, hearing, heard_from, heard_after}
 use Rattle.rules.specs.Offices.{Held, fresh_held, OfficeCall, Plan, Send, AskRoughness, office_refusal, office_outcome, sent_in}
-use Rattle.rules.specs.Stations.{Which, First, Second, other, Both, own, office_of, fresh_both, StationCall, brings_tables, tables_refusal, refusal_beside, StationOutcome, concluded, station_outcome, station_from, station_after, made_by, calls_by}
+use Rattle.rules.specs.Stations.{other, Both, own, office_of, fresh_both, StationCall, brings_tables, tables_refusal, refusal_beside, StationOutcome, concluded, station_outcome, station_from, station_after, made_by, calls_by}
 use Rattle.rules.specs.declared.Sent.{Sent}
 use Rattle.stations.proofs.Calls.{named, neither, own_part, other_part, other_window, outcome_nobody, outcome_of_lem}
+use Rattle.rules.specs.declared.Which.{Which}
+use Rattle.rules.specs.declared.Which.TheVariants.{First, Second}
 
 -- ---- one call
 
@@ -46,21 +48,21 @@ next b c = (station_outcome b c).held
 
 module _ (v : Which) (b : Both Held) (c : StationCall) where
   by_itself :
-      (cs : List OfficeCall) → office_of c.office ≡ some v
+      (cs : List OfficeCall) → office_of c.office ≡ Some v
       → heard_from (own v (next b c)).heard (sent_in cs) ≡ heard_from (own v b).heard (sent_in (c.call ∷ cs))
   by_itself cs e =
       ap (λ (x : StationOutcome). heard_from (own v x.held).heard (sent_in cs)) (outcome_of_lem v b c e) ∙ own_heard v b c.call cs
 
-  by_nobody : office_of c.office ≡ none → (own v (next b c)).heard ≡ (own v b).heard
+  by_nobody : office_of c.office ≡ None → (own v (next b c)).heard ≡ (own v b).heard
   by_nobody e = ap (λ (x : StationOutcome). (own v x.held).heard) (outcome_nobody b c e)
 
   -- made by it, of the other
-  beside_it : office_of c.office ≡ some v → (own (other v) (next b c)).heard ≡ (own (other v) b).heard
+  beside_it : office_of c.office ≡ Some v → (own (other v) (next b c)).heard ≡ (own (other v) b).heard
   beside_it e =
       ap (λ (x : StationOutcome). (own (other v) x.held).heard) (outcome_of_lem v b c e)
       ∙ other_heard v b c.call (refusal_beside (own v b) (own (other v) b) c.call)
 
-by_the_other : (v : Which) (b : Both Held) (c : StationCall) → office_of c.office ≡ some (other v) → (own v (next b c)).heard ≡ (own v b).heard
+by_the_other : (v : Which) (b : Both Held) (c : StationCall) → office_of c.office ≡ Some (other v) → (own v (next b c)).heard ≡ (own v b).heard
 by_the_other First b c e = beside_it Second b c e
 by_the_other Second b c e = beside_it First b c e
 

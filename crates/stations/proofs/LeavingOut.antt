@@ -4,7 +4,7 @@ use Prim.Native.Nat.{ℕ, zero, suc}
 use mathlib.Core.Path.{◌≡◌, refl, sym, ap, ap₂, ◌∙◌}
 use mathlib.Core.Bool.{Bool, true, false, not, ◌&&◌, true≢false}
 use mathlib.Core.List.{List, [], ◌∷◌}
-use mathlib.Core.Option.{none, some}
+use Rattle.std.specs.Prelude.{None, Some}
 use borrow.Author.Tests.{not-true}
 use lib.Dec.{eqb}
 use Rattle.base.specs.Choice.{pick}
@@ -12,14 +12,16 @@ use Rattle.base.proofs.Choice.{and_both}
 use Rattle.rules.specs.District.{segments_of, fresh_district}
 use Rattle.rules.specs.Calls.{unit_of, fresh_unit}
 use Rattle.rules.specs.Offices.{Held, fresh_held, OfficeCall, office_refusal, office_outcome}
-use Rattle.rules.specs.Stations.{Which, First, Second, other, Both, own, office_of, fresh_both, StationCall, brings_tables, refusal_beside, station_refusal, StationOutcome, concluded, station_outcome, made_by, without}
+use Rattle.rules.specs.Stations.{other, Both, own, office_of, fresh_both, StationCall, brings_tables, refusal_beside, station_refusal, StationOutcome, concluded, station_outcome, made_by, without}
 use Rattle.rules.specs.StationDemands.{Told, told_to, got, gets, got_from, got_by, throughout, leaves_tables, not_in_use, LeavingOut}
 use Rattle.stations.proofs.Calls.{named, neither, one_office, own_part, other_part, not_in_use_lem, beside_none, other_stays, other_empty, outcome_nobody, outcome_of_lem, refusal_of_lem}
+use Rattle.rules.specs.declared.Which.{Which}
+use Rattle.rules.specs.declared.Which.TheVariants.{First, Second}
 
 abbrev next : Both Held → StationCall → Both Held
 next b c = (station_outcome b c).held
 
-next_nobody : (b : Both Held) (c : StationCall) → office_of c.office ≡ none → next b c ≡ b
+next_nobody : (b : Both Held) (c : StationCall) → office_of c.office ≡ None → next b c ≡ b
 next_nobody b c nobody = ap (λ (x : StationOutcome). x.held) (outcome_nobody b c nobody)
 
 -- ---- a call of the other office, in the first run alone
@@ -74,7 +76,7 @@ module _ (v : Which) (b e : Both Held) (alike : Alike v b e) where
 
   module _ (c : StationCall) (made : made_by v c ≡ true) (free : not_in_use v b c ≡ true) where
     -- in both runs nothing refuses it but its own tests
-    its : office_of c.office ≡ some v
+    its : office_of c.office ≡ Some v
     its = named v c.office made
 
     first_refusal_lem : refusal_beside (own v b) (own (other v) b) c.call ≡ office_refusal (own v b) c.call
@@ -117,7 +119,7 @@ module _ (v : Which) (b e : Both Held) (alike : Alike v b e) where
 -- ---- lists
 
 module _ (v : Which) (b e : Both Held) (alike : Alike v b e) (c : StationCall) where
-  nobody_alike : office_of c.office ≡ none → Alike v (next b c) (next e c)
+  nobody_alike : office_of c.office ≡ None → Alike v (next b c) (next e c)
   nobody_alike nobody = rw (next_nobody b c nobody, next_nobody e c nobody) alike
 
   others_alike : made_by (other v) c ≡ true → leaves_tables (other v) b c ≡ true → Alike v (next b c) e

@@ -4,17 +4,19 @@ use Prim.Native.Nat.{ℕ, zero, suc}
 use mathlib.Core.Path.{◌≡◌, refl, sym, ap, ◌∙◌}
 use mathlib.Core.Bool.{Bool, true, false}
 use mathlib.Core.List.{List, [], ◌∷◌}
-use mathlib.Core.Option.{Option, none, some}
+use Rattle.std.specs.Prelude.{Option, None, Some}
 use Rattle.base.specs.Choice.{pick}
 use Rattle.rules.specs.District.{District, fresh_district, shared_tables}
 use Rattle.rules.specs.Answers.{or_later, accepting}
 use Rattle.rules.specs.Calls.{unit_of, fresh_unit}
 use Rattle.rules.specs.Lists.{Call, refusal_of, altered}
 use Rattle.rules.specs.Offices.{Held, fresh_held, OfficeCall, Plan, Send, AskRoughness, office_refusal, office_outcome}
-use Rattle.rules.specs.Stations.{Which, First, Second, other, Both, own, office_of, fresh_both, StationCall, brings_tables, tables_refusal, refusal_beside, with_tables, held_beside, concluded, outcome_for, station_outcome, station_from, station_after, altered_both, districts_by, districts_from, districts_after}
+use Rattle.rules.specs.Stations.{other, Both, own, office_of, fresh_both, StationCall, brings_tables, tables_refusal, refusal_beside, with_tables, held_beside, concluded, outcome_for, station_outcome, station_from, station_after, altered_both, districts_by, districts_from, districts_after}
 use Rattle.rules.specs.declared.Unit.{Unit}
 use Rattle.demands.proofs.Lists.{unit_next}
 use Rattle.stations.proofs.Calls.{own_part, other_part, earlier_none, other_stays}
+use Rattle.rules.specs.declared.Which.{Which}
+use Rattle.rules.specs.declared.Which.TheVariants.{First, Second}
 
 -- what holds of an office and of the other holds of each
 pub each : (P : Which → Type 0) (w : Which) → P w → P (other w) → (v : Which) → P v
@@ -74,7 +76,7 @@ module _ (w : Which) (b : Both Held) (ds : Both District) (units : Units b ds) w
     other_unit zero ok = ap (λ (h : Held). h.unit) (other_part w _ _) ∙ beside_unit (ok refl) ∙ sym (ap unit_of (other_part w _ _))
     other_unit (suc n) ok = units (other w)
 
-    plan_units : Units (concluded (refusal_beside (own w b) (own (other w) b) (Plan k)) w b (Plan k)).held (districts_by (some w) ds (Plan k))
+    plan_units : Units (concluded (refusal_beside (own w b) (own (other w) b) (Plan k)) w b (Plan k)).held (districts_by (Some w) ds (Plan k))
     unfolding districts_by
     plan_units =
         let n = or_later (refusal_of d k) (tables_refusal d e (Plan k)) in
@@ -92,7 +94,7 @@ module _ (w : Which) (b : Both Held) (ds : Both District) (units : Units b ds) w
       (rw (other_part, other_stays (own w b) (own (other w) b) c none-brought) (units (other w)))
   idle_units c idle none-brought (suc n) = units
 
-  call_units : (c : OfficeCall) → Units (concluded (refusal_beside (own w b) (own (other w) b) c) w b c).held (districts_by (some w) ds c)
+  call_units : (c : OfficeCall) → Units (concluded (refusal_beside (own w b) (own (other w) b) c) w b c).held (districts_by (Some w) ds c)
   unfolding districts_by brings_tables office_outcome
   call_units (Plan k) = plan_units k
   call_units (Send s) = idle_units (Send s) refl refl (refusal_beside (own w b) (own (other w) b) (Send s))
@@ -103,8 +105,8 @@ unfolding station_outcome districts_by
 next_units b ds c units = go (office_of c.office)
   where
     go : (o : Option Which) → Units (outcome_for o b c.call).held (districts_by o ds c.call)
-    go none = units
-    go (some w) = call_units w b ds units c.call
+    go None = units
+    go (Some w) = call_units w b ds units c.call
 
 from_units : (cs : List StationCall) (b : Both Held) (ds : Both District) → Units b ds → Units (station_from b cs) (districts_from ds cs)
 unfolding station_from districts_from

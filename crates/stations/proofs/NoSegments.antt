@@ -3,7 +3,7 @@ use Prim.Native.Nat.{ℕ, zero, suc, ◌+◌, ◌-◌, ◌*◌, ◌^◌}
 use mathlib.Core.Path.{◌≡◌, refl, sym, ap, ◌∙◌}
 use mathlib.Core.Bool.{false, and-false, true≢false}
 use mathlib.Core.List.{List, ◌∷◌}
-use mathlib.Core.Option.{Option}
+use Rattle.std.specs.Prelude.{Option}
 use native.Mathlib.Nat.{zero-mul}
 use native.Mathlib.Omega.{arith}
 use borrow.Author.Tests.{le-ltb, lt-leb}
@@ -41,14 +41,14 @@ zeros (suc n) m = ap (λ (l : List ℕ). 0 ∷ l) (zeros n (suc m))
 
 -- ---- a table without segments, and so without candidates
 
-module _ (t : Table) (leader : ℕ → ℕ) (empty : t.segments ≡ 0) (none : (i j : ℕ) → t.benefit i j ≡ 0) where
+module _ (t : Table) (leader : ℕ → ℕ) (empty : t.segments ≡ 0) (None : (i j : ℕ) → t.benefit i j ≡ 0) where
   total_none : (c : List ℕ) → total t c ≡ 0
   unfolding total sum
   total_none c = ap (λ (n : ℕ). sum n (chosen_benefit t c)) empty
 
   top_none : (i : ℕ) → top_candidate t i ≡ 0
   unfolding top_candidate is_candidate
-  top_none i = best_ind _ _ (λ b. b ≡ 0) t.strategies refl (λ k l h e. absurd (true≢false (sym e ∙ rw (none i k))))
+  top_none i = best_ind _ _ (λ b. b ≡ 0) t.strategies refl (λ k l h e. absurd (true≢false (sym e ∙ rw (None i k))))
 
   bests_none : bests t ≡ nothing
   unfolding bests

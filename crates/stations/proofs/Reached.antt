@@ -10,11 +10,13 @@ use Rattle.rules.specs.Answers.{accepting}
 use Rattle.rules.specs.Calls.{district_in}
 use Rattle.rules.specs.Lists.{Call, Load, Alter, ExportTo, PageTo, Show, AskWhy, refusal_of, altered, district_from, district_after}
 use Rattle.rules.specs.Offices.{Plan}
-use Rattle.rules.specs.Stations.{Which, First, other, Both, own, StationCall, brings_tables, altered_both, districts_after}
+use Rattle.rules.specs.Stations.{other, Both, own, StationCall, brings_tables, altered_both, districts_after}
 use Rattle.stations.proofs.Calls.{own_part, other_part}
 use Rattle.stations.proofs.Districts.{after_kept}
 use Rattle.stations.proofs.Files.{tables_read}
 use Rattle.stations.proofs.Lists.{each}
+use Rattle.rules.specs.declared.Which.{Which}
+use Rattle.rules.specs.declared.Which.TheVariants.{First}
 
 -- a list of a unit's calls that leads to the district
 pub record Reached (d : District) : Type 0 where

@@ -9,14 +9,14 @@ use lib.Dec.{leb}
 use Rattle.base.specs.Choice.{pick}
 use Rattle.rules.specs.District.{District, segments_of, same_tables}
 use Rattle.rules.specs.File.{encode}
-use Rattle.rules.specs.Answers.{tables_in_use, unless, answer_of, accepting}
+use Rattle.rules.specs.Answers.{tables_in_use, unless, answer_of, accepting, Accepted}
 use Rattle.rules.specs.Calls.{load_refusal, district_in, unit_of, answered, load_of}
 use Rattle.rules.specs.Lists.{Load, refusal_of, outcome_of}
 use Rattle.rules.specs.Offices.{Held, OfficeCall, Plan, office_refusal, office_outcome}
-use Rattle.rules.specs.Stations.{Which, other, Both, own, together, call_by, brings_tables, tables_refusal, refusal_beside, with_tables, held_beside, beside, refused_all, concluded, station_outcome}
+use Rattle.rules.specs.Stations.{other, Both, own, together, call_by, brings_tables, tables_refusal, refusal_beside, with_tables, held_beside, beside, refused_all, concluded, station_outcome}
 use Rattle.rules.specs.StationDemands.{Reloads}
-use Rattle.rules.specs.declared.Answer.TheVariants.{Accepted}
 use Rattle.stations.proofs.Calls.{concluded_by}
+use Rattle.rules.specs.declared.Which.{Which}
 
 module _ (file : List ℕ) (d : District) (loads : load_refusal file ≡ 0) (back : district_in file ≡ d) where
   abbrev load : OfficeCall

@@ -7,7 +7,7 @@ use Rattle.rules.specs.District.{District, most_resources, resources_of, shared_
 use Rattle.rules.specs.Calls.{district_in}
 use Rattle.rules.specs.Lists.{Call, Load, Alter, ExportTo, PageTo, Show, AskWhy, refusal_of, altered, district_after}
 use Rattle.rules.specs.Offices.{Plan}
-use Rattle.rules.specs.Stations.{Which, First, Second, Both, own, brings_tables, altered_both}
+use Rattle.rules.specs.Stations.{Both, own, brings_tables, altered_both}
 use Rattle.rules.specs.StationDemands.{TablesAgree}
 use Rattle.grammar.proofs.InRanges.{in_ranges}
 use Rattle.demands.proofs.Lists.{after_in}
@@ -15,6 +15,8 @@ use Rattle.stations.proofs.Districts.{after_kept}
 use Rattle.stations.proofs.Reached.{Reached, Each, fresh_each, next_reached}
 use Rattle.shared.proofs.Tables.{tables_twice, same_tables_lem}
 use Rattle.stations.proofs.Shared.{edit_shared}
+use Rattle.rules.specs.declared.Which.{Which}
+use Rattle.rules.specs.declared.Which.TheVariants.{First, Second}
 
 few : (d : District) → Reached d → resources_of d ≤ most_resources
 few d r = rw r.leads at (in_ranges (district_after r.calls) (after_in r.calls)).resources

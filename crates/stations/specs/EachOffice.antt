@@ -4,19 +4,20 @@ use Rattle.rules.specs.District.{District, segments_of}
 use Rattle.rules.specs.Page.{rows, lines}
 use Rattle.rules.specs.Calls.{bar_refusal, page_of, show_of, why_of}
 use Rattle.rules.specs.Demands.{file_in}
-use Rattle.rules.specs.Stations.{Which, own, StationCall, station_after, districts_after}
+use Rattle.rules.specs.Stations.{own, StationCall, station_after, districts_after}
 use Rattle.rules.specs.declared.Unit.{Unit}
 use Rattle.rules.specs.declared.Reason.{Reason}
-use Rattle.rules.specs.declared.Why.TheVariants.{Because}
 use Rattle.theorems.specs.Scale.{OnScale}
 use Rattle.theorems.specs.Columns.{OnPage}
 use Rattle.theorems.specs.Reasons.{Explained}
 use Rattle.theorems.specs.GoodBudget.{AtCeiling, Optimal}
+use Rattle.rules.specs.Answers.{Accepted}
+use Rattle.rules.specs.declared.Which.{Which}
 
 -- asked why, the unit names the first reason that holds
 pub record NamesFirst (d : District) (u : Unit) (i j : ℕ) : Type 0 where
   pub reason : Reason
-  pub answer : why_of u i j ≡ Because reason
+  pub answer : why_of u i j ≡ Accepted reason
   pub explained : Explained d (show_of u).strategies i j reason
 
 -- of a district and the unit that holds it: ratings stay on their scale, the page can be read, one of the nine reasons is the answer, and total and

@@ -7,9 +7,8 @@ use borrow.Author.Tests.{lt-leb, ne_eqb}
 use lib.Dec.{leb}
 use Rattle.base.specs.Over.{between}
 use Rattle.base.proofs.Choice.{lt_eqb}
-use Rattle.rules.specs.Answers.{no_such_points, answer_of}
+use Rattle.rules.specs.Answers.{no_such_points, answer_of, Accepted, Refused}
 use Rattle.rules.specs.Survey.{block_of, points_of, survey_refusal, survey_of}
-use Rattle.rules.specs.declared.Answer.TheVariants.{Accepted, Refused}
 
 -- the table has the block, the degree and the extent
 abbrev pub tabled : ℕ → ℕ → ℕ → Bool

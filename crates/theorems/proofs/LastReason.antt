@@ -4,7 +4,7 @@ use Prim.Native.Nat.{ℕ, ◌≤◌}
 use mathlib.Core.Path.{◌≡◌, refl, sym}
 use mathlib.Core.Bool.{Bool, true, false, not, ◌&&◌, true≢false}
 use mathlib.Core.List.{List}
-use mathlib.Core.Option.{none}
+use Rattle.std.specs.Prelude.{None}
 use native.Mathlib.Omega.{arith}
 use borrow.Author.Tests.{le-leb, leb-false, lt-ltb, ltb-false, ne_eqb, eqb-true, eqb-false, not-false}
 use lib.Dec.{T, eqb}
@@ -42,7 +42,7 @@ module _
     (d : District) (p : Programme) (i j : ℕ) (sound : Sound d p) (worth : leaders_worth d (strategy_at p.strategies) ≡ true)
     (room : segments_of d ≤ length p.strategies)
     (l : 1 ≤ i) (h : i ≤ segments_of d) (lj : 1 ≤ j) (hj : j ≤ strategies_of d)
-    (none_found : hindrance d p.strategies i j ≡ none) where
+    (none_found : hindrance d p.strategies i j ≡ None) where
   free : (q : Reason) → names d q ≡ true → number q ≤ 8 → holds d p.strategies i j q ≡ false
   free = none_holds d p.strategies i j none_found
 

@@ -4,7 +4,7 @@ use mathlib.Core.Path.{◌≡◌, refl, ap, sym, ◌∙◌}
 use mathlib.Core.Bool.{Bool, true, false, ◌&&◌}
 use mathlib.Core.List.{List}
 use mathlib.Core.Logic.{inl, inr}
-use mathlib.Core.Option.{Option, none}
+use Rattle.std.specs.Prelude.{Option, None}
 use native.Mathlib.Omega.{arith}
 use borrow.Author.Tests.{ltb-true, ltb-false, lt-ltb, eqb-true, eqb-false, eq-eqb, ne_eqb}
 use lib.Dec.{ltb, eqb}
@@ -19,7 +19,7 @@ use Rattle.laws.proofs.Give.{kept}
 use Rattle.laws.proofs.Gives.{allowed_number}
 
 module _ (t : Table) (leader : ℕ → ℕ) (c : List ℕ) where
-  strategy_at_lem : (f : ℕ → Option (List ℕ)) → first_strategy t f ≡ none → (j : ℕ) → j ≤ t.strategies → f j ≡ none
+  strategy_at_lem : (f : ℕ → Option (List ℕ)) → first_strategy t f ≡ None → (j : ℕ) → j ≤ t.strategies → f j ≡ None
   unfolding first_strategy
   strategy_at_lem f e zero h = (or_else_none (f 0) (first t.strategies f) e).0
   strategy_at_lem f e (suc j) h =
@@ -46,7 +46,7 @@ module _ (t : Table) (leader : ℕ → ℕ) (c : List ℕ) where
       first_fails true y f w = sym w ∙ f
       first_fails false y f w = refl
 
-  module _ (ended : change t leader c ≡ none) where
+  module _ (ended : change t leader c ≡ None) where
     pub no_single : (i j : ℕ) → 1 ≤ i → i ≤ t.segments → j ≤ t.strategies → (another t c i j && counts t leader c (give c i j)) ≡ false
     unfolding change first_single singles_of single
     no_single i j l h s =

@@ -5,7 +5,7 @@ use mathlib.Core.Path.{◌≡◌, refl, sym, subst, ◌∙◌}
 use mathlib.Core.Bool.{Bool, true, false, ◌&&◌, ◌||◌, false≢true}
 use mathlib.Core.List.{List}
 use mathlib.Core.Logic.{inl, inr, ⊎_elim}
-use mathlib.Core.Option.{none, some}
+use Rattle.std.specs.Prelude.{None, Some}
 use native.Mathlib.Nat.{mul-pos, lt_of_mul-lt-mul_right}
 use native.Mathlib.Omega.{arith}
 use borrow.Author.Tests.{ltb-true, ltb-false, eqb-true, leb-true, leb-false, lt-ltb, le-ltb, eq-eqb}
@@ -80,8 +80,8 @@ module _ (t : Table) (fit : FitAlone t) (c : List ℕ) (o : OfCandidates t c) wh
       known : (r : ℕ) → 1 ≤ r → r ≤ t.resources → (v : Bool) → holds t c r ≡ v → holds t c r ≡ true
       known r lr hr true e = e
       known r lr hr false e =
-          let some = over_surplus r lr hr e in
-          absurd (omega (arith, sum_bound t.segments 0 (chosen_share t c r) (idle_share w r lr hr some.0)))
+          let Some = over_surplus r lr hr e in
+          absurd (omega (arith, sum_bound t.segments 0 (chosen_share t c r) (idle_share w r lr hr Some.0)))
 
 -- ---- a step goes down
 
@@ -179,7 +179,7 @@ unfolding potential rank
 pruned_lowers t leader c =
     let e = pruned leader t.segments c in
     sum_le t.segments (λ i. rank t i (strategy_at e i)) (λ i. rank t i (strategy_at c i))
-    (λ i l h. ⊎_elim (λ same. rw same (omega arith)) (λ none. rw none (omega arith)) (pruned_drops leader t.segments c i l))
+    (λ i l h. ⊎_elim (λ same. rw same (omega arith)) (λ None. rw None (omega arith)) (pruned_drops leader t.segments c i l))
 
 module _ (t : Table) (leader : ℕ → ℕ) (fit : FitAlone t) where
   -- a segment with nothing does not pull
@@ -194,10 +194,10 @@ module _ (t : Table) (leader : ℕ → ℕ) (fit : FitAlone t) where
   unfolding weakest pulls
   weakest_pulls c = best_ind (pulls t c) (lesser_ratio t c) (λ b. 1 ≤ b → 1 ≤ pull t c b) t.segments (λ l. absurd (omega arith)) (λ k l h e some-k. ltb-true 0 (pull t c k) e)
 
-  step_falls : (c d : List ℕ) → step t leader c ≡ some d → OfCandidates t c → potential t d < potential t c
+  step_falls : (c d : List ℕ) → step t leader c ≡ Some d → OfCandidates t c → potential t d < potential t c
   unfolding potential
   step_falls c d e o =
-      step_cases t leader c (λ x. x ≡ some d → potential t d < potential t c) (λ w n. absurd (no_step n)) (λ w z n. absurd (no_step n))
+      step_cases t leader c (λ x. x ≡ Some d → potential t d < potential t c) (λ w n. absurd (no_step n)) (λ w z n. absurd (no_step n))
       (λ i w l h q.
       let is : stepped t leader c i ≡ d = cc in
       let pulling : 1 ≤ pull t c i = rw w at (weakest_pulls c (omega arith)) in
@@ -215,9 +215,9 @@ module _ (t : Table) (leader : ℕ → ℕ) (fit : FitAlone t) where
       chosen i l h p (suc a) z = omega arith
 
   -- a programme of candidates from which there is no step is within the limits
-  stopped : (c : List ℕ) → OfCandidates t c → step t leader c ≡ none → within t c ≡ true
+  stopped : (c : List ℕ) → OfCandidates t c → step t leader c ≡ None → within t c ≡ true
   stopped c o =
-      step_cases t leader c (λ x. x ≡ none → within t c ≡ true) (λ w n. w) (λ w z n. nobody_within t fit c o z)
+      step_cases t leader c (λ x. x ≡ None → within t c ≡ true) (λ w n. w) (λ w z n. nobody_within t fit c o z)
       (λ i w l h n. absurd (no_step (sym n)))
 
   -- each segment has a candidate or nothing at the end,
@@ -229,7 +229,7 @@ module _ (t : Table) (leader : ℕ → ℕ) (fit : FitAlone t) where
   phase1_allowed = gives_candidates t (start t leader) (phase1 t leader (start t leader)).last phase1_gives (start_allowed t leader fit.segments)
 
   -- there is no step from there,
-  pub phase1_ends : step t leader (phase1 t leader (start t leader)).last ≡ none
+  pub phase1_ends : step t leader (phase1 t leader (start t leader)).last ≡ None
   unfolding phase1
   phase1_ends =
       run_ends (step t leader) (OfCandidates t) (step_allowed t leader) (potential t) step_falls (t.segments * t.strategies) (start t leader) (start_allowed t leader fit.segments)

@@ -4,7 +4,7 @@ use Prim.Native.Nat.{ℕ, ◌≤◌}
 use mathlib.Core.Path.{◌≡◌}
 use mathlib.Core.Bool.{true}
 use mathlib.Core.List.{List}
-use mathlib.Core.Option.{none, some}
+use Rattle.std.specs.Prelude.{None, Some}
 use native.Mathlib.Omega.{arith}
 use Rattle.base.proofs.Runs.{run_ends, run_keeps}
 use Rattle.rules.specs.Table.{Table}
@@ -23,10 +23,10 @@ module _ (t : Table) (leader : ℕ → ℕ) (c : List ℕ) where
   unfolding phase2
   phase2_within = run_leads (pick_up t leader) t.segments c (λ s. within t s ≡ true) (pick_up_holds t leader)
 
-  keeps_room : (s e : List ℕ) → pick_up t leader s ≡ some e → Room t s → Room t e
+  keeps_room : (s e : List ℕ) → pick_up t leader s ≡ Some e → Room t s → Room t e
   keeps_room s e found room = omega (arith, (pick_up_gives t leader s e found).places)
 
-  pub phase2_ends : Room t c → pick_up t leader (phase2 t leader c).last ≡ none
+  pub phase2_ends : Room t c → pick_up t leader (phase2 t leader c).last ≡ None
   unfolding phase2
   phase2_ends room = run_ends (pick_up t leader) (Room t) keeps_room (vacancies t) (pick_up_falls t leader) t.segments c room (vacancies_le t c)
 

@@ -3,7 +3,7 @@ use Prim.Native.Nat.{ℕ, ◌+◌, ◌-◌, ◌≤◌, ◌<◌}
 use mathlib.Core.Path.{◌≡◌}
 use mathlib.Core.Bool.{true}
 use mathlib.Core.List.{List}
-use mathlib.Core.Option.{none, some}
+use Rattle.std.specs.Prelude.{None, Some}
 use native.Mathlib.Omega.{arith}
 use Rattle.base.proofs.Runs.{run_ends, run_count}
 use Rattle.rules.specs.Table.{Table}
@@ -31,14 +31,14 @@ module _ (t : Table) (leader : ℕ → ℕ) (c : List ℕ) where
     abbrev left : List ℕ → ℕ
     left s = total t (bests t) - total t s
 
-    keeps : (s e : List ℕ) → change t leader s ≡ some e → Numbers t s → Numbers t e
+    keeps : (s e : List ℕ) → change t leader s ≡ Some e → Numbers t s → Numbers t e
     keeps s e found n = gives_numbers t s e (change_some t leader s e found).gives n
 
-    falls : (s e : List ℕ) → change t leader s ≡ some e → Numbers t s → left e < left s
+    falls : (s e : List ℕ) → change t leader s ≡ Some e → Numbers t s → left e < left s
     falls s e found n =
         omega (arith, change_rises t leader s e found, total_le t fit.segments fit.nothing_worth e (keeps s e found n))
 
-    pub phase3_ends : change t leader (phase3 t leader c).last ≡ none
+    pub phase3_ends : change t leader (phase3 t leader c).last ≡ None
     unfolding phase3
     phase3_ends = run_ends (change t leader) (Numbers t) keeps left falls (total t (bests t)) c numbers (omega arith)
 

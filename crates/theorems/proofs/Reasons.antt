@@ -4,7 +4,7 @@ use mathlib.Core.Path.{◌≡◌, refl, sym, ap, subst, ◌∙◌}
 use mathlib.Core.Bool.{true, false, ◌&&◌, false≢true}
 use mathlib.Core.List.{List, [], ◌∷◌}
 use mathlib.Core.Logic.{⊎_elim}
-use mathlib.Core.Option.{Option, none, some}
+use Rattle.std.specs.Prelude.{Option, None, Some}
 use native.Mathlib.Omega.{arith}
 use borrow.Author.Tests.{ltb-true, eqb-true, lt-ltb}
 use lib.Dec.{ltb, eqb}
@@ -88,7 +88,7 @@ module _ (d : District) (c : List ℕ) (i j : ℕ) where
     pub holding : holds d c i j r ≡ true
 
   abbrev Finds : ℕ → Option Reason → Type 0
-  Finds n o = (r : Reason) → o ≡ some r → Found n r
+  Finds n o = (r : Reason) → o ≡ Some r → Found n r
 
   finds_plain : (q : Reason) → names d q ≡ true → Finds (number q) (given d c i j q)
   finds_plain q named r e =
@@ -108,7 +108,7 @@ module _ (d : District) (c : List ℕ) (i j : ℕ) where
       ∷ given d c i j LeaderHasNothing ∷ first (resources_of d) (λ r. given d c i j (OverAlone r)) ∷ first (resources_of d) (λ r. given d c i j (OverBeside r)) ∷ []
 
   abbrev part : ℕ → Option Reason
-  part n = get_or parts (n - 1) none
+  part n = get_or parts (n - 1) None
 
   hindrance_is : hindrance d c i j ≡ first 8 part
   unfolding hindrance
@@ -118,7 +118,7 @@ module _ (d : District) (c : List ℕ) (i j : ℕ) where
   AllFind n [] = Unit {0}
   AllFind n (o ∷ os) = Finds n o × AllFind (suc n) os
 
-  all_find : (n : ℕ) (os : List (Option Reason)) → AllFind n os → (m : ℕ) → Finds (n + m) (get_or os m none)
+  all_find : (n : ℕ) (os : List (Option Reason)) → AllFind n os → (m : ℕ) → Finds (n + m) (get_or os m None)
   all_find n [] ok m r e = absurd (let z : ◌≡◌ {A = ℕ} 0 1 = cc in omega arith)
   all_find n (o ∷ os) ok zero r e = let same : n ≡ n + 0 = omega arith in subst (λ (x : ℕ). Found x r) same (ok.0 r e)
   all_find n (o ∷ os) ok (suc m) r e =
@@ -157,19 +157,19 @@ module _ (d : District) (c : List ℕ) (i j : ℕ) where
   -- ---- a reason that the search comes to, the last where it finds none
 
   record Reached (r : Reason) : Type 0 where
-    pub passed : (m : ℕ) → 1 ≤ m → m ≤ 8 → m < number r → part m ≡ none
-    pub here : number r ≤ 8 → part (number r) ≡ some r
+    pub passed : (m : ℕ) → 1 ≤ m → m ≤ 8 → m < number r → part m ≡ None
+    pub here : number r ≤ 8 → part (number r) ≡ Some r
 
-  reached_none : hindrance d c i j ≡ none → Reached NoGreaterTotal
+  reached_none : hindrance d c i j ≡ None → Reached NoGreaterTotal
   reached_none e =
       record { passed = λ m l h less. first_at 8 part (sym hindrance_is ∙ e) m l h; here = λ h. absurd (omega arith) }
 
-  reached_some : (r : Reason) → hindrance d c i j ≡ some r → Reached r × Found (number r) r
+  reached_some : (r : Reason) → hindrance d c i j ≡ Some r → Reached r × Found (number r) r
   reached_some r e =
       let w = first_ended 8 part r (sym hindrance_is ∙ e) in
       let found = part_finds w.at w.low r w.found in
       let there : number r ≡ w.at = found.numbered in
-      (record { passed = λ m l h less. w.before m l (omega arith); here = λ h. subst (λ (m : ℕ). part m ≡ some r) (sym there) w.found }, subst (λ (m : ℕ). Found m r) (sym there) found)
+      (record { passed = λ m l h less. w.before m l (omega arith); here = λ h. subst (λ (m : ℕ). part m ≡ Some r) (sym there) w.found }, subst (λ (m : ℕ). Found m r) (sym there) found)
 
   -- ---- none before it holds
 
@@ -177,8 +177,8 @@ module _ (d : District) (c : List ℕ) (i j : ℕ) where
     plain : (n : ℕ) (q : Reason) → 1 ≤ n → n ≤ 8 → part n ≡ given d c i j q → before (n ∷ []) (told r) ≡ true → holds d c i j q ≡ false
     plain n q l h is b = only_none (holds d c i j q) q (sym is ∙ reached.passed n l h (after_plain n r b))
 
-    at : (n : ℕ) → n ≤ 8 → n ≡ number r → part n ≡ some r
-    at n h e = let few : number r ≤ 8 = omega arith in subst (λ (m : ℕ). part m ≡ some r) (sym e) (reached.here few)
+    at : (n : ℕ) → n ≤ 8 → n ≡ number r → part n ≡ Some r
+    at n h e = let few : number r ≤ 8 = omega arith in subst (λ (m : ℕ). part m ≡ Some r) (sym e) (reached.here few)
 
     of_resource :
         (n : ℕ) (f : ℕ → Reason) → ((m : ℕ) → values (f m) ≡ m ∷ []) → 1 ≤ n → n ≤ 8 → part n ≡ first (resources_of d) (λ m. given d c i j (f m))
@@ -211,7 +211,7 @@ module _ (d : District) (c : List ℕ) (i j : ℕ) where
         (λ earlier. subst (λ (x : ℕ). holds d c i j (MinimumMissed x t) ≡ false) (sym same) (only_none (holds d c i j (MinimumMissed w.at t)) (MinimumMissed w.at t) (v.before t lt earlier)))
         (λ q no. not_ended [] no)))
       where
-        missed : (k : ℕ) → minimum k ≡ none → holds d c i j (MinimumMissed k t) ≡ false
+        missed : (k : ℕ) → minimum k ≡ None → holds d c i j (MinimumMissed k t) ≡ false
         missed k e = only_none (holds d c i j (MinimumMissed k t)) (MinimumMissed k t) (first_at (years_of d) (λ y. given d c i j (MinimumMissed k y)) e t lt ht)
 
     none_before : (q : Reason) → names d q ≡ true → before (told q) (told r) ≡ true → holds d c i j q ≡ false
@@ -231,13 +231,13 @@ module _ (d : District) (c : List ℕ) (i j : ℕ) where
     none_before NoGreaterTotal named b = absurd (omega (arith, after_plain 9 r b, number_le r))
 
   -- the search found this one,
-  pub explained_some : (r : Reason) → hindrance d c i j ≡ some r → Explained d c i j r
+  pub explained_some : (r : Reason) → hindrance d c i j ≡ Some r → Explained d c i j r
   explained_some r e =
       let w = reached_some r e in
       record { named = w.1.named; holding = w.1.holding; earlier = none_before r w.0 }
 
   -- or none, and then the last is the reason if it holds
-  module _ (none_found : hindrance d c i j ≡ none) where
+  module _ (none_found : hindrance d c i j ≡ None) where
     pub none_holds : (q : Reason) → names d q ≡ true → number q ≤ 8 → holds d c i j q ≡ false
     none_holds q named h = none_before NoGreaterTotal (reached_none none_found) q named (before_last q h)
 

@@ -5,7 +5,7 @@ use Prim.Native.Nat.{ℕ, zero, suc, ◌-◌, ◌≤◌}
 use mathlib.Core.Path.{◌≡◌, refl, ap, sym, ◌∙◌, subst}
 use mathlib.Core.Bool.{Bool, true, false}
 use mathlib.Core.List.{List}
-use mathlib.Core.Option.{none}
+use Rattle.std.specs.Prelude.{None}
 use native.Mathlib.Omega.{arith}
 use borrow.Author.Tests.{leb-true, leb-false, le-leb, eqb-true, eqb-false}
 use lib.Dec.{leb, eqb}
@@ -75,13 +75,13 @@ module _ (t : Table) (fit : FitAlone t) (p : List ℕ) (o : OfCandidates t p) (c
     moved_heeds m lm hm =
         by_test t fit m (c m) lm hm (λ a. strategy_at moved m ≡ a → heeds leader (strategy_at moved) m ≡ true)
         (λ worth same. heeds_still leader c (strategy_at moved) m (sym same) (leader_keeps m lm hm) (heeding.heeds m lm hm))
-        (λ none same. heeds_nothing leader (strategy_at moved) m same) (moved_at m lm hm)
+        (λ None same. heeds_nothing leader (strategy_at moved) m same) (moved_at m lm hm)
 
     moved_respects : respects leader t.segments moved ≡ true
     unfolding respects
     moved_respects = all_true t.segments (heeds leader (strategy_at moved)) moved_heeds
 
-    two_apart : change t leader p ≡ none → total_by t c ≤ total t p
+    two_apart : change t leader p ≡ None → total_by t c ≤ total t p
     two_apart ended =
         rw (← moved_total)
         (pair_le t leader p ended i k (clean i) (clean k) l h lk hk (cleaned_allowed t fit i (c i) l h (rival.numbers i l h))
@@ -99,7 +99,7 @@ in_table {P} n i some-n go = known (leb 1 i) refl (leb i n) refl
     known false e y f = go 1 (omega arith) some-n (λ m l h ne q. omega (arith, leb-false 1 i e))
 
 pub neighbour :
-    (t : Table) → FitAlone t → (leader : ℕ → ℕ) → LowerLeaders leader t.segments → (p : List ℕ) → OfCandidates t p → change t leader p ≡ none
+    (t : Table) → FitAlone t → (leader : ℕ → ℕ) → LowerLeaders leader t.segments → (p : List ℕ) → OfCandidates t p → change t leader p ≡ None
     → (c : ℕ → ℕ) → Rival t c → Heeding t c leader → (i k : ℕ)
     → ((m : ℕ) → 1 ≤ m → m ≤ t.segments → ¬ (m ≡ i) → ¬ (m ≡ k) → strategy_at p m ≡ c m) → total_by t c ≤ total t p
 unfolding sum

@@ -9,7 +9,7 @@ use Rattle.rules.specs.Lists.{Call, district_after, unit_after}
 use Rattle.rules.specs.declared.Unit.{Unit}
 use Rattle.rules.specs.declared.Reason.{Reason}
 use Rattle.rules.specs.declared.Reason.TheVariants.{InProgramme, Barred, MinimumMissed, OverallMissed, NoBenefit, LeaderHasNothing, OverAlone, OverBeside, NoGreaterTotal}
-use Rattle.rules.specs.declared.Why.TheVariants.{Because, Refused}
+use Rattle.rules.specs.Answers.{Accepted, Refused}
 
 -- the district has what the reason names: distress type and year, or the resource
 unfoldable pub names : District → Reason → Bool
@@ -39,11 +39,11 @@ pub record Explained (d : District) (c : List ℕ) (i j : ℕ) (reason : Reason)
 -- of a unit in any state and any numbers
 pub record Asked (u : Unit) (i j : ℕ) : Type 0 where
   -- a question that nothing refuses has a reason for its answer, any other its number;
-  pub accepted : bar_refusal u.district i j ≡ 0 → why_of u i j ≡ Because (reason_for u.district u.programme.strategies i j)
+  pub accepted : bar_refusal u.district i j ≡ 0 → why_of u i j ≡ Accepted (reason_for u.district u.programme.strategies i j)
   pub refused : (n : ℕ) → bar_refusal u.district i j ≡ suc n → why_of u i j ≡ Refused (suc n)
   -- one of the first eight is the first that holds
   pub first :
-      (reason : Reason) → why_of u i j ≡ Because reason → ¬ (reason ≡ NoGreaterTotal)
+      (reason : Reason) → why_of u i j ≡ Accepted reason → ¬ (reason ≡ NoGreaterTotal)
       → Explained u.district u.programme.strategies i j reason
 
 abbrev pub EveryReason : Type 0
@@ -52,7 +52,7 @@ EveryReason = (u : Unit) (i j : ℕ) → Asked u i j
 -- after any list of calls the answer is the first of the nine that holds
 pub record Answered (cs : List Call) (i j : ℕ) : Type 0 where
   pub reason : Reason
-  pub answer : why_of (unit_after cs) i j ≡ Because reason
+  pub answer : why_of (unit_after cs) i j ≡ Accepted reason
   pub explained : Explained (district_after cs) (show_of (unit_after cs)).strategies i j reason
 
 -- for every segment and every strategy of the district there is one

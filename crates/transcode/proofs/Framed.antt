@@ -5,11 +5,10 @@ use mathlib.Core.List.{List, [], ◌∷◌}
 use native.Mathlib.Omega.{arith}
 use lib.ListN.{length, length-append}
 use Rattle.base.specs.Text.{Put}
-use Rattle.rules.specs.Answers.{buffer_too_short, accepting}
+use Rattle.rules.specs.Answers.{buffer_too_short, accepting, Answer}
 use Rattle.rules.specs.Calls.{Export, export_refusal, exported, load_refusal, district_in}
 use Rattle.rules.specs.District.{District}
 use Rattle.rules.specs.File.{encode}
-use Rattle.rules.specs.declared.Answer.{Answer}
 use Rattle.file.proofs.Refusals.{exported_fits}
 use Rattle.file.specs.Readings.{loaded_from}
 use Rattle.file.specs.declared.Loaded.{Loaded}

@@ -4,8 +4,7 @@ use Rattle.base.specs.Bytes.{bytes_of}
 use Rattle.rules.specs.Calls.{load_refusal, district_in}
 use Rattle.rules.specs.District.{District}
 use Rattle.rules.specs.File.{encode, longest_file}
-use Rattle.rules.specs.declared.Answer.{Answer}
-use Rattle.rules.specs.declared.Answer.TheVariants.{Accepted, Refused}
+use Rattle.rules.specs.Answers.{Answer, Accepted, Refused}
 
 -- what stands before an exported file: 0, and its length in 4 bytes
 abbrev pub head_of : ℕ → List ℕ

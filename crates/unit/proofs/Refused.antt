@@ -1,10 +1,9 @@
 -- What a refusal other than 0 makes of an answer and of what is held.
 use Prim.Native.Nat.{ℕ, zero, suc}
 use mathlib.Core.Path.{◌≡◌, refl}
-use Rattle.rules.specs.Answers.{answer_of, accepting}
+use Rattle.rules.specs.Answers.{answer_of, accepting, Refused}
 use Rattle.rules.specs.Calls.{answered}
 use Rattle.rules.specs.District.{District}
-use Rattle.rules.specs.declared.Answer.TheVariants.{Refused}
 use Rattle.rules.specs.declared.Unit.{Unit}
 
 pub answer_refused : (n value : ℕ) → (n ≡ 0 → ⊥) → answer_of n value ≡ Refused n

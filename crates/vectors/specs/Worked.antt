@@ -1,18 +1,18 @@
 -- What vectors prints for a list of calls.
 use Rattle.std.specs.Prelude.{ℕ, List}
-use Rattle.std.proofs.Math.Option.{Option, none, some}
-use Rattle.rules.specs.Answers.{no_such_office}
+use Rattle.std.specs.Prelude.{Option, None, Some}
+use Rattle.rules.specs.Answers.{no_such_office, Answer}
 use Rattle.rules.specs.Offices.{Held}
-use Rattle.rules.specs.Stations.{Which, Both, own, office_of}
+use Rattle.rules.specs.Stations.{Both, own, office_of}
 use Rattle.rules.specs.Desks.{desk_after}
-use Rattle.rules.specs.declared.Answer.{Answer}
 use Rattle.listing.specs.Listing.{refusal, planned}
 use Rattle.script.specs.Script.{entries_of, events_of, last_answer, last_office}
+use Rattle.rules.specs.declared.Which.{Which}
 
 -- the answer to an office, with its programme; to none, the refusal for that
 unfoldable pub worked_for : Option Which → Both Held → Answer → List ℕ
-worked_for none b answer = refusal no_such_office
-worked_for (some w) b answer = planned answer (own w b).unit
+worked_for None b answer = refusal no_such_office
+worked_for (Some w) b answer = planned answer (own w b).unit
 
 -- the bytes stand for the events
 unfoldable pub worked : List ℕ → List ℕ

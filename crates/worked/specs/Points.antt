@@ -3,8 +3,7 @@ use Rattle.std.specs.Prelude.{ℕ, ◌≡◌, refl, List, [], ◌∷◌, ◌++�
 use Rattle.base.specs.Over.{listed}
 use Rattle.rules.specs.Survey.{survey_of}
 use Rattle.rules.specs.Results.{result_of}
-use Rattle.rules.specs.declared.Answer.{Answer}
-use Rattle.rules.specs.declared.Answer.TheVariants.{Accepted, Refused}
+use Rattle.rules.specs.Answers.{Answer, Accepted, Refused}
 
 -- what is printed for a code and a seal: degrees 1 to 3, extents 1 to 3 of each
 pub record Block : Type 0 where

@@ -1,6 +1,6 @@
 -- `command::queue` meets its contract.
 use Rattle.std.proofs.Common.{ℕ, ◌≡◌, List, length, take, ap, ap₂, sym, ◌∙◌}
-use Rattle.std.proofs.Math.Option.{Option}
+use Rattle.std.specs.Prelude.{Option}
 use Rattle.base.proofs.Parts.{up_taken, up_size}
 use Rattle.text.specs.Numbers.{value_of}
 use Rattle.command.specs.Reading.{word_of, number_in, path_of, rows, called, edit_in, queued_as, queued_in}

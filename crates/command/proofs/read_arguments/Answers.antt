@@ -1,6 +1,6 @@
 -- `command::read_arguments` meets its contract: the numbers read and those to come are all.
 use Rattle.std.proofs.Common.{ℕ, suc, ◌≡◌, ◌+◌, ◌-◌, ◌<◌, ◌≤◌, List, [], ◌∷◌, ◌++◌, length, take, drop, refl, sym, ap, ◌∙◌, arith, length-drop}
-use Rattle.std.proofs.Math.Option.{Option, some, none}
+use Rattle.std.specs.Prelude.{Option, Some, None}
 use lib.Dec.{leb}
 use lib.ListN.{set, length-set}
 use lib.Seq.{take-suc-set, drop-drop}
@@ -38,7 +38,7 @@ loop-i-preserved c =
     let l = c.loop-i in
     let v = c.in-Is.value in
     let r = c.first_length-at.result in
-    let read : first_number (drop l.at s) ≡ some v = sym (first_at s l.at c.first_number-first.ensures) ∙ ap value_of c.in-Is.is in
+    let read : first_number (drop l.at s) ≡ Some v = sym (first_at s l.at c.first_number-first.ensures) ∙ ap value_of c.in-Is.is in
     let rest : after_number (drop l.at s) ≡ drop (l.at + r) s = sym (rw (whole_tail s l.at) at c.first_length-at.ensures.bytes_value) ∙ drop-drop r l.at s in
     let kept : take (l.i + 1) (set l.numbers l.i v) ≡ take l.i l.numbers ++ (v ∷ []) = rw (add-one l.i) (take-suc-set l.numbers l.i v (omega (arith, l.invariant.2))) in
     let more = left n l.i (drop l.at s) (take l.i l.numbers) c.loop-i-test.true l.invariant.3 ∙ arguments_more (n - (l.i + 1)) (drop l.at s) v (take l.i l.numbers) read in
@@ -50,7 +50,7 @@ returns-in-Not c =
     let s = c.args.line.now in
     let n = c.args.n in
     let l = c.loop-i in
-    let none_read : first_number (drop l.at s) ≡ none = sym (first_at s l.at c.first_number-first.ensures) ∙ ap value_of c.in-Not.is in
+    let none_read : first_number (drop l.at s) ≡ None = sym (first_at s l.at c.first_number-first.ensures) ∙ ap value_of c.in-Not.is in
     sym (ap placed (left n l.i (drop l.at s) (take l.i l.numbers) c.loop-i-test.true l.invariant.3 ∙ arguments_stop (n - (l.i + 1)) (drop l.at s) (take l.i l.numbers) none_read))
 
 pub returns : goal.returns
@@ -58,6 +58,6 @@ unfolding numbers_of
 returns c =
     let l = c.loop-i in
     let a = c.args in
-    let none : a.n - l.i ≡ 0 = omega arith in
-    let end = rw none at l.invariant.3 ∙ arguments_end a.line.now l.at (take l.i l.numbers) in
+    let None : a.n - l.i ≡ 0 = omega arith in
+    let end = rw None at l.invariant.3 ∙ arguments_end a.line.now l.at (take l.i l.numbers) in
     rw (at_front l.i l.numbers l.invariant.4) (sym (ap placed end ∙ placed_only (leb (length a.line.now) l.at) (take l.i l.numbers)))

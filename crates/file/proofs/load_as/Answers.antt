@@ -6,8 +6,7 @@ use native.Mathlib.Omega.{arith}
 use lib.ListN.{take, drop, length-drop, length-replicate}
 use lib.Seq.{take_all, take-add}
 use Rattle.rules.specs.File.{refused, found, read_record, read_records, decode_as}
-use Rattle.rules.specs.Format.{slot_of, file_records}
-use Rattle.rules.specs.declared.Slot.{Slot}
+use Rattle.rules.specs.Format.{slot_of, file_records, Slot}
 use Rattle.grammar.specs.Places.{start_of}
 use Rattle.grammar.proofs.Slots.{ready, record_room, start_next}
 use Rattle.file.proofs.Refusals.{loaded_found, loaded_refused}

@@ -8,9 +8,8 @@ use lib.Dec.{ltb, eqb}
 use Rattle.base.specs.Choice.{pick}
 use Rattle.base.proofs.Choice.{picks, gt_eqb}
 use Rattle.rules.specs.District.{strategies_of, length_at, width_at, bars_at, ratings_at, leader_at}
-use Rattle.rules.specs.Format.{number, rating_field, leader_field, segment_field}
+use Rattle.rules.specs.Format.{number, rating_field, leader_field, segment_field, Slot}
 use Rattle.rules.specs.declared.Field.{Field}
-use Rattle.rules.specs.declared.Slot.{Slot}
 use Rattle.grammar.proofs.segment_field.Goals as goal
 
 -- the numbers from the bars on

@@ -4,8 +4,7 @@ use lib.Seq.{length-take-le}
 use Rattle.base.specs.Text.{text}
 use Rattle.rules.specs.Desks.{answer_to, desk_after}
 use Rattle.rules.specs.Lists.{ExportTo}
-use Rattle.rules.specs.declared.Answer.{Answer}
-use Rattle.rules.specs.declared.Answer.TheVariants.{Accepted}
+use Rattle.rules.specs.Answers.{Answer, Accepted}
 use Rattle.station.specs.Kept.{Lends}
 use Rattle.station.proofs.Replies.{lent_outcome}
 use Rattle.panel.specs.Console.{written, unwritten}

@@ -5,7 +5,7 @@ use native.Mathlib.Omega.{arith}
 use mathlib.Core.List.{[]}
 use lib.ListN.{drop}
 use Rattle.rules.specs.Desks.{fresh_desk}
-use Rattle.rules.specs.declared.Answer.TheVariants.{Accepted}
+use Rattle.rules.specs.Answers.{Accepted}
 use Rattle.script.specs.Script.{entries_in, entries_of, answered_after, last_office}
 use Rattle.script.proofs.Turns.{ends, queue_room, stops, turned}
 use Rattle.script.proofs.run.Goals as goal

@@ -1,8 +1,9 @@
 -- `station::beside` meets its contract.
 use mathlib.Core.Path.{◌≡◌, refl}
-use Rattle.rules.specs.Stations.{First, other}
+use Rattle.rules.specs.Stations.{other}
 use Rattle.station.specs.Kept.{office_in}
 use Rattle.station.proofs.Numbers.{for_named, for_second}
+use Rattle.rules.specs.declared.Which.TheVariants.{First}
 use Rattle.station.proofs.beside.Goals as goal
 
 pub returns-then-n-eq-FIRST : goal.returns-then-n-eq-FIRST

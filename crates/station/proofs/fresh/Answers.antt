@@ -1,5 +1,5 @@
 -- `station::fresh` meets its contract.
-use Rattle.rules.specs.Stations.{First, own, fresh_both}
+use Rattle.rules.specs.Stations.{own, fresh_both}
 use Rattle.office.specs.Kept.{Keeps}
 use Rattle.stations.proofs.EachOffice.{each_office}
 use Rattle.stations.proofs.EveryStation.{every_station}
@@ -9,6 +9,7 @@ use Rattle.stations.proofs.LeavingOut.{leaving_out}
 use Rattle.stations.proofs.Lists.{each}
 use Rattle.stations.proofs.TablesAgree.{tables_agree}
 use Rattle.station.specs.Kept.{office_in}
+use Rattle.rules.specs.declared.Which.TheVariants.{First}
 use Rattle.station.proofs.fresh.Goals as goal
 
 pub returns : goal.returns

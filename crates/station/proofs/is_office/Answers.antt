@@ -2,14 +2,14 @@
 use borrow.Author.Tests.{eq-eqb, ne_eqb}
 use mathlib.Core.Bool.{Bool, true, false}
 use mathlib.Core.Path.{◌≡◌, refl}
-use mathlib.Core.Option.{none, some}
+use Rattle.std.specs.Prelude.{None, Some}
 use lib.Dec.{eqb}
 use Rattle.base.specs.Choice.{pick}
-use Rattle.rules.specs.Stations.{Second}
 use Rattle.station.specs.Kept.{is_some, is_office}
+use Rattle.rules.specs.declared.Which.TheVariants.{Second}
 use Rattle.station.proofs.is_office.Goals as goal
 
-second : (t : Bool) → t ≡ is_some (pick t (some Second) none)
+second : (t : Bool) → t ≡ is_some (pick t (Some Second) None)
 second true = refl
 second false = refl
 

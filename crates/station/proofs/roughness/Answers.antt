@@ -1,7 +1,6 @@
 -- `station::roughness` meets its contract.
-use Rattle.rules.specs.Answers.{no_such_office}
+use Rattle.rules.specs.Answers.{no_such_office, Refused}
 use Rattle.rules.specs.Stations.{own}
-use Rattle.rules.specs.declared.Roughness.TheVariants.{Refused}
 use Rattle.station.specs.Questions.{roughness_for}
 use Rattle.station.proofs.Numbers.{named_by, nobody_by, nobody_named, named_some}
 use Rattle.station.proofs.Questions.{roughness_settled}

@@ -1,7 +1,6 @@
 -- `station::show` meets its contract.
-use Rattle.rules.specs.Answers.{no_such_office}
+use Rattle.rules.specs.Answers.{no_such_office, Accepted, Refused}
 use Rattle.rules.specs.Calls.{show_of}
-use Rattle.rules.specs.declared.Answer.TheVariants.{Accepted, Refused}
 use Rattle.station.specs.Questions.{shown_for}
 use Rattle.station.proofs.Numbers.{named_by, nobody_by, nobody_named, named_some, unit_named}
 use Rattle.station.proofs.Questions.{show_settled}

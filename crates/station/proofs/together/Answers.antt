@@ -1,10 +1,12 @@
 -- `station::together` meets its contract.
 use mathlib.Core.Path.{◌≡◌, refl}
-use Rattle.rules.specs.Stations.{Which, First, other}
+use Rattle.rules.specs.Stations.{other}
 use Rattle.office.specs.declared.Office.{Office}
 use Rattle.station.specs.declared.Station.{Station}
 use Rattle.station.specs.Kept.{office_in}
 use Rattle.station.proofs.Numbers.{for_named, for_second}
+use Rattle.rules.specs.declared.Which.{Which}
+use Rattle.rules.specs.declared.Which.TheVariants.{First}
 use Rattle.station.proofs.together.Goals as goal
 
 abbrev Stand : Station → Office → Office → Which → Type 0

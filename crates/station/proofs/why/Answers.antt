@@ -1,6 +1,5 @@
 -- `station::why` meets its contract.
-use Rattle.rules.specs.Answers.{no_such_office}
-use Rattle.rules.specs.declared.Why.TheVariants.{Refused}
+use Rattle.rules.specs.Answers.{no_such_office, Refused}
 use Rattle.station.specs.Questions.{why_for}
 use Rattle.station.proofs.Numbers.{named_by, nobody_by, nobody_named, named_some, unit_named}
 use Rattle.station.proofs.Questions.{why_settled}

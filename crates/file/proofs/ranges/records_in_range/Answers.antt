@@ -5,8 +5,7 @@ use mathlib.Core.Bool.{Bool, true, false, ◌&&◌}
 use native.Mathlib.Omega.{arith}
 use lib.ListN.{drop}
 use Rattle.rules.specs.File.{records_in_range}
-use Rattle.rules.specs.declared.Slot.{Slot}
-use Rattle.rules.specs.Format.{leader_form, file_records}
+use Rattle.rules.specs.Format.{Slot, leader_form, file_records}
 use Rattle.grammar.proofs.Slots.{record_room, start_next}
 use Rattle.file.proofs.Steps.{ranges_step}
 use Rattle.file.proofs.ranges.records_in_range.Goals as goal

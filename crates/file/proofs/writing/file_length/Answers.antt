@@ -5,8 +5,7 @@ use native.Mathlib.Nat.{zero-add}
 use native.Mathlib.Omega.{arith}
 use lib.ListN.{length, length-append}
 use Rattle.rules.specs.File.{record_bytes, records_bytes, encode_as}
-use Rattle.rules.specs.declared.Slot.{Slot}
-use Rattle.rules.specs.Format.{file_records}
+use Rattle.rules.specs.Format.{Slot, file_records}
 use Rattle.grammar.proofs.Slots.{few_places, start_next, record_room}
 use Rattle.file.proofs.Steps.{records_step, length_records}
 use Rattle.file.proofs.writing.file_length.Goals as goal

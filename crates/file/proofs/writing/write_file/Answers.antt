@@ -6,8 +6,7 @@ use native.Mathlib.Omega.{arith}
 use lib.ListN.{length, length-drop}
 use Rattle.base.proofs.Buffers.{Written, whole_tail, tail_room, written_none, written_more, written_all}
 use Rattle.rules.specs.File.{record_bytes, records_bytes, encode_as}
-use Rattle.rules.specs.declared.Slot.{Slot}
-use Rattle.rules.specs.Format.{file_records}
+use Rattle.rules.specs.Format.{Slot, file_records}
 use Rattle.grammar.proofs.Slots.{few_places, record_room, start_next}
 use Rattle.file.proofs.Steps.{records_step}
 use Rattle.file.proofs.writing.write_file.Goals as goal
