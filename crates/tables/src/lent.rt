@@ -1,0 +1,95 @@
+// The parts of a table, each a lent array with what is known of it.
+ghost use Rattle.std.specs.Prelude.{◌≡◌, ℕ, ◌^◌, ◌<◌, ◌≤◌, List, length};
+ghost use Rattle.rules.specs.District.{most_segments, most_resources};
+ghost use Rattle.rules.specs.Phases.{strategy_at, total, led};
+ghost use Rattle.tables.specs.Arrays.{benefit_at, usage_at, tables, leader_in, Leaders, Benefits, Uses, Limits, Bounded, Cell, Chosen};
+
+use crate::{COLUMNS, Size};
+use rules::places::MOST_RESOURCES;
+
+// The leader of each segment, 0 for none.
+#[derive(Clone, Copy)]
+pub struct LeaderList<'a> {
+    pub entries: &'a [usize],
+    pub ghost held: { Leaders entries.now },
+}
+
+// The benefit of each strategy on each segment.
+#[derive(Clone, Copy)]
+pub struct BenefitTable<'a> {
+    pub entries: &'a [u64],
+    pub ghost held: { Benefits entries.now },
+}
+
+// What each strategy on each segment uses of each resource.
+#[derive(Clone, Copy)]
+pub struct UsageTable<'a> {
+    pub entries: &'a [u64],
+    pub ghost held: { Uses entries.now },
+}
+
+// The limit of each resource.
+#[derive(Clone, Copy)]
+pub struct LimitList<'a> {
+    pub entries: &'a [u64],
+    pub ghost held: { Limits entries.now },
+}
+
+impl LeaderList<'_> {
+    // Segment i may have something: it has no leader, or one that has something.
+    pub fn is_led(self, choice: &[usize], i: usize) -> bool
+        requires choice { length choice.now ≡ most_segments }
+        requires le_i { (1 ≤ i) × (i ≤ most_segments) }
+        ensures { result ≡ led (leader_in self.entry.entries.now) (strategy_at choice.now) i }
+    {
+        let leader = self.entries[i - 1];
+        if leader == 0 {
+            return true;
+        }
+        choice[leader - 1] > 0
+    }
+}
+
+impl BenefitTable<'_> {
+    // The benefit of strategy j on segment i; 0 for nothing.
+    pub fn at(self, i: usize, j: usize) -> u64
+        requires { Cell i j }
+        ensures value { result ≡ benefit_at self.entry.entries.now i j }
+        ensures small { result < 2 ^ 40 }
+    {
+        self.entries[COLUMNS * (i - 1) + j]
+    }
+
+    // The benefit of the strategy that segment i has.
+    pub fn chosen(self, choice: &[usize], i: usize) -> u64
+        requires choice { length choice.now ≡ most_segments }
+        requires cell { Cell i (strategy_at choice.now i) }
+        ensures value { result ≡ benefit_at self.entry.entries.now i (strategy_at choice.now i) }
+        ensures small { result < 2 ^ 40 }
+    {
+        self.at(i, choice[i - 1])
+    }
+
+    // The total benefit of a programme.
+    pub fn total(self, z: Size, choice: &[usize]) -> u64
+        requires { Bounded z × Chosen z choice.now }
+        ensures { (u l : List ℕ) → result ≡ total (tables z self.entry.entries.now u l) choice.now }
+    {
+        let mut so_far: u64 = 0;
+        for i in 0..z.segments {
+            so_far += self.chosen(choice, i + 1);
+        }
+        so_far
+    }
+}
+
+impl UsageTable<'_> {
+    // What strategy j on segment i uses of resource r; 0 for nothing.
+    pub fn at(self, i: usize, j: usize, r: usize) -> u64
+        requires { Cell i j × (1 ≤ r) × (r ≤ most_resources) }
+        ensures value { result ≡ usage_at self.entry.entries.now i j r }
+        ensures small { result < 2 ^ 41 }
+    {
+        self.entries[MOST_RESOURCES * (COLUMNS * (i - 1) + j) + (r - 1)]
+    }
+}
