@@ -4,8 +4,8 @@ use mathlib.Core.Path.{◌≡◌, refl, ap, sym, ◌∙◌}
 use mathlib.Core.Bool.{Bool, true, not}
 use mathlib.Core.List.{List, [], ◌∷◌, map}
 use native.Mathlib.Omega.{arith}
-use borrow.Author.Tests.{eqb-false, ltb-true, not-true}
-use lib.Dec.{eqb, ltb}
+use borrow.Author.Tests.{eqb-false, not-true}
+use lib.Dec.{eqb}
 use lib.ListN.{length, get_or}
 use Rattle.base.specs.Bytes.{number_of}
 use Rattle.base.specs.Over.{all}
@@ -47,13 +47,14 @@ mapped f (x ∷ xs) zero a b l = refl
 mapped f (x ∷ xs) (suc n) a b l = mapped f xs n a b (omega arith)
 
 -- a block of Table 1 is the stored one that the map names
-pub stored_block :
+stored_block :
     (blocks : List (List (List ℕ))) → table_from blocks ≡ deduct_points → (n : ℕ) → n < 12
     → get_or blocks (get_or stored_as n 0) [] ≡ get_or deduct_points n []
 unfolding stored_as table_from
 stored_block blocks e n l = sym (mapped (λ k. get_or blocks k []) stored_as n 0 [] l) ∙ ap (λ (t : List (List (List ℕ))). get_or t n []) e
 
--- the map names seven blocks
-pub stored_lt : (n : ℕ) → n < 12 → get_or stored_as n 0 < 7
-unfolding stored_as all
-stored_lt n l = ltb-true _ 7 (below_at 12 (λ k. ltb (get_or stored_as k 0) 7) refl n l)
+-- so an entry of the one is the entry of the other
+pub stored_entry :
+    (blocks : List (List (List ℕ))) → table_from blocks ≡ deduct_points → (n at row column : ℕ) → n < 12 → at ≡ get_or stored_as n 0
+    → get_or (get_or (get_or blocks at []) row []) column 0 ≡ get_or (get_or (get_or deduct_points n []) row []) column 0
+stored_entry blocks e n at row column l a = rw (a, stored_block blocks e n l)
