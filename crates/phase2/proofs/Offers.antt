@@ -1,9 +1,9 @@
 -- Offers and pick-ups over arrays.
 use Prim.Native.Nat.{ℕ, zero, suc, ◌+◌, ◌≤◌, ◌<◌}
-use mathlib.Core.Path.{◌≡◌, refl, ap, sym, ◌∙◌}
+use mathlib.Core.Path.{◌≡◌, refl, ap, sym, subst, ◌∙◌}
 use mathlib.Core.Bool.{Bool, true, false, ◌&&◌, and_assoc, true≢false}
 use mathlib.Core.List.{List}
-use Rattle.std.specs.Prelude.{None, Some}
+use Rattle.std.specs.Prelude.{Option, None, Some, MatchOption}
 use native.Mathlib.Omega.{arith}
 use borrow.Author.Tests.{lt-ltb, ltb-true}
 use lib.Dec.{ltb, eqb}
@@ -16,43 +16,79 @@ use Rattle.laws.proofs.PickUps.{offer_fits, vacancies, vacancies_le, pick_up_fal
 use Rattle.tables.specs.declared.Size.{Size}
 use Rattle.tables.specs.Arrays.{benefit_at, tables, leader_in, Running}
 use Rattle.tables.proofs.Arrays.{benefit_nothing}
+use Rattle.phase2.specs.declared.Offer.{Offer}
+use Rattle.phase2.specs.Offers.{IsOffer, worth}
+
+-- the numbers of an offer; without one 0
+abbrev strategy_of : Option Offer → ℕ
+strategy_of None = 0
+strategy_of (Some o) = o.strategy
+
+abbrev segment_of : Option Offer → ℕ
+segment_of None = 0
+segment_of (Some o) = o.segment
 
 module _ (z : Size) (b u l c : List ℕ) where
   abbrev t : Table
   t = tables z b u l
 
-  -- ---- the offer for segment i: strategy n + 1 has the benefit `value`
+  -- ---- the offer for segment i, of the first n strategies
+
+  -- an offer held is of segment i, and not of nothing
+  abbrev OfSegment : ℕ → Option Offer → Type 0
+  OfSegment i None = Unit {0}
+  OfSegment i (Some o) = (o.segment ≡ i) × (1 ≤ o.strategy)
+
+  abbrev pub Held : ℕ → ℕ → Option Offer → Type 0
+  Held i n best = Leads (fitting t c i) (benefit_at b i) n (strategy_of best) (worth best) × OfSegment i best
 
   module _ (i : ℕ) where
-    pub offer_none : Leads (fitting t c i) (benefit_at b i) 0 0 0
+    pub offer_none : Held i 0 None
     unfolding fitting is_candidate
-    offer_none =
-        leads_none (fitting t c i) (benefit_at b i) (benefit_nothing b i)
-        (λ k e. ltb-true 0 (benefit_at b i k) (and_both (ltb 0 (benefit_at b i k)) (within t (give c i k)) e).0)
+    offer_none = (
+      leads_none (fitting t c i) (benefit_at b i) (benefit_nothing b i)
+          (λ k e. ltb-true 0 (benefit_at b i k) (and_both (ltb 0 (benefit_at b i k)) (within t (give c i k)) e).0),
+      tt,
+    )
 
-    module _ (n : ℕ) {value top most : ℕ} (is : value ≡ benefit_at b i (n + 1)) (leads : Leads (fitting t c i) (benefit_at b i) n top most) where
-      pub offer_taken : most < value → within t (give c i (n + 1)) ≡ true → Leads (fitting t c i) (benefit_at b i) (n + 1) (n + 1) value
+    -- strategy j, the next, has the benefit `value`
+    module _ (n j m : ℕ) {value : ℕ} (best : Option Offer) (next : j ≡ n + 1) (up : m ≡ j) (is : value ≡ benefit_at b i j) (held : Held i n best) where
+      is_next : value ≡ benefit_at b i (n + 1)
+      is_next = rw next at is
+
+      pub offer_taken : worth best < value → within t (give c i j) ≡ true → Held i m (Some (record { segment = i; strategy = j; benefit = value }))
       unfolding fitting is_candidate
-      offer_taken h w = leads_taken (fitting t c i) (benefit_at b i) n top most leads is (rw (lt-ltb 0 (benefit_at b i (n + 1)) (omega arith)) w) h
+      offer_taken h w =
+          rw (up, next)
+          (leads_taken (fitting t c i) (benefit_at b i) n (strategy_of best) (worth best) held.0 is_next (rw (lt-ltb 0 (benefit_at b i (n + 1)) (omega (arith, is_next))) (rw next at w)) h, (refl, omega arith))
 
-      pub offer_kept : value ≤ most → Leads (fitting t c i) (benefit_at b i) (n + 1) top most
-      offer_kept h = leads_kept (fitting t c i) (benefit_at b i) n top most leads (λ e. omega arith)
+      pub offer_kept : value ≤ worth best → Held i m best
+      offer_kept h = rw (up, next) (leads_kept (fitting t c i) (benefit_at b i) n (strategy_of best) (worth best) held.0 (λ e. omega (arith, is_next)), held.1)
 
-      pub offer_passed : within t (give c i (n + 1)) ≡ false → Leads (fitting t c i) (benefit_at b i) (n + 1) top most
+      pub offer_passed : within t (give c i j) ≡ false → Held i m best
       unfolding fitting
       offer_passed w =
-          leads_kept (fitting t c i) (benefit_at b i) n top most leads
-          (λ e. absurd (true≢false (sym (and_both (is_candidate t i (n + 1)) (within t (give c i (n + 1))) e).1 ∙ w)))
+          rw (up, next) (
+            leads_kept (fitting t c i) (benefit_at b i) n (strategy_of best) (worth best) held.0
+                (λ e. absurd (true≢false (sym (and_both (is_candidate t i (n + 1)) (within t (give c i (n + 1))) e).1 ∙ rw next at w))),
+            held.1,
+          )
 
-    pub offer_end : {n top most : ℕ} → Leads (fitting t c i) (benefit_at b i) n top most → n ≡ z.strategies → top ≡ offer t c i
+    offer_end : {n top most : ℕ} → Leads (fitting t c i) (benefit_at b i) n top most → n ≡ z.strategies → top ≡ offer t c i
     unfolding offer greater
     offer_end {n} {top} {most} leads e = leads_end (fitting t c i) (benefit_at b i) n top most leads e
+
+    pub offer_found : (n : ℕ) (best : Option Offer) → Held i n best → n ≡ z.strategies → MatchOption best (offer t c i ≡ 0) (IsOffer t c i)
+    unfolding offer_benefit
+    offer_found n None held e = sym (offer_end held.0 e)
+    offer_found n (Some o) held e =
+        record { segment = held.1.0; strategy = offer_end held.0 e; some = held.1.1; benefit = held.0.number ∙ ap (benefit_at b i) (offer_end held.0 e) }
 
   pub offer_le : (i : ℕ) → offer t c i ≤ z.strategies
   unfolding offer
   offer_le i = best_le z.strategies (fitting t c i) (greater t i)
 
-  -- ---- the segment to pick up: n + 1 has the offer j of benefit `value`
+  -- ---- the offer to pick up, of the first n segments
 
   module _ (leader : ℕ → ℕ) where
     -- segment i has nothing, and may have something
@@ -63,58 +99,85 @@ module _ (z : Size) (b u l c : List ℕ) where
     unfolding vacant
     vacant_is i = sym (and_assoc (eqb (strategy_at c i) 0) (led leader (strategy_at c) i) (ltb 0 (offer t c i)))
 
-    abbrev pub Best : ℕ → ℕ → ℕ → Type 0
-    Best = Leads (vacant t leader c) (offer_benefit t c)
+    -- an offer held is its segment's
+    abbrev Offered : Option Offer → Type 0
+    Offered None = Unit {0}
+    Offered (Some o) = (1 ≤ o.segment) × IsOffer t c o.segment o
 
-    pub best_none : Best 0 0 0
+    abbrev pub Best : ℕ → Option Offer → Type 0
+    Best n best = Leads (vacant t leader c) (offer_benefit t c) n (segment_of best) (worth best) × Offered best
+
+    pub best_none : Best 0 None
     unfolding offer_benefit benefit_at
-    best_none =
-        leads_none (vacant t leader c) (offer_benefit t c) refl
-        (λ k e. (offer_fits t c k (ltb-true 0 (offer t c k) (and_both (free k) (ltb 0 (offer t c k)) (sym (vacant_is k) ∙ e)).1)).0)
+    best_none = (
+      leads_none (vacant t leader c) (offer_benefit t c) refl
+          (λ k e. (offer_fits t c k (ltb-true 0 (offer t c k) (and_both (free k) (ltb 0 (offer t c k)) (sym (vacant_is k) ∙ e)).1)).0),
+      tt,
+    )
 
-    module _ (n : ℕ) {top most : ℕ} (leads : Best n top most) {ok : Bool} (tested : ok ≡ free (n + 1)) where
-      module _ {j value : ℕ} (offered : j ≡ offer t c (n + 1)) (is : value ≡ benefit_at b (n + 1) j) where
-        worth : value ≡ offer_benefit t c (n + 1)
-        unfolding offer_benefit
-        worth = is ∙ ap (benefit_at b (n + 1)) offered
+    -- what an offer for segment i is worth
+    worth_is : (i : ℕ) (r : Option Offer) → MatchOption r (offer t c i ≡ 0) (IsOffer t c i) → worth r ≡ offer_benefit t c i
+    unfolding offer_benefit
+    worth_is i None e = sym (ap (benefit_at b i) e ∙ benefit_nothing b i)
+    worth_is i (Some o) is = is.benefit
 
-        pub best_taken : ok ≡ true → most < value → Best (n + 1) (n + 1) value
-        unfolding offer_benefit
-        best_taken e h =
-            let Some : 1 ≤ offer t c (n + 1) = positive (offer t c (n + 1)) refl in
-            let passes = vacant_is (n + 1) ∙ both (free (n + 1)) (ltb 0 (offer t c (n + 1))) (sym tested ∙ e) (lt-ltb 0 (offer t c (n + 1)) Some) in
-            leads_taken (vacant t leader c) (offer_benefit t c) n top most leads worth passes h
-          where
-            positive : (o : ℕ) → offer t c (n + 1) ≡ o → 1 ≤ o
-            positive zero e = absurd (omega (arith, h, worth, ap (benefit_at b (n + 1)) e, benefit_nothing b (n + 1)))
-            positive (suc o) e = omega arith
+    module _ (n i m : ℕ) (best : Option Offer) (next : i ≡ n + 1) (up : m ≡ i) (held : Best n best) {ok : Bool} (tested : ok ≡ free i) where
+      pub best_taken : (r : Option Offer) → MatchOption r (offer t c i ≡ 0) (IsOffer t c i) → ok ≡ true → worth best < worth r → Best m r
+      best_taken None is e h = absurd (omega arith)
+      best_taken (Some o) is e h =
+          let passes = vacant_is i ∙ both (free i) (ltb 0 (offer t c i)) (sym tested ∙ e) (lt-ltb 0 (offer t c i) (omega (arith, is.strategy, is.some))) in
+          let seg : o.segment ≡ n + 1 = is.segment ∙ next in
+          let worth₁ : o.benefit ≡ offer_benefit t c (n + 1) = rw next at is.benefit in (
+            rw (up, next, seg) (leads_taken (vacant t leader c) (offer_benefit t c) n (segment_of best) (worth best) held.0 worth₁ (rw next at passes) h),
+            (omega arith, subst (λ (k : ℕ). IsOffer t c k o) (sym is.segment) is),
+          )
 
-        pub best_kept : value ≤ most → Best (n + 1) top most
-        best_kept h = leads_kept (vacant t leader c) (offer_benefit t c) n top most leads (λ e. omega (arith, worth))
+      pub best_kept : (r : Option Offer) → MatchOption r (offer t c i ≡ 0) (IsOffer t c i) → worth r ≤ worth best → Best m best
+      best_kept r is h =
+          rw (up, next) (leads_kept (vacant t leader c) (offer_benefit t c) n (segment_of best) (worth best) held.0 (λ e. omega (arith, rw next at (worth_is i r is))), held.1)
 
-      pub best_passed : ok ≡ false → Best (n + 1) top most
+      pub best_passed : ok ≡ false → Best m best
       best_passed no-offer =
-          leads_kept (vacant t leader c) (offer_benefit t c) n top most leads
-          (λ e. absurd (true≢false (sym (and_both (free (n + 1)) (ltb 0 (offer t c (n + 1))) (sym (vacant_is (n + 1)) ∙ e)).0 ∙ sym tested ∙ no-offer)))
+          let none : free (n + 1) ≡ false = rw next at (sym tested ∙ no-offer) in
+          rw (up, next) (
+            leads_kept (vacant t leader c) (offer_benefit t c) n (segment_of best) (worth best) held.0
+                (λ e. absurd (true≢false (sym (and_both (free (n + 1)) (ltb 0 (offer t c (n + 1))) (sym (vacant_is (n + 1)) ∙ e)).0 ∙ none))),
+            held.1,
+          )
 
-    pub best_end : {n top most : ℕ} → Best n top most → n ≡ z.segments → top ≡ best_offer t leader c
+    best_end : {n top most : ℕ} → Leads (vacant t leader c) (offer_benefit t c) n top most → n ≡ z.segments → top ≡ best_offer t leader c
     unfolding best_offer greater_offer
     best_end {n} {top} {most} leads e = leads_end (vacant t leader c) (offer_benefit t c) n top most leads e
 
-    pub best_le_segments : best_offer t leader c ≤ z.segments
+    -- what the search found
+    abbrev pub Found : Option Offer → Type 0
+    Found r = MatchOption r (best_offer t leader c ≡ 0) (λ o. (1 ≤ best_offer t leader c) × IsOffer t c (best_offer t leader c) o)
+
+    pub best_found : (n : ℕ) (best : Option Offer) → Best n best → n ≡ z.segments → Found best
+    best_found n None held e = sym (best_end held.0 e)
+    best_found n (Some o) held e = subst (λ (i : ℕ). (1 ≤ i) × IsOffer t c i o) (best_end held.0 e) held.1
+
+    best_le_segments : best_offer t leader c ≤ z.segments
     unfolding best_offer
     best_le_segments = best_le z.segments (vacant t leader c) (greater_offer t c)
 
     -- ---- a pick-up
 
-    pub pick_none : {i : ℕ} → i ≡ best_offer t leader c → i ≡ 0 → pick_up t leader c ≡ None
+    pub pick_none : best_offer t leader c ≡ 0 → pick_up t leader c ≡ None
     unfolding pick_up picked_up
-    pick_none e q = let z : best_offer t leader c ≡ 0 = sym e ∙ q in rw z
+    pick_none e = rw e
 
-    pick_some : (i j : ℕ) → i ≡ best_offer t leader c → (i ≡ 0 → ⊥) → j ≡ offer t c i → pick_up t leader c ≡ Some (give c i j)
-    unfolding pick_up picked_up
-    pick_some zero j e ne q = absurd (ne refl)
-    pick_some (suc i) j e ne q = rw (← e, q)
+    module _ {o : Offer} (found : Found (Some o)) where
+      pub pick_inside : (1 ≤ o.segment) × (o.segment ≤ z.segments) × (o.strategy ≤ z.strategies)
+      pick_inside = (omega (arith, found.0, found.1.segment), omega (arith, found.1.segment, best_le_segments), omega (arith, found.1.strategy, offer_le (best_offer t leader c)))
+
+      pub pick_some : pick_up t leader c ≡ Some (give c o.segment o.strategy)
+      unfolding pick_up picked_up
+      pick_some = rw (found.1.segment, found.1.strategy) (picked (best_offer t leader c) found.0)
+        where
+          picked : (i : ℕ) → 1 ≤ i → picked_up t c i ≡ Some (give c i (offer t c i))
+          picked zero h = absurd (omega arith)
+          picked (suc i) h = refl
 
 -- after m pick-ups there are m segments less that have nothing
 pub record Picking (z : Size) (ls b u l start c sums : List ℕ) (m : ℕ) : Type 0 where
@@ -138,12 +201,12 @@ module _ {z : Size} {ls b u l start c sums : List ℕ} {m : ℕ} (here : Picking
       let done = reached_end (pick_up (tables z b u l) (leader_in ls)) z.segments start c m here.reached e in
       (sym done.0, sym done.1)
 
-  -- segment i gets strategy j
+  -- an offer found is taken
   pub picking_next :
-      {i j : ℕ} {e sums₂ : List ℕ} → i ≡ best_offer (tables z b u l) (leader_in ls) c → (i ≡ 0 → ⊥) → j ≡ offer (tables z b u l) c i → e ≡ give c i j
+      {o : Offer} {e sums₂ : List ℕ} → Found z b u l c (leader_in ls) (Some o) → e ≡ give c o.segment o.strategy
       → Running z u e sums₂ → (m < z.segments) × Picking z ls b u l start e sums₂ (m + 1)
-  picking_next {i} {j} {e} best some-i offered given running =
-      let next : pick_up (tables z b u l) (leader_in ls) c ≡ Some e = pick_some z b u l c (leader_in ls) i j best some-i offered ∙ ap Some (sym given) in
+  picking_next {o} {e} found given running =
+      let next : pick_up (tables z b u l) (leader_in ls) c ≡ Some e = pick_some z b u l c (leader_in ls) found ∙ ap Some (sym given) in
       let fewer = pick_up_falls (tables z b u l) (leader_in ls) c e next (omega (arith, here.running.bounded.segments, here.running.chosen.places)) in
       let less : m < z.segments = omega (arith, here.left) in (
         less,

@@ -1,109 +1,89 @@
 // Phase 2: segments with nothing are picked up, the greatest benefit that fits first, until none fits; none before its leader.
 #![tactic(auto)]
 
-ghost use Rattle.std.specs.Prelude.{◌≡◌, ◌&&◌, ◌≤◌, eqb, length};
+ghost use Rattle.std.specs.Prelude.{◌≡◌, ◌&&◌, ◌≤◌, eqb, length, MatchOption};
 ghost use Rattle.rules.specs.District.{most_segments};
-ghost use Rattle.rules.specs.Table.{Table};
 ghost use Rattle.rules.specs.Phases.{strategy_at, led, offer, best_offer, phase2};
-ghost use Rattle.tables.specs.Arrays.{tables, leader_in, Leaders, Benefits, Limits, Running};
+ghost use Rattle.tables.specs.Arrays.{leader_in};
+ghost use Rattle.tables.specs.Views.{table_in, leaders_in, Drafted};
+ghost use Rattle.phase2.specs.Offers.{IsOffer, worth};
 
-use tables::Size;
+use tables::{Draft, LeaderList, TableView};
 
-// The best that segment i could take, or 0.
-fn offer_of(
-    z: Size,
-    benefits: &[u64],
-    uses: &[u64],
-    limits: &[u64],
-    choice: &[usize],
-    sums: &[u64],
-    i: usize,
-) -> usize
-    requires benefits { Benefits benefits.now × Limits limits.now × Running z uses.now choice.now sums.now }
-    requires le_i { (1 ≤ i) × (i ≤ z.segments) }
-    ensures { let t = tables z benefits.now uses.now limits.now in result ≡ offer t choice.now i }
+// What a segment could take, and its benefit.
+#[derive(Clone, Copy)]
+struct Offer {
+    segment: usize,
+    strategy: usize,
+    benefit: u64,
+}
+
+// The benefit of an offer; without one 0.
+fn worth(offer: Option<Offer>) -> u64
+    ensures { result ≡ worth offer }
 {
-    let mut top: usize = 0;
-    let mut most: u64 = 0;
-    let mut j: usize = 0;
-    while j < z.strategies {
-        let value = tables::benefit(benefits, i, j + 1);
-        if most < value {
-            if tables::fits_one(z, uses, limits, choice, sums, i, j + 1) {
-                top = j + 1;
-                most = value;
-            }
+    offer.map_or(0, |o| o.benefit)
+}
+
+// The best that segment i could take. A loop, since max_by_key would test the limits of each strategy; its end is n + 1, since
+// 1..=n has a second exit, where the proof stands once more.
+fn offer_of(t: TableView<'_>, draft: &Draft, i: usize) -> Option<Offer>
+    requires drafted { Drafted t draft.now }
+    requires le_i { (1 ≤ i) × (i ≤ t.size.segments) }
+    ensures { let c = draft.now.choice in MatchOption result (offer (table_in t.entry) c i ≡ 0) (IsOffer (table_in t.entry) c i) }
+{
+    let mut best: Option<Offer> = None;
+    for j in 1..t.size.strategies + 1 {
+        let benefit = t.benefits.at(i, j);
+        if worth(best) < benefit && draft.fits(t.size, t.uses, t.limits, i, j) {
+            best = Some(Offer {
+                segment: i,
+                strategy: j,
+                benefit,
+            });
         }
-        j += 1;
     }
-    top
+    best
 }
 
 // Segment i has nothing, and may have something.
-fn is_free(leaders: &[usize], choice: &[usize], i: usize) -> bool
-    requires leaders { Leaders leaders.now × (length choice.now ≡ most_segments) }
+fn is_free(leaders: LeaderList<'_>, choice: &[usize], i: usize) -> bool
+    requires choice { length choice.now ≡ most_segments }
     requires le_i { (1 ≤ i) × (i ≤ most_segments) }
-    ensures { result ≡ (eqb (strategy_at choice.now i) 0 && led (leader_in leaders.now) (strategy_at choice.now) i) }
+    ensures { result ≡ (eqb (strategy_at choice.now i) 0 && led (leader_in leaders.entry.entries.now) (strategy_at choice.now) i) }
 {
-    if choice[i - 1] == 0 {
-        return tables::is_led(leaders, choice, i);
-    }
-    false
+    choice[i - 1] == 0 && leaders.is_led(choice, i)
 }
 
-// The segment to pick up, or 0.
-fn best_offer(
-    z: Size,
-    leaders: &[usize],
-    benefits: &[u64],
-    uses: &[u64],
-    limits: &[u64],
-    choice: &[usize],
-    sums: &[u64],
-) -> usize
-    requires { Benefits benefits.now × Limits limits.now × Running z uses.now choice.now sums.now × Leaders leaders.now }
-    ensures { let t = tables z benefits.now uses.now limits.now in result ≡ best_offer t (leader_in leaders.now) choice.now }
+// The offer to pick up: of equals the one of the lowest segment.
+fn best_offer(t: TableView<'_>, draft: &Draft) -> Option<Offer>
+    requires { Drafted t draft.now }
+    ensures { let c = draft.now.choice in let i = best_offer (table_in t.entry) (leaders_in t.entry) c in MatchOption result (i ≡ 0) (λ o. (1 ≤ i) × IsOffer (table_in t.entry) c i o) }
 {
-    let mut top: usize = 0;
-    let mut most: u64 = 0;
-    let mut i: usize = 0;
-    while i < z.segments {
-        if is_free(leaders, choice, i + 1) {
-            let j = offer_of(z, benefits, uses, limits, choice, sums, i + 1);
-            let offered = tables::benefit(benefits, i + 1, j);
-            if most < offered {
-                top = i + 1;
-                most = offered;
-            }
+    let mut best: Option<Offer> = None;
+    for i in 1..t.size.segments + 1 {
+        if !is_free(t.leaders, &draft.choice, i) {
+            continue;
         }
-        i += 1;
+        let offer = offer_of(t, draft, i);
+        if worth(best) < worth(offer) {
+            best = offer;
+        }
     }
-    top
+    best
 }
 
 // Phase 2. Returns how many segments were picked up.
-pub fn pick_up(
-    z: Size,
-    leaders: &[usize],
-    benefits: &[u64],
-    uses: &[u64],
-    limits: &[u64],
-    choice: &mut [usize],
-    sums: &mut [u64],
-) -> u64
-    requires { Benefits benefits.now × Limits limits.now × Running z uses.now choice.old sums.old × Leaders leaders.now }
-    ensures running { Running z uses.now choice.new sums.new }
-    ensures choice_after { let t = tables z benefits.now uses.now limits.now in choice.new ≡ (phase2 t (leader_in leaders.now) choice.old).last }
-    ensures value { let t = tables z benefits.now uses.now limits.now in result ≡ (phase2 t (leader_in leaders.now) choice.old).count }
+pub fn pick_up(t: TableView<'_>, draft: &mut Draft) -> u64
+    requires { Drafted t draft.old }
+    ensures running { Drafted t.entry draft.new }
+    ensures choice_after { draft.new.choice ≡ (phase2 (table_in t.entry) (leaders_in t.entry) draft.old.choice).last }
+    ensures value { result ≡ (phase2 (table_in t.entry) (leaders_in t.entry) draft.old.choice).count }
 {
     let mut picks: u64 = 0;
-    loop {
-        let i = best_offer(z, leaders, benefits, uses, limits, choice, sums);
-        if i == 0 {
-            return picks;
-        }
-        let j = offer_of(z, benefits, uses, limits, choice, sums, i);
-        tables::make_one(z, uses, choice, sums, i, j);
+    while let Some(offer) = best_offer(t, draft) {
+        draft.give(t.size, t.uses, offer.segment, offer.strategy);
         picks += 1;
     }
+    picks
 }

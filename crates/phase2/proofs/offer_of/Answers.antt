@@ -1,35 +1,24 @@
 -- `phase2::offer_of` meets its contract.
-use Prim.Native.Nat.{◌+◌}
+use Prim.Native.Nat.{◌-◌}
 use mathlib.Core.Path.{sym, ◌∙◌}
 use native.Mathlib.Omega.{arith}
-use borrow.Author.Rules.{rules}
-use Rattle.tables.proofs.Arrays.{cell_of}
-use Rattle.phase2.proofs.Offers.{offer_none, offer_taken, offer_passed, offer_kept, offer_end}
+use Rattle.phase2.proofs.Offers.{offer_none, offer_taken, offer_kept, offer_passed, offer_found}
 use Rattle.phase2.proofs.offer_of.Goals as goal
-use Rattle.phase2.proofs.offer_of.Goals.{then-most-value+then-fits_one, then-most-value+else-fits_one, else-most-value}
+use Rattle.phase2.proofs.offer_of.Goals.{then-worth-benefit+then-fits, else-worth-benefit, else-worth-benefit-via-then-worth-benefit+else-fits, else-worth-benefit-via-else-worth-benefit}
 
 pub loop-j-init : goal.loop-j-init
-loop-j-init c = (search rules, offer_none _ _ _ _ _ _)
-
-pub benefit-value-requires : goal.benefit-value-requires
-benefit-value-requires c = record { benefits = c.requires.benefits.0; cell = cell_of c.requires.benefits.2.bounded c.args.i (c.loop-j.j + 1) c.requires.le_i.0 c.requires.le_i.1 (omega arith) }
-
-pub fits_one-requires : goal.fits_one-requires
-fits_one-requires c = record { limits = (c.requires.benefits.1, c.requires.benefits.2); le_i = (c.requires.le_i.0, c.requires.le_i.1, omega arith) }
+loop-j-init c = offer_none _ _ _ _ _ _
 
 pub loop-j-preserved : goal.loop-j-preserved
 loop-j-preserved c =
-    let i = c.args.i in
-    let j = c.loop-j.j in
-    let led = c.loop-j.invariant.1 in
-    let is = c.benefit-value.ensures in (
-      search rules,
-      elim c.if-most-value.branch [
-        | then-most-value+then-fits_one w ↦ rw (w.top-is, w.most-is) (offer_taken _ _ _ _ _ i j is led w.if-most-value.true (sym (w.fits_one.ensures _) ∙ w.if-fits_one.true))
-        | then-most-value+else-fits_one w ↦ rw (w.top-is, w.most-is) (offer_passed _ _ _ _ _ i j is led (sym (w.fits_one.ensures _) ∙ w.if-fits_one.false))
-        | else-most-value w ↦ rw (w.top-is, w.most-is) (offer_kept _ _ _ _ _ i j is led w.if-most-value.false)
-      ],
-    )
+    let l = c.loop-j in
+    elim c.if-worth-benefit.branch [
+      | then-worth-benefit+then-fits w ↦ rw w.best-is (offer_taken _ _ _ _ _ _ (l.j - 1) l.j _ l.best (omega arith) (omega arith) c.at-benefit.ensures.value l.invariant (omega arith) (sym (w.fits.ensures _) ∙ w.if-fits.true))
+      | else-worth-benefit w ↦ rw w.best-is (elim w.else-worth-benefit.branch [
+        | else-worth-benefit-via-then-worth-benefit+else-fits v ↦ offer_passed _ _ _ _ _ _ (l.j - 1) l.j _ l.best (omega arith) (omega arith) c.at-benefit.ensures.value l.invariant (sym (v.fits.ensures _) ∙ v.if-fits.false)
+        | else-worth-benefit-via-else-worth-benefit v ↦ offer_kept _ _ _ _ _ _ (l.j - 1) l.j _ l.best (omega arith) (omega arith) c.at-benefit.ensures.value l.invariant (omega arith)
+      ])
+    ]
 
 pub returns : goal.returns
-returns c = offer_end _ _ _ _ _ c.args.i c.loop-j.invariant.1 (omega arith)
+returns c = offer_found _ _ _ _ _ _ (c.loop-j.j - 1) _ c.loop-j.invariant (omega arith)

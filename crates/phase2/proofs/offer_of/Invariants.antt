@@ -1,11 +1,6 @@
-use Prim.Native.Nat.{◌≤◌, ◌-◌}
-use Rattle.base.proofs.Best.{Leads}
-use Rattle.rules.specs.Phases.{fitting}
-use Rattle.tables.specs.Arrays.{benefit_at, tables}
+use Prim.Native.Nat.{◌-◌}
+use Rattle.phase2.proofs.Offers.{Held}
 use Rattle.phase2.proofs.offer_of.Given as goal
 
 abbrev pub invariant-loop-j : goal.invariant-loop-j
-invariant-loop-j l = (l.j ≤ l.z.strategies) × Leads (fitting (tables l.z l.benefits l.uses l.limits) l.choice l.i) (benefit_at l.benefits l.i) l.j l.top l.most
-
-abbrev pub decreases-loop-j : goal.decreases-loop-j
-decreases-loop-j l = l.z.strategies - l.j
+invariant-loop-j l = Held l.t.size l.t.benefits.entries.now l.t.uses.entries.now l.t.limits.entries.now l.draft.choice l.i (l.j - 1) l.best
