@@ -1,16 +1,8 @@
 // Reading of bytes, as many as there are: parts of them, and what digits stand for.
 #![tactic(auto)]
 
-ghost use Rattle.std.specs.Prelude.{◌≡◌, ◌≤◌, length, take as ListN·take, drop as ListN·drop};
+ghost use Rattle.std.specs.Prelude.{◌≡◌, [], ◌∷◌, length, take as ListN·take, drop as ListN·drop};
 ghost use Rattle.base.specs.Text.{up_to, on_from, skipped, value_from, going_on, held};
-ghost use Rattle.text.specs.Numbers.{value_of};
-
-// A number, or no number of 64 bits.
-#[derive(Clone, Copy)]
-pub enum Number {
-    Is(usize),
-    Not,
-}
 
 // ---- parts
 
@@ -18,106 +10,69 @@ pub enum Number {
 pub fn take(bytes: &[u8], n: usize) -> &[u8]
     ensures { result.now ≡ ListN·take n bytes.now }
 {
-    if bytes.len() < n {
-        return bytes;
-    }
-    &bytes[..n]
+    bytes.split_at(n.min(bytes.len())).0
 }
 
 pub fn drop(bytes: &[u8], n: usize) -> &[u8]
     ensures { result.now ≡ ListN·drop n bytes.now }
 {
-    let count = bytes.len();
-    if count < n {
-        return &bytes[count..];
-    }
-    &bytes[n..]
+    bytes.split_at(n.min(bytes.len())).1
 }
 
 // How many bytes stand before the first `byte`.
 pub fn find(bytes: &[u8], byte: u8) -> usize
     ensures { result ≡ length (up_to byte bytes.now) }
 {
-    let mut i = 0;
-    while i < bytes.len() {
-        if bytes[i] == byte {
-            return i;
-        }
-        i += 1;
-    }
-    i
+    bytes.iter().position(|b| *b == byte).unwrap_or(bytes.len())
 }
 
 // The bytes before the first `byte`, and those from it on.
 pub fn up_to(bytes: &[u8], byte: u8) -> &[u8]
     ensures { result.now ≡ up_to byte bytes.now }
 {
-    let end = find(bytes, byte);
-    &bytes[..end]
+    bytes.split_at(find(bytes, byte)).0
 }
 
 pub fn on_from(bytes: &[u8], byte: u8) -> &[u8]
     ensures { result.now ≡ on_from byte bytes.now }
 {
-    let start = find(bytes, byte);
-    &bytes[start..]
+    bytes.split_at(find(bytes, byte)).1
 }
 
-// How many times `byte` stands in front.
-fn count_front(bytes: &[u8], byte: u8) -> usize
-    ensures upper_bound { result ≤ length bytes.now }
-    ensures bytes_value { ListN·drop result bytes.now ≡ skipped byte bytes.now }
-{
-    let mut i = 0;
-    while i < bytes.len() {
-        if bytes[i] != byte {
-            return i;
-        }
-        i += 1;
-    }
-    i
-}
-
-// The bytes behind them.
+// The bytes behind all those in front that are `byte`.
 pub fn skip(bytes: &[u8], byte: u8) -> &[u8]
     ensures { result.now ≡ skipped byte bytes.now }
 {
-    let start = count_front(bytes, byte);
-    &bytes[start..]
+    let front = bytes.iter().position(|b| *b != byte).unwrap_or(bytes.len());
+    bytes.split_at(front).1
 }
 
 // ---- digits
 
+// The value with one more digit behind it.
+fn with_digit(value: usize, byte: u8) -> Option<usize>
+    ensures { result ≡ held (value_from value (byte ∷ [])) }
+{
+    if !byte.is_ascii_digit() {
+        return None;
+    }
+    value.checked_mul(10)?.checked_add(usize::from(byte - b'0'))
+}
+
 // What digits stand for, after the value of those before them.
-pub fn digits_after(before: usize, bytes: &[u8]) -> Number
-    ensures { value_of result ≡ held (value_from before bytes.now) }
+pub fn digits_after(before: usize, bytes: &[u8]) -> Option<usize>
+    ensures { result ≡ held (value_from before bytes.now) }
 {
     let mut value = before;
-    let mut i = 0;
-    while i < bytes.len() {
-        let byte = bytes[i] as usize;
-        if byte < 48 {
-            return Number::Not;
-        }
-        if 57 < byte {
-            return Number::Not;
-        }
-        let digit = byte - 48;
-        if (18446744073709551615 - digit) / 10 < value {
-            return Number::Not;
-        }
-        value = value * 10 + digit;
-        i += 1;
+    for byte in bytes {
+        value = with_digit(value, *byte)?;
     }
-    Number::Is(value)
+    Some(value)
 }
 
 // The number goes on with these digits.
-pub fn go_on(number: Number, bytes: &[u8]) -> Number
-    ensures { value_of result ≡ held (going_on (value_of number) bytes.now) }
+pub fn go_on(number: Option<usize>, bytes: &[u8]) -> Option<usize>
+    ensures { result ≡ held (going_on number bytes.now) }
 {
-    match number {
-        Number::Is(value) => digits_after(value, bytes),
-        Number::Not => Number::Not,
-    }
+    digits_after(number?, bytes)
 }

@@ -1,12 +1,12 @@
 -- `text::go_on` meets its contract.
+use Rattle.std.proofs.Common.{rules}
 use Rattle.base.specs.Text.{going_on, held}
-use Rattle.text.specs.Numbers.{value_of}
 use Rattle.text.proofs.go_on.Goals as goal
 
-pub returns-in-Is : goal.returns-in-Is
-unfolding value_of going_on
-returns-in-Is c = rw c.in-Is.is c.digits_after.ensures
+pub returns-in_err-number : goal.returns-in_err-number
+unfolding going_on held
+returns-in_err-number c = search rules
 
-pub returns-in-Not : goal.returns-in-Not
-unfolding value_of going_on held
-returns-in-Not c = rw c.in-Not.is
+pub returns : goal.returns
+unfolding going_on held
+returns c = search rules

@@ -1,9 +1,10 @@
 -- `text::up_to` meets its contract.
-use Rattle.base.proofs.Parts.{up_taken, up_size}
+use Rattle.std.proofs.Common.{◌∙◌, arith}
+use Rattle.base.proofs.Parts.{up_fits, up_taken}
 use Rattle.text.proofs.up_to.Goals as goal
 
-pub slice_bounds-result-end : goal.slice_bounds-result-end
-slice_bounds-result-end c = let a = c.args in up_size a.byte a.bytes.now _ c.find-end.ensures
+pub split_at-requires : goal.split_at-requires
+split_at-requires c = omega (arith, up_fits c.args.byte c.args.bytes.now)
 
 pub returns : goal.returns
-returns c = let a = c.args in up_taken a.byte a.bytes.now _ c.find-end.ensures
+returns c = c.split_at.ensures.front ∙ up_taken c.args.byte c.args.bytes.now _ c.find.ensures
