@@ -1,3 +1,5 @@
+pub mod Loops
+pub mod Least
 pub mod Bounds
 pub mod Entries
 pub mod Uses

@@ -13,6 +13,6 @@ pub returns-then-required-eq0 : goal.returns-then-required-eq0
 unfolding reaches
 returns-then-required-eq0 c = rw (eq-eqb _ _ c.if-required-eq0.true)
 
-pub returns : goal.returns
+pub returns-else-required-eq0 : goal.returns-else-required-eq0
 unfolding reaches
-returns c = rw (ne_eqb _ _ c.if-required-eq0.false) (ap₂ le_z (to_z_pos w64 {n = 1_000_000 * c.args.required} (omega arith)) (to_z-of_z c.ranges.z))
+returns-else-required-eq0 c = rw (ne_eqb _ _ c.if-required-eq0.false) (ap₂ le_z (to_z_pos w64 {n = 1_000_000 * c.args.required} (omega arith)) (to_z-of_z c.ranges.z))
