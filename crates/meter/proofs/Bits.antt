@@ -1,10 +1,9 @@
 -- What the rules read in 32 bits is the float that they are.
-use Rattle.std.proofs.Common.{◌≡◌, ℕ, zero, suc, ◌+◌, ◌*◌, ◌%◌, ◌^◌, ◌<◌, ◌≤◌, Bool, true, false, cond, not, T, eqb, ◌⊎◌, sym, refl, ◌∙◌, inl, inr, true≢false, mul-le-mul, mul-one, arith, pow_mono, le-ltb, lt-ltb, eqb-true}
+use Rattle.std.proofs.Common.{◌≡◌, ℕ, zero, suc, ◌+◌, ◌*◌, ◌^◌, ◌≤◌, Bool, true, false, cond, not, T, eqb, ◌⊎◌, refl, inl, inr, mul-le-mul, mul-one, arith, pow_mono, eqb-true}
 use native.Mathlib.Nat.{pow-succ'}
 use lib.Dec.{eqb-suc-zero}
 use lib.Pow.{field}
-use lib.Ieee.{Float, nan, inf, fin, binary32, odd, of_fields, of_bits, is_nan, nan_bits}
-use lib.Ieee.Bits.{nan_bits_is, nan_bits_above}
+use lib.Ieee.{Float, nan, inf, fin, binary32, odd, of_fields, of_bits}
 use lib.Ieee.Exact.{HasValue, odd_sign}
 use lib.Ieee.Scale.{finite}
 use Rattle.base.specs.Choice.{pick}
@@ -46,19 +45,3 @@ fields_read s (suc e) t = rw (eqb-suc-zero e) (known (eqb (suc e) 255) refl)
 pub bits_read : (bits : ℕ) → Reads part1024 (of_bits binary32 bits) (is_negative bits) (size_of bits)
 unfolding of_bits size_of
 bits_read bits = rw (field bits 8 23) (fields_read (is_negative bits) (exponent_of bits) (fraction_of bits))
-
--- ---- which are no number
-
-is_nan_lem : (x : Float) → is_nan x ≡ true → nan ≡ x
-unfolding is_nan
-is_nan_lem nan h = refl
-is_nan_lem (inf s) h = absurd (true≢false (sym h))
-is_nan_lem (fin s m e) h = absurd (true≢false (sym h))
-
-pub no_number : (bits : ℕ) → 2139095040 < bits % 2147483648 → nan ≡ of_bits binary32 bits
-no_number bits h =
-    is_nan_lem (of_bits binary32 bits)
-    (sym (nan_bits_is binary32 bits) ∙ nan_bits_above binary32 bits ∙ lt-ltb 2139095040 (bits % 2147483648) h)
-
-pub a_number : (bits : ℕ) → bits % 2147483648 ≤ 2139095040 → nan_bits binary32 bits ≡ false
-a_number bits h = nan_bits_above binary32 bits ∙ le-ltb 2139095040 (bits % 2147483648) h

@@ -1,23 +1,12 @@
 -- The points for a window follow from its float sum, taken as whole 1024ths.
-use Rattle.std.proofs.Common.{◌≡◌, ℕ, ◌*◌, ◌/◌, ◌<◌, ◌≤◌, true, false, List, length, ◌∙◌, mul-div_cancel, arith, le-leb}
+use Rattle.std.proofs.Common.{◌≡◌, ℕ, ◌*◌, ◌/◌, ◌<◌, false, length, ◌∙◌, mul-div_cancel, arith, le-leb}
 use lib.Ieee.Exact.{HasValue}
 use borrow.Author.Tests.{lt-leb}
-use Rattle.rules.specs.Answers.{window_empty, Accepted, Refused}
-use Rattle.rules.specs.Meter.{Heard, window_of, sum_of, mean_reaches, mays_points, roughness_refusal, points_unless, roughness_of, points_at}
+use Rattle.rules.specs.Answers.{window_empty, answer_of, Accepted, Refused}
+use Rattle.rules.specs.Meter.{Heard, window_of, sum_of, mays_points, roughness_refusal, points_unless, roughness_of, points_at}
 use Rattle.meter.specs.Window.{Holds}
 use Rattle.meter.specs.declared.Window.{Window}
 use Rattle.meter.proofs.Windows.{sum_most}
-
--- ---- a row's test
-
-module _ (tenths : ℕ) {sum count : ℕ} (window : List ℕ) (e : sum ≡ sum_of window) (f : count ≡ length window) where
-  pub reached : tenths * (1024 * count) ≤ 10 * sum → mean_reaches tenths window ≡ true
-  unfolding mean_reaches
-  reached l = le-leb (tenths * 1024 * length window) (10 * sum_of window) (rw (← e, ← f) (omega arith))
-
-  pub missed : 10 * sum < tenths * (1024 * count) → mean_reaches tenths window ≡ false
-  unfolding mean_reaches
-  missed l = lt-leb (tenths * 1024 * length window) (10 * sum_of window) (rw (← e, ← f) (omega arith))
 
 -- ---- of a window
 
@@ -28,9 +17,9 @@ module _ (w : Window) (h : Heard) (H : Holds w h) where
       ∙ mul-div_cancel (sum_of (window_of h)) (omega arith)
 
   pub no_points : w.count ≡ 0 → Refused window_empty ≡ roughness_of h
-  unfolding roughness_of roughness_refusal points_unless
+  unfolding roughness_of roughness_refusal points_unless answer_of
   no_points e = rw (lt-leb 1 (length (window_of h)) (let q = H.count in omega arith))
 
   pub some_points : (w.count ≡ 0 → ⊥) → (p : ℕ) → p ≡ mays_points (window_of h) → Accepted (points_at p w.bits) ≡ roughness_of h
-  unfolding roughness_of roughness_refusal points_unless
+  unfolding roughness_of roughness_refusal points_unless answer_of
   some_points n p e = rw (le-leb 1 (length (window_of h)) (let q = H.count in omega arith)) (let b = H.bits in cc)

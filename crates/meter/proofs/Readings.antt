@@ -167,17 +167,25 @@ module _ (x : Float) (bits : ℕ) (e : x ≡ of_bits binary32 bits) where
   read : Reads part1024 x (is_negative bits) (size_of bits)
   read = rw e (bits_read bits)
 
-  pub reading_zero : eq x 0f ≡ true → true ≡ is_reading bits
+  reading_zero : eq x 0f ≡ true → true ≡ is_reading bits
   unfolding is_reading
   reading_zero h = zero_is part1024 (pow_pos 140) x (is_negative bits) (size_of bits) read h
 
-  pub reading_low : eq x 0f ≡ false → lt 0f x ≡ false → false ≡ is_reading bits
+  pub reading_low : lt 0f x ≡ false → eq x 0f ≡ is_reading bits
   unfolding is_reading
-  reading_low h l = low_is part1024 (pow_pos 140) x (is_negative bits) (size_of bits) read h l
+  reading_low l = known (eq x 0f) refl
+    where
+      known : (t : Bool) → eq x 0f ≡ t → eq x 0f ≡ is_reading bits
+      known true h = h ∙ reading_zero h
+      known false h = h ∙ low_is part1024 (pow_pos 140) x (is_negative bits) (size_of bits) read h l
 
-  pub reading_high : lt 0f x ≡ true → lt x 8f ≡ false → false ≡ is_reading bits
+  pub reading_high : lt 0f x ≡ true → lt x 8f ≡ false → eq x 0f ≡ is_reading bits
   unfolding is_reading
-  reading_high h l = high_is part1024 (pow_pos 140) x (is_negative bits) (size_of bits) read h l
+  reading_high g l = known (eq x 0f) refl
+    where
+      known : (t : Bool) → eq x 0f ≡ t → eq x 0f ≡ is_reading bits
+      known true h = h ∙ reading_zero h
+      known false h = h ∙ high_is part1024 (pow_pos 140) x (is_negative bits) (size_of bits) read g l
 
   pub reading_between :
       fits binary32 x ≡ true → lt 0f x ≡ true → lt x 8f ≡ true → (n : ℕ) → n < 524288

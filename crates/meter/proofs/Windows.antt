@@ -6,10 +6,9 @@ use Rattle.rules.specs.Answers.{no_reading, answer_of, accepting, Accepted, Refu
 use Rattle.rules.specs.Meter.{Heard, is_reading, reading_of, sent_refusal, heard_with, hearing, heard_from, sum_of}
 use Rattle.rules.specs.declared.Sent.{Sent}
 use Rattle.rules.specs.declared.Sent.TheVariants.{Index, Marker, Lost}
-use Rattle.meter.specs.Window.{record_of, bits_of, 0f, Counts, Holds, Follows, After}
+use Rattle.meter.specs.Window.{record_of, bits_of, 0f, Counts, Holds, Stepped, Follows, After}
 use Rattle.meter.specs.declared.Record.TheVariants.{Index as Record-as-Index, Marker as Record-as-Marker, Lost as Record-as-Lost}
 use Rattle.meter.specs.declared.Window.{Window}
-use Rattle.meter.specs.declared.Stepped.{Stepped}
 use Rattle.meter.proofs.Exact.{add_exact, sub_exact}
 
 -- ---- sums of the first of a list

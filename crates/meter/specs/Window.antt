@@ -1,17 +1,17 @@
 -- What the window's floats stand for: the readings of rules, specs/Meter.antt, in whole 1024ths.
-use Rattle.std.specs.Prelude.{◌≡◌, ℕ, suc, ◌+◌, ◌-◌, ◌%◌, ◌<◌, false, List, [], ◌∷◌, length, pos, from_bits, slice_index, slice_index_or, Float}
+use Rattle.std.specs.Prelude.{◌≡◌, ℕ, suc, ◌+◌, ◌-◌, ◌%◌, ◌<◌, false, List, [], ◌∷◌, length, pos, Result, from_bits, slice_index, slice_index_or, Float}
 use Rattle.std.specs.Float.{nan, fin, binary32}
 use Rattle.std.specs.Float.Ieee.{eq}
 use Rattle.std.specs.Float.Ieee.Exact.{HasValue}
 use Rattle.base.specs.Choice.{pick}
-use Rattle.rules.specs.Answers.{answer_of}
+use Rattle.rules.specs.Answers.{Answer, answer_of, answer_in}
 use Rattle.rules.specs.Meter.{Heard, sent_refusal, hearing, window_size, window_of, sum_of}
+use Rattle.rules.specs.declared.refusals.Refusal.{Refusal}
 use Rattle.rules.specs.declared.Sent.{Sent}
 use Rattle.rules.specs.declared.Sent.TheVariants.{Index, Marker, Lost}
 use Rattle.meter.specs.declared.Record.{Record}
 use Rattle.meter.specs.declared.Record.TheVariants.{Index as Record-as-Index, Marker as Record-as-Marker, Lost as Record-as-Lost}
 use Rattle.meter.specs.declared.Window.{Window}
-use Rattle.meter.specs.declared.Stepped.{Stepped}
 
 -- ---- a record's float, and its bits
 
@@ -52,6 +52,14 @@ pub record Holds (w : Window) (h : Heard) : Type 0 where
   pub below : (i : ℕ) → slice_index h.readings i < 8192
 
 -- ---- what a record does to a window
+
+-- an answer and the window as the record leaves it
+pub record Stepped : Type 0 where
+  pub answer : Answer
+  pub window : Window
+
+abbrev pub stepped : Result ℕ Refusal → Window → Stepped
+stepped r w = record { answer = answer_in r; window = w }
 
 pub record Follows (w : Window) (s : Sent) (r : Stepped) : Type 0 where
   pub answer : r.answer ≡ answer_of (sent_refusal s) 0

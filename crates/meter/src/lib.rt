@@ -1,16 +1,17 @@
 // The roughness meter's window: the last readings, 32-bit floats, with their exact sum; and the points for it.
 #![tactic(auto)]
 
-ghost use Rattle.std.specs.Prelude.{◌≡◌, ℕ, ◌+◌, ◌*◌, ◌/◌, ◌<◌, ◌≤◌, min, false, List, length, from_bits};
+ghost use Rattle.std.specs.Prelude.{◌≡◌, ℕ, ◌*◌, ◌/◌, ◌<◌, ◌≤◌, false, List, length, from_bits};
 ghost use Rattle.std.specs.Float.{binary32};
 ghost use Rattle.std.specs.Float.Ieee.Exact.{HasValue};
+ghost use Rattle.rules.specs.Answers.{answer_in};
 ghost use Rattle.rules.specs.Meter.{Heard, silence, is_reading, reading_of, heard_with, heard_after, sum_of, mays_points, roughness_of};
 ghost use Rattle.rules.specs.declared.Sent.{Sent};
 ghost use Rattle.rules.specs.declared.Sent.TheVariants.{Index as Sent-as-Index, Marker as Sent-as-Marker};
-ghost use Rattle.meter.specs.Window.{record_of, bits_of, Counts, Holds, Follows, After, unsigned};
+ghost use Rattle.meter.specs.Window.{record_of, bits_of, Counts, Holds, stepped, Follows, After, unsigned};
 
-use rules::refusals::{NO_READING, WINDOW_EMPTY};
-use rules::{Answer, Roughness, Sent};
+use rules::{Answer, Refusal, Roughness, Sent};
+use std::num::{f32_from_bits_with_nan, truncating_f32_to_u64};
 
 // A record of the van with its float.
 #[derive(Clone, Copy)]
@@ -24,6 +25,7 @@ pub const WINDOW_SIZE: usize = 64;
 
 // The last readings since the last marker, in a ring whose unused places are 0; `next`, modulo 64, is the place
 // of the next one. The marker's bits are kept beside its float, which forgets a NaN's.
+// That it holds what was heard is no ghost field: what was heard is a list that no code holds, and any window may be handed in.
 #[derive(Clone, Copy)]
 pub struct Window {
     pub readings: [f32; WINDOW_SIZE],
@@ -34,39 +36,25 @@ pub struct Window {
     pub bits: u32,
 }
 
-// An answer and the window as the record leaves it.
-#[derive(Clone, Copy)]
-pub struct Stepped {
-    pub answer: Answer,
-    pub window: Window,
-}
+#[tactic(auto, unfolding(crate::specs::Window::record_of))]
+impl From<Sent> for Record {
+    ghost from_gives = { λ s r. r ≡ record_of s };
 
-// The float of 32 bits. `f32::from_bits` is undefined at a NaN.
-fn float_of(bits: u32) -> f32
-    ensures { result ≡ from_bits binary32 bits }
-{
-    if 0x7f80_0000 < bits % 0x8000_0000 {
-        return 0.0 / 0.0;
-    }
-    f32::from_bits(bits)
-}
-
-fn record_of(s: Sent) -> Record
-    ensures { result ≡ record_of s }
-{
-    match s {
-        Sent::Index(bits) => Record::Index(float_of(bits)),
-        Sent::Marker(bits) => Record::Marker(float_of(bits)),
-        Sent::Lost => Record::Lost,
+    fn from(s: Sent) -> Record {
+        match s {
+            Sent::Index(bits) => Record::Index(f32_from_bits_with_nan(bits)),
+            Sent::Marker(bits) => Record::Marker(f32_from_bits_with_nan(bits)),
+            Sent::Lost => Record::Lost,
+        }
     }
 }
 
+#[tactic(auto, unfolding(crate::specs::Window::bits_of))]
 fn bits_of(s: Sent) -> u32
     ensures { result ≡ bits_of s }
 {
     match s {
-        Sent::Index(bits) => bits,
-        Sent::Marker(bits) => bits,
+        Sent::Index(bits) | Sent::Marker(bits) => bits,
         Sent::Lost => 0,
     }
 }
@@ -76,27 +64,21 @@ fn parts_in(x: f32) -> u64
     ensures parts { (a c : ℕ) → 0 < c → HasValue x false a c → a < 512 * c → result ≡ a * 1024 / c }
     ensures small { result < 524288 }
 {
-    if 0.0 < x {
-        if x < 512.0 {
-            return std::num::truncating_f32_to_u64(x * 1024.0);
-        }
+    if 0.0 < x && x < 512.0 {
+        truncating_f32_to_u64(x * 1024.0)
+    } else {
+        0
     }
-    0
 }
 
 fn is_reading(x: f32) -> bool
     ensures { (bits : ℕ) → x ≡ from_bits binary32 bits → result ≡ is_reading bits }
 {
-    if x == 0.0 {
-        return true;
+    if 0.0 < x && x < 8.0 {
+        parts_in(x) as f32 == x * 1024.0
+    } else {
+        x == 0.0
     }
-    if 0.0 < x {
-        if x < 8.0 {
-            let n = parts_in(x);
-            return n as f32 == x * 1024.0;
-        }
-    }
-    false
 }
 
 // Minus zero is zero.
@@ -106,30 +88,15 @@ fn plain(x: f32) -> f32
     if x == 0.0 { 0.0 } else { x }
 }
 
-fn one_more(count: usize) -> usize
-    ensures { result ≡ min 64 (count + 1) }
-{
-    if count < WINDOW_SIZE {
-        count + 1
-    } else {
-        WINDOW_SIZE
-    }
-}
-
 // A reading takes the place of the oldest one, in the ring and in the sum.
-fn put(w: Window, x: f32) -> Window
-    ensures { (h : Heard) (bits : ℕ) → Holds w h → Counts x (reading_of bits) → reading_of bits < 8192 → Holds result (heard_with h (Sent-as-Index bits)) }
+fn put(w: &mut Window, x: f32)
+    ensures { (h : Heard) (bits : ℕ) → Holds w.old h → Counts x (reading_of bits) → reading_of bits < 8192 → Holds w.new (heard_with h (Sent-as-Index bits)) }
 {
     let at = w.next % WINDOW_SIZE;
-    let count = w.count;
-    let mut v = w;
-    let oldest = v.readings[at];
-    let others = v.sum - oldest;
-    v.readings[at] = x;
-    v.sum = others + x;
-    v.next = at + 1;
-    v.count = one_more(count);
-    v
+    let oldest = std::mem::replace(&mut w.readings[at], x);
+    w.sum = w.sum - oldest + x;
+    w.next = at + 1;
+    w.count = w.count.min(WINDOW_SIZE - 1) + 1;
 }
 
 // The window behind a marker.
@@ -146,35 +113,27 @@ fn empty(marker: f32, bits: u32) -> Window
     }
 }
 
-fn index(held: Window, x: f32) -> Stepped
-    ensures { (bits : ℕ) → x ≡ from_bits binary32 bits → Follows held (Sent-as-Index bits) result }
+fn index(w: &mut Window, x: f32) -> Answer
+    ensures { (bits : ℕ) → x ≡ from_bits binary32 bits → Follows w.old (Sent-as-Index bits) (stepped result w.new) }
 {
-    if is_reading(x) {
-        return Stepped {
-            answer: Answer::Accepted(0),
-            window: put(held, plain(x)),
-        };
+    if !is_reading(x) {
+        return Err(Refusal::NoReading);
     }
-    Stepped {
-        answer: Answer::Refused(NO_READING),
-        window: held,
-    }
+    put(w, plain(x));
+    Ok(0)
 }
 
 // One record; `bits` are those of its float.
-fn step(w: Window, sent: Record, bits: u32) -> Stepped
-    ensures { (s : Sent) → sent ≡ record_of s → bits ≡ bits_of s → Follows w s result }
+fn step(w: &mut Window, sent: Record, bits: u32) -> Answer
+    ensures { (s : Sent) → sent ≡ record_of s → bits ≡ bits_of s → Follows w.old s (stepped result w.new) }
 {
     match sent {
         Record::Index(x) => index(w, x),
-        Record::Marker(x) => Stepped {
-            answer: Answer::Accepted(0),
-            window: empty(x, bits),
-        },
-        Record::Lost => Stepped {
-            answer: Answer::Accepted(0),
-            window: w,
-        },
+        Record::Marker(x) => {
+            *w = empty(x, bits);
+            Ok(0)
+        }
+        Record::Lost => Ok(0),
     }
 }
 
@@ -186,13 +145,14 @@ pub fn start() -> Window
     empty(0.0, 0)
 }
 
-pub fn hear(w: Window, s: Sent) -> Stepped
-    ensures { Follows w s result }
+pub fn hear(w: &mut Window, s: Sent) -> Answer
+    ensures { Follows w.old s (stepped result w.new) }
 {
-    step(w, record_of(s), bits_of(s))
+    step(w, Record::from(s), bits_of(s))
 }
 
 // The points for a sum in 1024ths and a count. The mean reaches t tenths where 10 × sum is at least t × 1024 × count.
+#[tactic(auto, using(std::proofs::lemmas::Bool::Decides::nat_tests), unfolding(rules::specs::Meter::mays_points, rules::specs::Meter::mean_reaches))]
 fn mays_points(sum: u64, count: u64) -> usize
     requires { (sum < 524288) × (count ≤ 64) }
     ensures { (window : List ℕ) → sum ≡ sum_of window → count ≡ length window → result ≡ mays_points window }
@@ -200,43 +160,32 @@ fn mays_points(sum: u64, count: u64) -> usize
     let total = 10 * sum;
     let tenth = 1024 * count;
     if 47 * tenth <= total {
-        return 0;
-    }
-    if 35 * tenth <= total {
-        return 5;
-    }
-    if 33 * tenth <= total {
-        return 10;
-    }
-    if 31 * tenth <= total {
-        return 20;
-    }
-    if 29 * tenth <= total {
-        return 30;
-    }
-    if 27 * tenth <= total {
-        return 40;
-    }
-    50
-}
-
-fn within_window(count: usize) -> usize
-    ensures { result ≡ min 64 count }
-{
-    if count < WINDOW_SIZE {
-        count
+        0
+    } else if 35 * tenth <= total {
+        5
+    } else if 33 * tenth <= total {
+        10
+    } else if 31 * tenth <= total {
+        20
+    } else if 29 * tenth <= total {
+        30
+    } else if 27 * tenth <= total {
+        40
     } else {
-        WINDOW_SIZE
+        50
     }
 }
 
-pub fn roughness(w: Window) -> Roughness
-    ensures { (h : Heard) → Holds w h → result ≡ roughness_of h }
+pub fn roughness(w: &Window) -> Result<Roughness, Refusal>
+    ensures { (h : Heard) → Holds w.now h → answer_in result ≡ roughness_of h }
 {
     if w.count == 0 {
-        return Roughness::Refused(WINDOW_EMPTY);
+        return Err(Refusal::WindowEmpty);
     }
     let sum = parts_in(w.sum);
-    let count = within_window(w.count) as u64;
-    Roughness::Points(mays_points(sum, count), w.bits)
+    let count = w.count.min(WINDOW_SIZE) as u64;
+    Ok(Roughness {
+        points: mays_points(sum, count),
+        marker: w.bits,
+    })
 }

@@ -2,4 +2,4 @@
 use Rattle.meter.proofs.hear.Goals as goal
 
 pub returns : goal.returns
-returns c = c.step.ensures c.args.s c.record_of.ensures c.bits_of.ensures
+returns c = c.step.ensures c.args.s c.from.ensures c.bits_of.ensures

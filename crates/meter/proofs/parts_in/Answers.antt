@@ -1,8 +1,8 @@
 -- `meter::parts_in` meets its contract.
-use Rattle.std.proofs.Common.{arith}
 use lib.Ieee.{of_bits}
 use Rattle.meter.proofs.Whole.{call_low, call_high, parts_small, parts_are, none_below, none_above}
 use Rattle.meter.proofs.parts_in.Goals as goal
+use Rattle.meter.proofs.parts_in.Goals.{else-x-via-then-x+else-x-2, else-x-via-else-x}
 
 pub truncating_f32_to_u64-requires : goal.truncating_f32_to_u64-requires
 unfolding of_bits
@@ -22,10 +22,11 @@ returns-then-x-2 c =
     }
     )
 
-pub returns-else-x-2 : goal.returns-else-x-2
+pub returns-else-x-clause-parts : goal.returns-else-x-clause-parts
 unfolding of_bits
-returns-else-x-2 c = record { parts = λ a b B v l. none_above c.args.x a b B v l c.if-x-2.false; small = omega arith }
-
-pub returns-else-x : goal.returns-else-x
-unfolding of_bits
-returns-else-x c = record { parts = λ a b B v l. none_below c.args.x a b B v c.if-x.false; small = omega arith }
+returns-else-x-clause-parts c =
+    λ a b B v l.
+    elim c.else-x.branch [
+      | else-x-via-then-x+else-x-2 w ↦ none_above c.args.x a b B v l w.if-x-2.false
+      | else-x-via-else-x w ↦ none_below c.args.x a b B v w.if-x.false
+    ]

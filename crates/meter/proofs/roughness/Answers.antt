@@ -12,4 +12,4 @@ returns c =
     λ h H.
     some_points _ h H c.if-w-eq0.false _
     (c.mays_points.ensures (window_of h) (sum_parts _ h H _ c.parts_in-sum.ensures.parts)
-    (let n = length-take 64 h.readings in omega (arith, c.within_window-count.ensures, H.count)))
+    (let n = length-take 64 h.readings in omega (arith, c.min-count.ensures, H.count)))
