@@ -1,6 +1,8 @@
 -- What running sums give: tests of the limits where one segment moves or two, and the sums after a move.
 use Prim.Native.Nat.{ℕ, ◌+◌, ◌-◌, ◌^◌, ◌≤◌, ◌<◌}
-use mathlib.Core.Path.{◌≡◌}
+use mathlib.Core.Path.{◌≡◌, refl, sym}
+use mathlib.Core.Bool.{Bool, true, false}
+use Rattle.std.specs.Prelude.{IsTrue, ◌↔◌}
 use mathlib.Core.List.{List, []}
 use native.Mathlib.Omega.{arith}
 use lib.Dec.{leb}
@@ -8,7 +10,7 @@ use lib.ListN.{get_or, length, length-set}
 use Rattle.base.specs.Over.{all}
 use Rattle.base.proofs.Choice.{leb_same}
 use Rattle.base.proofs.Sums.{sum_part}
-use Rattle.base.proofs.All.{all_cong}
+use Rattle.base.proofs.All.{all_at, all_cong, all_true}
 use Rattle.rules.specs.District.{most_resources}
 use Rattle.rules.specs.Phases.{strategy_at, give, chosen_usage, used, holds, within}
 use Rattle.laws.proofs.Give.{kept, used_give, give_numbers}
@@ -125,3 +127,13 @@ testable_part n m test h =
       sums_small = λ r lr hr. test.sums_small r lr (omega arith);
       budgets_length = test.budgets_length;
     }
+
+-- what `all` over the numbers below n answers, where the test is of the next number
+pub all_is : (n : ℕ) (f : ℕ → Bool) (r : Bool) → IsTrue r ↔ ((k : ℕ) → k < n → f (k + 1) ≡ true) → r ≡ all n f
+all_is n f true h =
+    sym (all_true n f (λ k low high. let e : k - 1 + 1 ≡ k = omega arith in rw e at (h.0 refl (k - 1) (omega arith))))
+all_is n f false h = go (all n f) refl
+  where
+    go : (x : Bool) → all n f ≡ x → false ≡ x
+    go true e = h.1 (λ k under. all_at n f e (k + 1) (omega arith) (omega arith))
+    go false e = refl

@@ -42,12 +42,7 @@ pub(crate) fn room(
     requires cell { Cell i a × Cell k b }
     ensures { result ≡ all resources (room_for uses.entry.entries.now sums.now budgets.now i a k b) }
 {
-    for r in 0..resources {
-        if !room_in(uses, sums, budgets, i, a, k, b, r + 1) {
-            return false;
-        }
-    }
-    true
+    (0..resources).all(|r| room_in(uses, sums, budgets, i, a, k, b, r + 1))
 }
 
 // The budget of each resource where segments i and k give up strategies x and y.
