@@ -70,7 +70,7 @@ impl BenefitTable<'_> {
         self.at(i, choice[i - 1])
     }
 
-    // The total benefit of a programme.
+    // The total benefit of a programme. A loop: with `map` and `sum` the proof that the total fits did not close.
     pub fn total(self, z: Size, choice: &[usize]) -> u64
         requires { Bounded z × Chosen z choice.now }
         ensures { (u l : List ℕ) → result ≡ total (tables z self.entry.entries.now u l) choice.now }
