@@ -3,62 +3,34 @@
 #![tactic(auto)]
 
 ghost use Rattle.std.specs.Prelude.{◌≡◌};
-ghost use Rattle.rules.specs.District.{value_at, is_shared, shared_tables, same_tables};
+ghost use Rattle.rules.specs.District.{is_shared, shared_tables, same_tables};
 
 use rules::District;
-use rules::places::{COUNT_PLACES, DISTRICT_PLACES, GREATEST, SEGMENTS, STRATEGY_COUNT};
+use rules::places::{COUNT_PLACES, GREATEST, SEGMENTS, STRATEGY_COUNT};
 
+#[tactic(auto, using(std::proofs::lemmas::Bool::Decides::nat_tests), unfolding(rules::specs::District::is_shared))]
 fn is_shared(place: usize) -> bool
     ensures { result ≡ is_shared place }
 {
-    if place < STRATEGY_COUNT {
-        return false;
-    }
-    if place < COUNT_PLACES {
-        return true;
-    }
-    if place < GREATEST {
-        return false;
-    }
-    place < SEGMENTS
-}
-
-// The number at a place of the shared tables, 0 where none is shared.
-fn shared_value(d: &[usize], place: usize) -> usize
-    ensures { result ≡ value_at (shared_tables d.now) place }
-{
-    if d.len() <= place {
-        return 0;
-    }
-    if is_shared(place) {
-        return d[place];
-    }
-    0
-}
-
-// Whether no shared number differs.
-pub fn same_tables(d: District, e: District) -> bool
-    ensures { result ≡ same_tables d e }
-{
-    let mut place: usize = 0;
-    while place < DISTRICT_PLACES {
-        if shared_value(&d, place) != shared_value(&e, place) {
-            return false;
-        }
-        place += 1;
-    }
-    true
+    matches!(place, STRATEGY_COUNT..COUNT_PLACES | GREATEST..SEGMENTS)
 }
 
 // The shared tables alone: a district without a segment, whose limits are 0.
-pub fn shared_tables(d: District) -> District
-    ensures { result ≡ shared_tables d }
+pub fn shared_tables(d: &District) -> District
+    ensures { result ≡ shared_tables d.now }
 {
-    let mut tables = [0usize; DISTRICT_PLACES];
-    let mut place: usize = 0;
-    while place < DISTRICT_PLACES {
-        tables[place] = shared_value(&d, place);
-        place += 1;
+    let mut tables = *d;
+    for (place, value) in tables.iter_mut().enumerate() {
+        if !is_shared(place) {
+            *value = 0;
+        }
     }
     tables
+}
+
+// Whether no shared number differs.
+pub fn same_tables(d: &District, e: &District) -> bool
+    ensures { result ≡ same_tables d.now e.now }
+{
+    shared_tables(d) == shared_tables(e)
 }

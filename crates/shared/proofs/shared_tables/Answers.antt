@@ -1,28 +1,19 @@
 -- `shared::shared_tables` meets its contract.
-use Prim.Native.Nat.{ℕ}
-use mathlib.Core.Path.{◌∙◌}
-use mathlib.Core.List.{append-nil}
+use mathlib.Core.Path.{sym, ◌∙◌}
 use native.Mathlib.Omega.{arith}
-use lib.ListN.{length, replicate, drop_of_length-le}
-use Rattle.base.proofs.Buffers.{written_none, written_one, written_all}
-use Rattle.base.proofs.Same.{drop_next}
-use Rattle.rules.specs.District.{district_places, shared_tables}
-use Rattle.shared.proofs.Tables.{tables_length}
+use Rattle.shared.proofs.Tables.{cleared_none, kept, cleared, cleared_all}
 use Rattle.shared.proofs.shared_tables.Goals as goal
+use Rattle.shared.proofs.shared_tables.Goals.{then-not-is_shared, else-not-is_shared}
 
 pub loop-place-init : goal.loop-place-init
-loop-place-init c = (omega arith, written_none _ _)
+loop-place-init c = cleared_none _
 
 pub loop-place-preserved : goal.loop-place-preserved
 loop-place-preserved c =
-    let l = c.loop-place in
-    let d = c.args.d in
-    let next = drop_next (shared_tables d) l.place (rw tables_length (omega arith)) in
-    (omega arith, rw c.shared_value.ensures (written_one _ _ (rw next at l.invariant.1) (omega (arith, l.invariant.1.same))))
+    elim c.if-not-is_shared.branch [
+      | then-not-is_shared w ↦ rw w.value-items-is (cleared _ _ _ (omega arith) (sym c.is_shared.ensures ∙ w.if-not-is_shared.true) c.loop-place.invariant)
+      | else-not-is_shared w ↦ rw w.value-items-is (kept _ _ _ (sym c.is_shared.ensures ∙ w.if-not-is_shared.false) c.loop-place.invariant)
+    ]
 
 pub returns : goal.returns
-returns c =
-    let l = c.loop-place in
-    let d = c.args.d in
-    let all = (written_all l.invariant.1 (drop_of_length-le (shared_tables d) {i = l.place} (rw tables_length (omega arith)))).1 in
-    all ∙ rw (drop_of_length-le {A = ℕ} (replicate district_places 0) {i = length (shared_tables d)} (rw tables_length (omega arith))) (append-nil (shared_tables d))
+returns c = cleared_all _ _ _ (omega arith) (omega arith) c.loop-place.invariant
