@@ -48,6 +48,7 @@ impl Draft {
 }
 
 // The sums after segment i goes from x to a.
+#[tactic(auto, unfolding(crate::specs::Moves::moved))]
 fn move_sums(resources: usize, uses: UsageTable<'_>, sums: &mut [u64], i: usize, x: usize, a: usize)
     requires { Movable resources uses.entries.now sums.old i x a }
     ensures { (r : ℕ) → 1 ≤ r → r ≤ resources → moved uses.entry.entries.now sums.old sums.new i x a r }

