@@ -1,13 +1,13 @@
 -- Pruning over arrays: segment by segment, and what a programme keeps in it.
-use Prim.Native.Nat.{ℕ, zero, suc, ◌+◌, ◌-◌, ◌≤◌}
+use Prim.Native.Nat.{ℕ, zero, suc, ◌+◌, ◌-◌, ◌≤◌, ◌<◌}
 use mathlib.Core.Path.{◌≡◌, refl, ap, sym, ◌∙◌}
 use mathlib.Core.Bool.{Bool, true, false, ◌||◌, or-true, true≢false}
 use mathlib.Core.List.{List, []}
 use native.Mathlib.Numerals.{add-one}
 use native.Mathlib.Omega.{arith}
-use borrow.Author.Tests.{eq-eqb, eqb-true}
+use borrow.Author.Tests.{eq-eqb, ne_eqb, eqb-true}
 use lib.Dec.{eqb}
-use lib.ListN.{get_or}
+use lib.ListN.{get_or, set}
 use lib.Seq.{set-get_or}
 use Rattle.base.specs.Choice.{pick}
 use Rattle.rules.specs.Table.{Table}
@@ -25,27 +25,31 @@ module _ (leader : ℕ → ℕ) where
 
   -- a turn: e is what the first n segments leave
   module _ (n : ℕ) (c : List ℕ) {e : List ℕ} (is : e ≡ pruned leader n c) where
-    pub pruned_kept : heeds leader (strategy_at e) (n + 1) ≡ true → e ≡ pruned leader (n + 1) c
-    unfolding pruned heeds
-    pruned_kept ok = rw (add-one, ← is) (go (led leader (strategy_at e) (suc n)) (eqb (strategy_at e (suc n)) 0) refl (rw add-one at ok))
-      where
-        go : (x y : Bool) → eqb (strategy_at e (suc n)) 0 ≡ y → (y || x) ≡ true → e ≡ pick x e (give e (suc n) 0)
-        go true y q ok = refl
-        go false true q ok = sym (ap (give e (suc n)) (sym (eqb-true (strategy_at e (suc n)) 0 q)) ∙ set-get_or e (suc n - 1) 0)
-        go false false q ok = absurd (true≢false (sym ok))
+    -- segment n + 1 may have what it has, or may not, or has nothing
+    pub pruned_led : led leader (strategy_at e) (n + 1) ≡ true → e ≡ pruned leader (n + 1) c
+    unfolding pruned
+    pruned_led ok = let here = rw add-one at ok in rw (add-one, ← is, here)
 
-    pub pruned_lost : heeds leader (strategy_at e) (n + 1) ≡ false → give e (n + 1) 0 ≡ pruned leader (n + 1) c
-    unfolding pruned heeds
-    pruned_lost fails = rw (add-one, ← is) (go (led leader (strategy_at e) (suc n)) (eqb (strategy_at e (suc n)) 0) (rw add-one at fails))
+    pub pruned_unled : led leader (strategy_at e) (n + 1) ≡ false → set e n 0 ≡ pruned leader (n + 1) c
+    unfolding pruned
+    pruned_unled fails =
+        let here = rw add-one at fails in
+        let at : suc n - 1 ≡ n = omega arith in
+        rw (add-one, ← is, here, at)
+
+    pub pruned_nothing : get_or e n 0 ≤ 0 → e ≡ pruned leader (n + 1) c
+    pruned_nothing none = go (led leader (strategy_at e) (n + 1)) refl
       where
-        go : (x y : Bool) → (y || x) ≡ false → give e (suc n) 0 ≡ pick x e (give e (suc n) 0)
-        go false y fails = refl
-        go true y fails = absurd (true≢false (sym (or-true y) ∙ fails))
+        go : (x : Bool) → led leader (strategy_at e) (n + 1) ≡ x → e ≡ pruned leader (n + 1) c
+        go true ok = pruned_led ok
+        go false fails =
+            let nothing : get_or e n 0 ≡ 0 = omega arith in
+            sym (rw nothing at (set-get_or e n 0)) ∙ pruned_unled fails
 
   -- a segment without a leader keeps what it has
   free_kept : (n : ℕ) (c : List ℕ) → leader (n + 1) ≡ 0 → pruned leader n c ≡ pruned leader (n + 1) c
-  unfolding heeds led
-  free_kept n c free = pruned_kept n c refl (rw (eq-eqb (leader (n + 1)) 0 free) (or-true (eqb (strategy_at (pruned leader n c) (n + 1)) 0)))
+  unfolding led
+  free_kept n c free = pruned_led n c refl (rw (eq-eqb (leader (n + 1)) 0 free))
 
 -- ---- up to the last segment that has a leader
 

@@ -1,26 +1,29 @@
 -- Shares, surpluses and pulls that arrays hold, and the weakest segment by them.
-use Prim.Native.Nat.{ℕ, ◌+◌, ◌-◌, ◌*◌, ◌/◌, ◌≤◌, ◌<◌}
+use Prim.Native.Nat.{ℕ, zero, suc, ◌+◌, ◌-◌, ◌*◌, ◌/◌, ◌^◌, ◌≤◌, ◌<◌}
 use mathlib.Core.Path.{◌≡◌, refl, ap, sym, ◌∙◌}
 use mathlib.Core.Bool.{true, false}
 use mathlib.Core.List.{List, []}
-use native.Mathlib.Nat.{zero-div, mul-le-mul}
+use Rattle.std.specs.Prelude.{Option, None, Some}
+use Rattle.std.specs.Option.{option_map}
+use native.Mathlib.Nat.{mul-le-mul}
 use native.Mathlib.Omega.{arith}
 use borrow.Author.Tests.{lt-ltb, le-ltb, le-leb, lt-leb}
-use lib.ListN.{get_or, length, take, drop}
-use lib.Seq.{get_or-take, get_or-drop}
+use lib.ListN.{get_or, length, take, length-take}
+use lib.Seq.{get_or-take}
 use Rattle.base.specs.Over.{sum, best}
+use Rattle.base.proofs.Choice.{pick_all}
 use Rattle.base.proofs.Sums.{sum_next, sum_part, sum_bound, sum_cong}
 use Rattle.base.proofs.All.{all_true, all_fails}
 use Rattle.base.proofs.Best.{best_next, better_passed, better_first, better_taken, better_worse}
-use Rattle.rules.specs.District.{most_resources}
+use Rattle.rules.specs.District.{most_segments, most_strategies, most_resources}
 use Rattle.rules.specs.Table.{Table}
-use Rattle.rules.specs.Phases.{strategy_at, give, chosen_benefit, used, holds, within, chosen_share, surplus, pull_by, pull, pulls, ratio, lesser_ratio, weakest}
+use Rattle.rules.specs.Phases.{strategy_at, give, chosen_benefit, chosen_usage, used, holds, within, chosen_share, surplus, pull_by, pull, pulls, ratio, lesser_ratio, weakest}
 use Rattle.laws.proofs.Give.{given, sum_give}
 use Rattle.tables.specs.declared.Size.{Size}
-use Rattle.tables.specs.Arrays.{entry, benefit_at, limit_at, tables, Chosen, Cell, Running}
-use Rattle.tables.proofs.Arrays.{limit_at_lem, cell_of}
-use Rattle.phase1.specs.declared.Weak.{Weak}
-use Rattle.phase1.specs.Reduce.{share_at, ShareSums, ShareMove, held_share, row_pull, held_pull, Shares, Measured, Surplus, Surpluses, weak_at, weaker_of}
+use Rattle.tables.specs.Arrays.{columns, entry, use_entry, limit_at, tables, Uses, Bounded, Chosen, Cell, Running}
+use Rattle.tables.proofs.Arrays.{limit_at_lem, usage_at_lem, cell_of}
+use Rattle.phase1.specs.declared.weighed.Weak.{Weak}
+use Rattle.phase1.specs.Reduce.{share_at, ShareSums, ShareMove, held_share, row_pull, Shares, Summable, Measured, Surpluses, segment_in, weak_at, weaker_of, IsWeaker}
 
 -- a turn adds a resource's part of the pull, which is 0 where there is no surplus
 module _ (row over : List ℕ) (r : ℕ) {so_far : ℕ} (is : so_far ≡ sum r (row_pull row over)) where
@@ -35,17 +38,6 @@ module _ (row over : List ℕ) (r : ℕ) {so_far : ℕ} (is : so_far ≡ sum r (
       let same = rw none at pull_turn in
       omega arith
 
--- an entry of a row
-pub row_at : (s : List ℕ) (at n r : ℕ) → r < n → get_or (take n (drop at s)) r 0 ≡ get_or s (at + r) 0
-row_at s at n r h = get_or-take n (drop at s) r 0 h ∙ get_or-drop at s r 0
-
--- the row of segment i's strategy
-pub row_pull_lem : (s c over : List ℕ) (i n m : ℕ) → n ≡ most_resources → m ≤ most_resources
-    → sum m (row_pull (take n (drop (most_resources * entry i (strategy_at c i)) s)) over) ≡ sum m (held_pull s c over i)
-row_pull_lem s c over i n m e few =
-    sum_cong m (row_pull (take n (drop (most_resources * entry i (strategy_at c i)) s)) over) (held_pull s c over i)
-    (λ r low high. ap (λ (v : ℕ). v * get_or over (r - 1) 0) (row_at s (most_resources * entry i (strategy_at c i)) n (r - 1) (omega arith)))
-
 -- ---- bounds
 
 module _ {z : Size} {s c : List ℕ} (measured : Measured z s c) where
@@ -56,12 +48,56 @@ module _ {z : Size} {s c : List ℕ} (measured : Measured z s c) where
   shares_le r lr hr n h =
       omega (arith, sum_bound n 10_000 (held_share s c r) (λ i li hi. measured.small i r li (omega arith) lr hr), measured.bounded.segments)
 
+  pub measured_summable : Summable z s c
+  measured_summable = record { bounded = measured.bounded; chosen = measured.chosen; places = measured.places; small = λ i r li hi lr hr. omega (arith, measured.small i r li hi lr hr) }
+
 pub pull_le : (row over : List ℕ) (m : ℕ) → m ≤ most_resources → ((r : ℕ) → 1 ≤ r → r ≤ m → get_or row (r - 1) 0 ≤ 10_000) → ((r : ℕ) → 1 ≤ r → r ≤ m → get_or over (r - 1) 0 ≤ 640_000)
     → (n : ℕ) → n ≤ m → sum n (row_pull row over) ≤ 102_400_000_000
 pull_le row over m few small surplus-small n h =
     let each = sum_bound n 6_400_000_000 (row_pull row over)
     (λ r lr hr. mul-le-mul {n₁ = get_or row (r - 1) 0} {m₁ = get_or over (r - 1) 0} {n₂ = 10_000} {m₂ = 640_000} (small r lr (omega arith)) (surplus-small r lr (omega arith))) in
     omega arith
+
+-- ---- sums of uses
+
+module _ {z : Size} {u c : List ℕ} (bounded : Bounded z) (uses : Uses u) (chosen : Chosen z c) where
+  pub uses_summable : Summable z u c
+  uses_summable = record { bounded = bounded; chosen = chosen; places = uses.places; small = λ i r li hi lr hr. omega (arith, uses.small (use_entry i (strategy_at c i) r)) }
+
+  pub uses_running : {sums : List ℕ} → length sums ≡ most_resources → ShareSums z u c sums → Running z u c sums
+  unfolding used chosen_usage
+  uses_running long are =
+      record {
+        bounded = bounded;
+        uses = uses;
+        chosen = chosen;
+        sums_length = long;
+        sums_are = λ b l r lr hr.
+            are.each r lr hr
+            ∙ sum_cong z.segments (held_share u c r) (chosen_usage (tables z b u l) c r)
+            (λ i li hi. usage_at_lem uses i (strategy_at c i) r (cell_of bounded i (strategy_at c i) li hi (chosen.numbers i)) lr (omega (arith, bounded.resources)));
+      }
+
+pub summable_le : {z : Size} {s c : List ℕ} → Summable z s c → (r : ℕ) → 1 ≤ r → r ≤ z.resources → (n : ℕ) → n ≤ z.segments → sum n (held_share s c r) ≤ 2 ^ 47
+summable_le {z} {s} {c} summable r lr hr n h =
+    omega (arith, sum_bound n (2 ^ 41) (held_share s c r) (λ i li hi. summable.small i r li (omega arith) lr hr), summable.bounded.segments)
+
+-- the strategies of the first segments, one after another
+module _ {z : Size} {s c : List ℕ} (summable : Summable z s c) where
+  pub first_all : length (take z.segments c) ≡ z.segments
+  first_all = omega (arith, length-take z.segments c, summable.bounded.segments, summable.chosen.places)
+
+  module _ (i : ℕ) (h : i < length (take z.segments c)) where
+    first_is : get_or (take z.segments c) i 0 ≡ strategy_at c (i + 1)
+    first_is = let here : i ≡ i + 1 - 1 = omega arith in get_or-take z.segments c i 0 (omega (arith, first_all)) ∙ ap (λ (k : ℕ). get_or c k 0) here
+
+    pub first_le : (i < most_segments) × (get_or (take z.segments c) i 0 ≤ most_strategies)
+    first_le = (omega (arith, first_all, summable.bounded.segments), omega (arith, first_is, summable.chosen.numbers (i + 1), summable.bounded.strategies))
+
+    pub first_share : (r : ℕ) → get_or s (most_resources * (columns * i + get_or (take z.segments c) i 0) + (r - 1)) 0 ≡ held_share s c r (i + 1)
+    first_share r =
+        let here : i ≡ i + 1 - 1 = omega arith in
+        rw first_is (ap (λ (k : ℕ). get_or s (most_resources * (columns * k + strategy_at c (i + 1)) + (r - 1)) 0) here)
 
 -- ---- what arrays of shares and surpluses say of a table
 
@@ -73,10 +109,14 @@ module _ {z : Size} {b u l s : List ℕ} (shares : Shares z b u l s) {c : List �
   pub chosen_shares_are : (r : ℕ) → 1 ≤ r → r ≤ z.resources → sum z.segments (held_share s c r) ≡ sum z.segments (chosen_share (tables z b u l) c r)
   chosen_shares_are r lr hr = sum_cong z.segments (held_share s c r) (chosen_share (tables z b u l) c r) (λ i li hi. share_is i r li hi lr hr)
 
-  pub pull_sum : {over : List ℕ} → Surpluses z b u l c over → (i : ℕ) → 1 ≤ i → i ≤ z.segments → {v : ℕ} → v ≡ sum z.resources (held_pull s c over i) → v ≡ pull (tables z b u l) c i
+  -- a row of shares gives a segment's pull
+  pub pull_sum : {over : List ℕ} (row : List ℕ) → Surpluses (tables z b u l) c over → (i : ℕ) → 1 ≤ i → i ≤ z.segments → z.resources ≤ most_resources
+      → ((r : ℕ) → 1 ≤ r → r ≤ most_resources → get_or row (r - 1) 0 ≡ share_at s i (strategy_at c i) r)
+      → {v : ℕ} → v ≡ sum z.resources (row_pull row over) → v ≡ pull (tables z b u l) c i
   unfolding pull pull_by
-  pull_sum {over} is i li hi e =
-      e ∙ sum_cong z.resources (held_pull s c over i) (pull_by (tables z b u l) c i) (λ r lr hr. rw (share_is i r li hi lr hr, is.surplus_is r lr hr))
+  pull_sum {over} row is i li hi few at e =
+      e ∙ sum_cong z.resources (row_pull row over) (pull_by (tables z b u l) c i)
+      (λ r lr hr. rw (at r lr (omega arith), share_is i r li hi lr hr, is.surplus_is r lr hr))
 
 -- ---- the limits, by the running sums
 
@@ -111,16 +151,18 @@ module _ {z : Size} {u c sums : List ℕ} (running : Running z u c sums) (b l : 
 
 -- ---- a surplus: 0 where the limit holds, else what the shares are beyond 10,000
 
-module _ {z : Size} {l s c sums : List ℕ} (measured : Measured z s c) (r : ℕ) (lr : 1 ≤ r) (hr : r ≤ z.resources) where
-  pub no_surplus : get_or sums (r - 1) 0 ≤ get_or l (r - 1) 0 → Surplus z l s c sums r 0
-  no_surplus h = record { small = omega arith; is = λ b u shares running. sym (surplus_none running b l r lr hr h) }
+module _ {z : Size} {b u l s c : List ℕ} (shares : Shares z b u l s) (measured : Measured z s c) (r : ℕ) (lr : 1 ≤ r) (hr : r ≤ z.resources) where
+  pub no_surplus : {sums : List ℕ} → Running z u c sums → get_or sums (r - 1) 0 ≤ get_or l (r - 1) 0 → 0 ≡ surplus (tables z b u l) c r
+  no_surplus running h = sym (surplus_none running b l r lr hr h)
 
-  pub some_surplus : get_or l (r - 1) 0 < get_or sums (r - 1) 0 → {all v : ℕ} → all ≡ sum z.segments (held_share s c r) → v ≡ all - 10_000 → Surplus z l s c sums r v
-  some_surplus h sums-up e =
-      record {
-        small = omega (arith, shares_le measured r lr hr z.segments (omega arith));
-        is = λ b u shares running. omega (arith, surplus_some running b l r lr hr h, chosen_shares_are shares measured.chosen r lr hr);
-      }
+  pub some_surplus : {sums : List ℕ} → Running z u c sums → get_or l (r - 1) 0 < get_or sums (r - 1) 0 → {all v : ℕ} → all ≡ sum z.segments (held_share s c r) → v ≡ all - 10_000 → v ≡ surplus (tables z b u l) c r
+  some_surplus running h sums-up e = omega (arith, surplus_some running b l r lr hr h, chosen_shares_are shares measured.chosen r lr hr)
+
+  pub surplus_le : surplus (tables z b u l) c r ≤ 640_000
+  unfolding surplus
+  surplus_le =
+      pick_all (λ (n : ℕ). n ≤ 640_000) (holds (tables z b u l) c r) 0 (sum z.segments (chosen_share (tables z b u l) c r) - 10_000) (omega arith)
+      (omega (arith, shares_le measured r lr hr z.segments (omega arith), chosen_shares_are shares measured.chosen r lr hr))
 
 -- ---- the sums of shares, step by step
 
@@ -144,55 +186,70 @@ module _ {z : Size} {s c held : List ℕ} (measured : Measured z s c) (are : Sha
 
 -- ---- the weaker of two: w stands for segment k, and segment i is compared with it
 
-module _ (t : Table) (c : List ℕ) (k i : ℕ) {w : Weak} (is : w ≡ weak_at t c k) where
-  segment_is : w.segment ≡ k
-  segment_is = ap (λ (x : Weak). x.segment) is
+module _ (t : Table) (c : List ℕ) where
+  weak_some : (i : ℕ) → 1 ≤ i → weak_at t c i ≡ Some (record { segment = i; ratio = ratio t c i })
+  weak_some zero l = absurd (omega arith)
+  weak_some (suc i) l = refl
 
-  ratio_is : w.ratio ≡ ratio t c k
-  ratio_is = ap (λ (x : Weak). x.ratio) is
+  weak_none : (k : ℕ) → None ≡ weak_at t c k → k ≡ 0
+  weak_none zero e = refl
+  weak_none (suc k) e = cc
 
-  pub weak_idle : {p : ℕ} → p ≡ pull t c i → p ≡ 0 → w ≡ weak_at t c (weaker_of t c k i)
-  unfolding pulls
-  weak_idle e z = is ∙ ap (weak_at t c) (sym (better_passed (pulls t c) (lesser_ratio t c) k i (le-ltb 0 (pull t c i) (omega arith))))
+  weak_ratio : (k : ℕ) {w : Weak} → Some w ≡ weak_at t c k → (1 ≤ k) × (w.ratio ≡ ratio t c k)
+  weak_ratio zero e = cc
+  weak_ratio (suc k) {w} e =
+      let same : w ≡ record { segment = suc k; ratio = ratio t c (suc k) } = cc in
+      (omega arith, ap (λ (x : Weak). x.ratio) same)
 
-  -- where it pulls, with the ratio x
-  module _ {x v p : ℕ} (divided : x ≡ v * 1_000_000 / p) (worth : v ≡ chosen_benefit t c i) (pulled : p ≡ pull t c i) (some : p ≡ 0 → ⊥) where
-    made : x ≡ ratio t c i
-    unfolding ratio
-    made = divided ∙ rw (worth, pulled)
-
-    passes : pulls t c i ≡ true
+  module _ (i : ℕ) (low : 1 ≤ i) {p : ℕ} (pulled : p ≡ pull t c i) where
+    pub weak_idle : {w : Option Weak} → p ≡ 0 → IsWeaker t c i w w
     unfolding pulls
-    passes = lt-ltb 0 (pull t c i) (omega arith)
+    weak_idle z k is = is ∙ ap (weak_at t c) (sym (better_passed (pulls t c) (lesser_ratio t c) k i (le-ltb 0 (pull t c i) (omega arith))))
 
-    step_in : weaker_of t c k i ≡ i → ◌≡◌ {A = Weak} (record { segment = i; ratio = x }) (weak_at t c (weaker_of t c k i))
-    step_in e = rw (e, made)
+    -- where it pulls, with the ratio x
+    module _ {x v : ℕ} (divided : x ≡ v * 1_000_000 / p) (worth : v ≡ chosen_benefit t c i) (some : p ≡ 0 → ⊥) where
+      made : x ≡ ratio t c i
+      unfolding ratio
+      made = divided ∙ rw (worth, pulled)
 
-    pub weak_first : w.segment ≡ 0 → ◌≡◌ {A = Weak} (record { segment = i; ratio = x }) (weak_at t c (weaker_of t c k i))
-    weak_first z = step_in (better_first (pulls t c) (lesser_ratio t c) k i passes (sym segment_is ∙ z))
+      passes : pulls t c i ≡ true
+      unfolding pulls
+      passes = lt-ltb 0 (pull t c i) (omega arith)
 
-    pub weak_taken : (w.segment ≡ 0 → ⊥) → x < w.ratio → ◌≡◌ {A = Weak} (record { segment = i; ratio = x }) (weak_at t c (weaker_of t c k i))
-    unfolding lesser_ratio
-    weak_taken ne h =
-        step_in (better_taken (pulls t c) (lesser_ratio t c) k i passes (omega (arith, segment_is)) (lt-ltb (ratio t c i) (ratio t c k) (omega (arith, made, ratio_is))))
+      step_in : (k : ℕ) → weaker_of t c k i ≡ i → Some (record { segment = i; ratio = x }) ≡ weak_at t c (weaker_of t c k i)
+      step_in k e = rw (e, made) (sym (weak_some i low))
 
-    pub weak_worse : (w.segment ≡ 0 → ⊥) → w.ratio ≤ x → w ≡ weak_at t c (weaker_of t c k i)
-    unfolding lesser_ratio
-    weak_worse ne h =
-        is ∙ ap (weak_at t c) (sym (better_worse (pulls t c) (lesser_ratio t c) k i passes (omega (arith, segment_is)) (le-ltb (ratio t c i) (ratio t c k) (omega (arith, made, ratio_is)))))
+      pub weak_first : IsWeaker t c i None (Some (record { segment = i; ratio = x }))
+      weak_first k is = step_in k (better_first (pulls t c) (lesser_ratio t c) k i passes (weak_none k is))
+
+      pub weak_taken : {w : Weak} → x < w.ratio → IsWeaker t c i (Some w) (Some (record { segment = i; ratio = x }))
+      unfolding lesser_ratio
+      weak_taken h k is =
+          let old = weak_ratio k is in
+          step_in k (better_taken (pulls t c) (lesser_ratio t c) k i passes old.0 (lt-ltb (ratio t c i) (ratio t c k) (omega (arith, made, old.1))))
+
+      pub weak_worse : {w : Weak} → w.ratio ≤ x → IsWeaker t c i (Some w) (Some w)
+      unfolding lesser_ratio
+      weak_worse h k is =
+          let old = weak_ratio k is in
+          is ∙ ap (weak_at t c) (sym (better_worse (pulls t c) (lesser_ratio t c) k i passes old.0 (le-ltb (ratio t c i) (ratio t c k) (omega (arith, made, old.1)))))
 
 -- the weakest of the first n segments
 abbrev pub weakest_of : Table → List ℕ → ℕ → ℕ
 weakest_of t c n = best n (pulls t c) (lesser_ratio t c)
 
-pub weakest_none : (z : Size) (b u l c : List ℕ) → record { segment = 0; ratio = 0 } ≡ weak_at (tables z b u l) c (weakest_of (tables z b u l) c 0)
-unfolding best ratio chosen_benefit benefit_at
-weakest_none z b u l c = rw (zero-div (pull (tables z b u l) c 0))
+module _ (t : Table) (c : List ℕ) where
+  pub weakest_none : None ≡ weak_at t c (weakest_of t c 0)
+  unfolding best
+  weakest_none = refl
 
-module _ (t : Table) (c : List ℕ) (n : ℕ) {w : Weak} where
-  pub weakest_next : w ≡ weak_at t c (weaker_of t c (weakest_of t c n) (n + 1)) → w ≡ weak_at t c (weakest_of t c (n + 1))
-  weakest_next e = e ∙ ap (weak_at t c) (best_next n (pulls t c) (lesser_ratio t c) refl)
+  pub weakest_next : (n : ℕ) {w : Option Weak} → w ≡ weak_at t c (weaker_of t c (weakest_of t c n) (n + 1)) → w ≡ weak_at t c (weakest_of t c (n + 1))
+  weakest_next n e = e ∙ ap (weak_at t c) (best_next n (pulls t c) (lesser_ratio t c) refl)
 
-  pub weakest_end : w ≡ weak_at t c (weakest_of t c n) → n ≡ t.segments → w.segment ≡ weakest t c
+  segment_of : (k : ℕ) → option_map (λ (w : Weak). w.segment) (weak_at t c k) ≡ segment_in k
+  segment_of zero = refl
+  segment_of (suc k) = refl
+
+  pub weakest_end : (n : ℕ) {w : Option Weak} → w ≡ weak_at t c (weakest_of t c n) → n ≡ t.segments → option_map (λ (w : Weak). w.segment) w ≡ segment_in (weakest t c)
   unfolding weakest
-  weakest_end e q = ap (λ (x : Weak). x.segment) e ∙ ap (weakest_of t c) q
+  weakest_end n e q = ap (option_map (λ (w : Weak). w.segment)) e ∙ segment_of (weakest_of t c n) ∙ ap (λ (m : ℕ). segment_in (weakest_of t c m)) q

@@ -15,8 +15,12 @@ use Rattle.laws.proofs.Leaders.{pruned_gives}
 use Rattle.laws.proofs.Steps.{next_allowed, weakest_le, stepped, step_within, step_nobody, step_some, step_allowed}
 use Rattle.laws.proofs.Shares.{chosen_share_le}
 use Rattle.tables.specs.declared.Size.{Size}
-use Rattle.tables.specs.Arrays.{tables, leader_in, Bounded, Running}
-use Rattle.phase1.specs.Reduce.{Shares, Measured, Held, Fitted, LedWithin}
+use Rattle.tables.specs.declared.view.TableView.{TableView}
+use Rattle.tables.specs.declared.draft.Draft.{Draft}
+use Rattle.tables.specs.Arrays.{tables, leader_in, Bounded}
+use Rattle.tables.specs.Views.{table_in, leaders_in, Drafted}
+use Rattle.phase1.specs.Reduce.{Measured, Held, LedWithin, segment_in}
+use Rattle.phase1.specs.Views.{HeldIn}
 use Rattle.phase1.proofs.Pruning.{gives_chosen}
 
 stepped_down : (t : Table) (leader : ℕ → ℕ) (c : List ℕ) (i : ℕ) → 1 ≤ i → step_down t leader c i ≡ Some (stepped t leader c i)
@@ -47,16 +51,16 @@ held_measured {z} {b} {u} {l} {s} {c} held = gives_measured held c (gives_self (
 
 -- ---- one step: segment i takes its next candidate j, then the first m segments are pruned
 
-module _ {z : Size} {b u s c sums : List ℕ} (fitted : Fitted z b u s c sums) (i : ℕ) (li : 1 ≤ i) (hi : i ≤ z.segments) {j : ℕ}
-    (next : (u l : List ℕ) → j ≡ next_candidate (tables z b u l) i (strategy_at c i)) where
+module _ {z : Size} {b u l s c sums : List ℕ} (held : Held z b u l s c sums) (i : ℕ) (li : 1 ≤ i) (hi : i ≤ z.segments) {j : ℕ}
+    (next : j ≡ next_candidate (tables z b u l) i (strategy_at c i)) where
   abbrev limited : Table
-  limited = tables z b u fitted.limits
+  limited = tables z b u l
 
   next_gives : Gives limited c (give c i j)
-  next_gives = give_gives limited c i j li hi (rw (next u fitted.limits) (next_allowed limited i (strategy_at c i)))
+  next_gives = give_gives limited c i j li hi (rw next (next_allowed limited i (strategy_at c i)))
 
   pub next_measured : Measured z s (give c i j)
-  next_measured = gives_measured fitted.held (give c i j) next_gives
+  next_measured = gives_measured held (give c i j) next_gives
 
   module _ {ls : List ℕ} {m : ℕ} (led : LedWithin ls z.segments m) {e d : List ℕ} (moved : e ≡ give c i j) (pruned-to : d ≡ pruned (leader_in ls) m e) where
     after : d ≡ pruned (leader_in ls) m (give c i j)
@@ -65,77 +69,83 @@ module _ {z : Size} {b u s c sums : List ℕ} (fitted : Fitted z b u s c sums) (
     pub pruned_measured : Measured z s d
     pruned_measured =
         rw after
-        (gives_measured fitted.held (pruned (leader_in ls) m (give c i j))
+        (gives_measured held (pruned (leader_in ls) m (give c i j))
         (gives_then limited c (give c i j) (pruned (leader_in ls) m (give c i j)) next_gives (pruned_gives (leader_in ls) limited m (give c i j) led.few)))
 
-    pub steps_down : (l : List ℕ) → step_down (tables z b u l) (leader_in ls) c i ≡ Some d
-    steps_down l = rw (← next u l, ← led.same (give c i j), ← after) at (stepped_down (tables z b u l) (leader_in ls) c i li)
+    pub steps_down : step_down limited (leader_in ls) c i ≡ Some d
+    steps_down = rw (← next, ← led.same (give c i j), ← after) at (stepped_down limited (leader_in ls) c i li)
 
 -- ---- all the steps
 
-pub record Down (z : Size) (ls b u l s c₀ c sums : List ℕ) (m : ℕ) : Type 0 where
-  pub held : Held z b u l s c sums
-  pub reached : Reached (step (tables z b u l) (leader_in ls)) (z.segments * z.strategies) c₀ c m
+abbrev pub most_steps : TableView → ℕ
+most_steps t = t.size.segments * t.size.strategies
 
-pub down_start : {z : Size} (ls : List ℕ) {b u l s c sums : List ℕ} → Held z b u l s c sums → Down z ls b u l s c c sums 0
-down_start {z} ls {b} {u} {l} {s} {c} h =
-    record { held = h; reached = reached_start (step (tables z b u l) (leader_in ls)) (z.segments * z.strategies) c }
+pub record Down (t : TableView) (s c₀ : List ℕ) (d : Draft) (m : ℕ) : Type 0 where
+  pub held : HeldIn t s d
+  pub reached : Reached (step (table_in t) (leaders_in t)) (most_steps t) c₀ d.choice m
 
-module _ {z : Size} {ls b u l s c₀ c sums : List ℕ} {m : ℕ} (down : Down z ls b u l s c₀ c sums m) where
-  abbrev t : Table
-  t = tables z b u l
+pub down_start : (t : TableView) {s : List ℕ} {d : Draft} → HeldIn t s d → Down t s d.choice d 0
+down_start t {s} {d} h = record { held = h; reached = reached_start (step (table_in t) (leaders_in t)) (most_steps t) d.choice }
+
+module _ {t : TableView} {s c₀ : List ℕ} {d : Draft} {m : ℕ} (down : Down t s c₀ d m) where
+  abbrev table : Table
+  table = table_in t
 
   abbrev leader : ℕ → ℕ
-  leader = leader_in ls
+  leader = leaders_in t
 
   -- what reduce ensures of where it stops
   abbrev Done : Type 0
-  Done = Running z u c sums × ((c ≡ (phase1 t leader c₀).last) × (m ≡ (phase1 t leader c₀).count))
+  Done = Drafted t d × ((d.choice ≡ (phase1 table leader c₀).last) × (m ≡ (phase1 table leader c₀).count))
 
-  done : ((phase1 t leader c₀).last ≡ c) × ((phase1 t leader c₀).count ≡ m) → Done
+  done : ((phase1 table leader c₀).last ≡ d.choice) × ((phase1 table leader c₀).count ≡ m) → Done
   done e = (down.held.running, (sym e.0, sym e.1))
 
-  stop : step t leader c ≡ None → Done
+  stop : step table leader d.choice ≡ None → Done
   unfolding phase1
-  stop e = done (reached_end (step t leader) (z.segments * z.strategies) c₀ c m down.reached e)
+  stop e = done (reached_end (step table leader) (most_steps t) c₀ d.choice m down.reached e)
 
-  pub down_spent : z.segments * z.strategies ≤ m → Done
+  pub down_spent : most_steps t ≤ m → Done
   unfolding phase1
-  down_spent h = done (reached_spent (step t leader) (z.segments * z.strategies) c₀ c m down.reached h)
+  down_spent h = done (reached_spent (step table leader) (most_steps t) c₀ d.choice m down.reached h)
 
-  -- what the test of the limits gave
-  module _ {ok : Bool} (tested : (b u c : List ℕ) → Running z u c sums → ok ≡ within (tables z b u l) c) where
-    is_within : {v : Bool} → ok ≡ v → within t c ≡ v
-    is_within h = sym (tested b u c down.held.running) ∙ h
+  pub down_within : true ≡ within table d.choice → Done
+  down_within h = stop (step_within table leader d.choice (sym h))
 
-    pub down_within : ok ≡ true → Done
-    down_within h = stop (step_within t leader c (is_within h))
+  -- where some limit does not hold
+  module _ (over : false ≡ within table d.choice) where
+    pub down_nobody : 0 ≡ weakest table d.choice → Done
+    down_nobody e = stop (step_nobody table leader d.choice (sym over) (sym e))
 
-    -- where some limit does not hold: what the search for the weakest segment gave
-    module _ (over : ok ≡ false) {i : ℕ} (found : (u : List ℕ) → Shares z b u l s → Running z u c sums → i ≡ weakest (tables z b u l) c) where
-      is : i ≡ weakest t c
-      is = found u down.held.shares down.held.running
+    -- segment i is the weakest, and steps
+    pub down_next : {i : ℕ} → i ≡ weakest table d.choice → 1 ≤ i → m < most_steps t → {e : Draft} → step_down table leader d.choice i ≡ Some e.choice → Drafted t e
+        → Down t s c₀ e (m + 1)
+    down_next {i} is low h {e} to running =
+        let some-step : step table leader d.choice ≡ Some e.choice =
+        step_some table leader d.choice (sym over) i (sym is) low ∙ sym (stepped_down table leader d.choice i low) ∙ to in
+        record {
+          held = record {
+            benefits = down.held.benefits;
+            limits = down.held.limits;
+            running = running;
+            fit = down.held.fit;
+            shares = down.held.shares;
+            candidates = step_allowed table leader d.choice e.choice some-step down.held.candidates;
+          };
+          reached = reached_next (step table leader) (most_steps t) c₀ d.choice e.choice m down.reached h some-step;
+        }
 
-      pub down_nobody : i ≡ 0 → Done
-      down_nobody e = stop (step_nobody t leader c (is_within over) (sym is ∙ e))
+-- the segment that the search for the weakest found
+pub found : (t : Table) (c : List ℕ) {i : ℕ} → Some i ≡ segment_in (weakest t c) → (i ≡ weakest t c) × ((1 ≤ i) × (i ≤ t.segments))
+found t c {i} e = go (weakest t c) (weakest_le t c) e
+  where
+    go : (n : ℕ) → n ≤ t.segments → Some i ≡ segment_in n → (i ≡ n) × ((1 ≤ i) × (i ≤ t.segments))
+    go zero h e = cc
+    go (suc n) h e = let is : i ≡ suc n = cc in (is, (omega arith, omega arith))
 
-      pub weakest_inside : i ≤ z.segments
-      weakest_inside = rw is (weakest_le t c)
-
-      -- the weakest segment steps
-      pub down_next : (i ≡ 0 → ⊥) → m < z.segments * z.strategies → {d sums₂ : List ℕ} → ((l : List ℕ) → step_down (tables z b u l) leader c i ≡ Some d)
-          → Running z u d sums₂ → Down z ls b u l s c₀ d sums₂ (m + 1)
-      down_next ne h {d} to running =
-          let some-step : step t leader c ≡ Some d =
-          step_some t leader c (is_within over) i (sym is) (omega arith) ∙ sym (stepped_down t leader c i (omega arith)) ∙ to l in
-          record {
-            held = record {
-              benefits = down.held.benefits;
-              limits = down.held.limits;
-              running = running;
-              fit = down.held.fit;
-              shares = down.held.shares;
-              candidates = step_allowed t leader c d some-step down.held.candidates;
-            };
-            reached = reached_next (step t leader) (z.segments * z.strategies) c₀ c d m down.reached h some-step;
-          }
+pub found_nobody : (t : Table) (c : List ℕ) → None ≡ segment_in (weakest t c) → 0 ≡ weakest t c
+found_nobody t c e = go (weakest t c) e
+  where
+    go : (n : ℕ) → None ≡ segment_in n → 0 ≡ n
+    go zero e = refl
+    go (suc n) e = cc

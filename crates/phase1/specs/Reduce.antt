@@ -1,25 +1,23 @@
 -- What the steps of phase 1 read and keep: shares at the places of uses, surpluses, and the weakest segment so far.
-use Rattle.std.specs.Prelude.{ℕ, ◌-◌, ◌*◌, ◌≤◌, ◌≡◌, List, Bool, ◌&&◌, ◌||◌, eqb, ltb, get_or, length}
+use Rattle.std.specs.Prelude.{ℕ, zero, suc, ◌-◌, ◌*◌, ◌^◌, ◌≤◌, ◌≡◌, List, Bool, ◌&&◌, ◌||◌, eqb, ltb, get_or, length}
+use Rattle.std.specs.Prelude.{Option, None, Some}
 use Rattle.base.specs.Over.{sum, better_of}
 use Rattle.rules.specs.Table.{Table}
 use Rattle.rules.specs.Phases.{strategy_at, pruned, share, surplus, pulls, ratio, lesser_ratio}
 use Rattle.laws.specs.Tables.{FitAlone, OfCandidates}
 use Rattle.tables.specs.declared.Size.{Size}
 use Rattle.tables.specs.Arrays.{use_entry, tables, leader_in, Benefits, Limits, Bounded, Chosen, Running, use_entries}
-use Rattle.phase1.specs.declared.Weak.{Weak}
+use Rattle.phase1.specs.declared.weighed.Weak.{Weak}
 
 -- what an array at the places of uses holds for resource r of strategy j on segment i
 abbrev pub share_at : List ℕ → ℕ → ℕ → ℕ → ℕ
 share_at s i j r = get_or s (use_entry i j r) 0
 
--- by such an array, the share of segment i's strategy in resource r, and by an array of surpluses what it adds to the pull
+-- and what it holds for resource r of segment i's strategy
 abbrev pub held_share : List ℕ → List ℕ → ℕ → ℕ → ℕ
 held_share s c r i = share_at s i (strategy_at c i) r
 
-abbrev pub held_pull : List ℕ → List ℕ → List ℕ → ℕ → ℕ → ℕ
-held_pull s c over i r = held_share s c r i * get_or over (r - 1) 0
-
--- the same by a row of shares, one for each resource
+-- by a row of shares and an array of surpluses, one for each resource, what resource r adds to the pull
 abbrev pub row_pull : List ℕ → List ℕ → ℕ → ℕ
 row_pull row over r = get_or row (r - 1) 0 * get_or over (r - 1) 0
 
@@ -30,7 +28,14 @@ pub record Shares (z : Size) (b u l s : List ℕ) : Type 0 where
       (i j r : ℕ) → 1 ≤ i → i ≤ z.segments → j ≤ z.strategies → 1 ≤ r → r ≤ z.resources
       → share_at s i j r ≡ share (tables z b u l) i j r
 
--- a programme with its shares, none above the whole limit, so that no sum of them wraps
+-- a programme with what such an array holds of it, none of it so much that a sum wraps
+pub record Summable (z : Size) (s c : List ℕ) : Type 0 where
+  pub bounded : Bounded z
+  pub chosen : Chosen z c
+  pub places : length s ≡ use_entries
+  pub small : (i r : ℕ) → 1 ≤ i → i ≤ z.segments → 1 ≤ r → r ≤ z.resources → held_share s c r i ≤ 2 ^ 41
+
+-- a programme with its shares, none above the whole limit
 pub record Measured (z : Size) (s c : List ℕ) : Type 0 where
   pub bounded : Bounded z
   pub chosen : Chosen z c
@@ -45,11 +50,6 @@ pub record Held (z : Size) (b u l s c sums : List ℕ) : Type 0 where
   pub fit : FitAlone (tables z b u l)
   pub shares : Shares z b u l s
   pub candidates : OfCandidates (tables z b u l) c
-
--- the same, whatever the limits are
-pub record Fitted (z : Size) (b u s c sums : List ℕ) : Type 0 where
-  pub limits : List ℕ
-  pub held : Held z b u limits s c sums
 
 -- of n segments the first m have all the leaders, so that pruning can stop there
 pub record LedWithin (ls : List ℕ) (n m : ℕ) : Type 0 where
@@ -66,27 +66,28 @@ pub record ShareMove (s held : List ℕ) (i x a r : ℕ) : Type 0 where
   pub few : get_or held (r - 1) 0 ≤ 640_000
   pub small : share_at s i a r ≤ 10_000
 
--- v is the surplus of resource r in every table with these limits, shares and running sums
-pub record Surplus (z : Size) (l s c sums : List ℕ) (r v : ℕ) : Type 0 where
-  pub small : v ≤ 640_000
-  pub is : (b u : List ℕ) → Shares z b u l s → Running z u c sums → v ≡ surplus (tables z b u l) c r
-
 -- an array of the surpluses, resource by resource
-pub record Surpluses (z : Size) (b u l c over : List ℕ) : Type 0 where
-  pub surplus_is : (r : ℕ) → 1 ≤ r → r ≤ z.resources → get_or over (r - 1) 0 ≡ surplus (tables z b u l) c r
+pub record Surpluses (t : Table) (c over : List ℕ) : Type 0 where
+  pub surplus_is : (r : ℕ) → 1 ≤ r → r ≤ t.resources → get_or over (r - 1) 0 ≡ surplus t c r
 
--- segment i with its ratio; 0 is none
-abbrev pub weak_at : Table → List ℕ → ℕ → Weak
-weak_at t c i = record { segment = i; ratio = ratio t c i }
+-- the segment that a number names; 0 names none
+abbrev pub segment_in : ℕ → Option ℕ
+segment_in zero = None
+segment_in (suc i) = Some (suc i)
+
+-- that segment with its ratio
+abbrev pub weak_at : Table → List ℕ → ℕ → Option Weak
+weak_at t c zero = None
+weak_at t c (suc i) = Some (record { segment = suc i; ratio = ratio t c (suc i) })
 
 -- of segments k and i the one to step: i where it pulls and has the lesser ratio, or there is no k
 abbrev pub weaker_of : Table → List ℕ → ℕ → ℕ → ℕ
 weaker_of t c k i = better_of (pulls t c) (lesser_ratio t c) k i
 
 -- whatever segment w stands for, v stands for the weaker of it and segment i
-abbrev pub IsWeaker : Table → List ℕ → ℕ → Weak → Weak → Type 0
+abbrev pub IsWeaker : Table → List ℕ → ℕ → Option Weak → Option Weak → Type 0
 IsWeaker t c i w v = (k : ℕ) → w ≡ weak_at t c k → v ≡ weak_at t c (weaker_of t c k i)
 
 -- by falling benefit, of value and old, and among equals by number, j comes after a
-unfoldable pub follows : ℕ → ℕ → ℕ → ℕ → Bool
+abbrev pub follows : ℕ → ℕ → ℕ → ℕ → Bool
 follows value old a j = ltb value old || (eqb value old && ltb a j)

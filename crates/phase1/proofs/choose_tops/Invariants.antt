@@ -1,4 +1,4 @@
-use Prim.Native.Nat.{ℕ, ◌-◌, ◌≤◌}
+use Prim.Native.Nat.{ℕ, ◌≤◌}
 use mathlib.Core.Path.{◌≡◌}
 use mathlib.Core.List.{List}
 use lib.ListN.{length}
@@ -8,7 +8,4 @@ use Rattle.tables.specs.Arrays.{tables}
 use Rattle.phase1.proofs.choose_tops.Given as goal
 
 abbrev pub invariant-loop-i : goal.invariant-loop-i
-invariant-loop-i l = (l.i ≤ most_segments) × (length l.choice ≡ most_segments) × ((k : ℕ) → 1 ≤ k → k ≤ l.i → (u m : List ℕ) → strategy_at l.choice k ≡ top_candidate (tables l.z l.benefits u m) k)
-
-abbrev pub decreases-loop-i : goal.decreases-loop-i
-decreases-loop-i l = most_segments - l.i
+invariant-loop-i l = (length l.choice ≡ most_segments) × ((k : ℕ) → 1 ≤ k → k ≤ l.i → (u m : List ℕ) → strategy_at l.choice k ≡ top_candidate (tables l.z l.benefits.entries.now u m) k)

@@ -1,4 +1,3 @@
-use Prim.Native.Nat.{◌-◌, ◌≤◌}
 use mathlib.Core.Path.{◌≡◌}
 use mathlib.Core.Bool.{false}
 use lib.ListN.{length}
@@ -8,7 +7,4 @@ use Rattle.tables.specs.Arrays.{leader_in}
 use Rattle.phase1.proofs.prune.Given as goal
 
 abbrev pub invariant-loop-i : goal.invariant-loop-i
-invariant-loop-i l = (l.i ≤ l.segments) × (length l.choice ≡ most_segments) × (l.choice ≡ pruned (leader_in l.leaders) l.i l.initial.choice) × (l.lost ≡ false → l.choice ≡ l.initial.choice)
-
-abbrev pub decreases-loop-i : goal.decreases-loop-i
-decreases-loop-i l = l.segments - l.i
+invariant-loop-i l = (length l.choice ≡ most_segments) × (l.choice ≡ pruned (leader_in l.leaders.entries.now) l.i l.initial.choice) × (l.lost ≡ false → l.choice ≡ l.initial.choice)

@@ -1,76 +1,47 @@
 -- `phase1::reduce` meets its contract: the steps made and those from here on are all of them.
-use mathlib.Core.Path.{sym, ◌∙◌}
+use Prim.Native.Nat.{◌*◌}
+use mathlib.Core.Path.{◌≡◌, sym, ◌∙◌}
 use native.Mathlib.Omega.{arith}
-use Rattle.phase1.proofs.Reduction.{bound_le, held_measured, down_start, down_within, down_nobody, down_spent, down_next, weakest_inside}
+use Rattle.phase1.proofs.Pulls.{measured_summable}
+use Rattle.phase1.proofs.Reduction.{held_measured, down_start, down_within, down_nobody, down_spent, down_next, found, found_nobody}
 use Rattle.phase1.proofs.reduce.Goals as goal
 
-pub last_led-led-requires : goal.last_led-led-requires
-last_led-led-requires c = let p = c.requires in (p.leaders, p.held.running.bounded.segments)
+pub sums_of-share_sums-requires : goal.sums_of-share_sums-requires
+sums_of-share_sums-requires c = measured_summable (held_measured c.requires)
 
-pub share_sums-held-requires : goal.share_sums-held-requires
-share_sums-held-requires c = held_measured c.requires.held
-
-pub overflow_mul-bound : goal.overflow_mul-bound
-overflow_mul-bound c = omega (arith, bound_le c.requires.held.running.bounded)
-
-pub loop-steps-init : goal.loop-steps-init
-loop-steps-init c = (down_start _ c.requires.held, c.share_sums-held.ensures)
-
-pub limits_hold-requires : goal.limits_hold-requires
-limits_hold-requires c = let h = c.loop-steps.invariant.0.held in (h.running.bounded.resources, h.limits, h.running.sums_length)
-
-pub shape_of-choice-then-limits_hold : goal.shape_of-choice-then-limits_hold
-shape_of-choice-then-limits_hold c = c.loop-steps.invariant.0.held.running.chosen.places ∙ sym c.requires.held.running.chosen.places
-
-pub shape_of-sums-then-limits_hold : goal.shape_of-sums-then-limits_hold
-shape_of-sums-then-limits_hold c = c.loop-steps.invariant.0.held.running.sums_length ∙ sym c.requires.held.running.sums_length
-
-pub returns-then-limits_hold : goal.returns-then-limits_hold
-returns-then-limits_hold c =
-    let done = down_within c.loop-steps.invariant.0 c.limits_hold.ensures c.if-limits_hold.true in
-    record { running = done.0; choice_after = done.1.0; value = done.1.1 }
-
-pub weakest_of-i-requires : goal.weakest_of-i-requires
-weakest_of-i-requires c =
+pub invariant_of-weighed : goal.invariant_of-weighed
+invariant_of-weighed c =
     let l = c.loop-steps.invariant in
     let h = l.0.held in
-    (h.benefits, h.limits, held_measured h, h.running.sums_length, l.1)
+    record { shares_are = h.shares; running = h.running; measured = held_measured h; sums_are = l.1 }
 
-pub shape_of-choice-then-i-eq0 : goal.shape_of-choice-then-i-eq0
-shape_of-choice-then-i-eq0 c = c.loop-steps.invariant.0.held.running.chosen.places ∙ sym c.requires.held.running.chosen.places
+pub returns-then-limits_hold-clause-choice_after : goal.returns-then-limits_hold-clause-choice_after
+returns-then-limits_hold-clause-choice_after c = (down_within c.loop-steps.invariant.0 (sym c.if-limits_hold.true ∙ c.limits_hold.ensures)).1.0
 
-pub shape_of-sums-then-i-eq0 : goal.shape_of-sums-then-i-eq0
-shape_of-sums-then-i-eq0 c = c.loop-steps.invariant.0.held.running.sums_length ∙ sym c.requires.held.running.sums_length
+pub returns-then-limits_hold-clause-value : goal.returns-then-limits_hold-clause-value
+returns-then-limits_hold-clause-value c = (down_within c.loop-steps.invariant.0 (sym c.if-limits_hold.true ∙ c.limits_hold.ensures)).1.1
 
-pub returns-then-i-eq0 : goal.returns-then-i-eq0
-returns-then-i-eq0 c =
-    let done = down_nobody c.loop-steps.invariant.0 c.limits_hold.ensures c.if-limits_hold.false c.weakest_of-i.ensures c.if-i-eq0.true in
-    record { running = done.0; choice_after = done.1.0; value = done.1.1 }
+pub returns-in_default-clause-choice_after : goal.returns-in_default-clause-choice_after
+returns-in_default-clause-choice_after c =
+    (down_nobody c.loop-steps.invariant.0 (sym c.if-limits_hold.false ∙ c.limits_hold.ensures) (found_nobody _ _ (sym c.in_default.is ∙ c.weakest.ensures))).1.0
 
-pub step-stepped-requires : goal.step-stepped-requires
-step-stepped-requires c =
-    let l = c.loop-steps.invariant in
-    let inside = weakest_inside l.0 c.limits_hold.ensures c.if-limits_hold.false c.weakest_of-i.ensures in
-    record { leaders = (c.requires.leaders, c.last_led-led.ensures); fitted = (record { limits = _; held = l.0.held }, l.1); le_i = (omega (arith, c.if-i-eq0.false), inside) }
+pub returns-in_default-clause-value : goal.returns-in_default-clause-value
+returns-in_default-clause-value c =
+    (down_nobody c.loop-steps.invariant.0 (sym c.if-limits_hold.false ∙ c.limits_hold.ensures) (found_nobody _ _ (sym c.in_default.is ∙ c.weakest.ensures))).1.1
 
-pub overflow_add-steps : goal.overflow_add-steps
-overflow_add-steps c = omega (arith, c.loop-steps-test.true, bound_le c.requires.held.running.bounded)
+pub step-requires-clause-le_i : goal.step-requires-clause-le_i
+step-requires-clause-le_i c = (found _ _ (sym c.in-Some.is ∙ c.weakest.ensures)).1
 
 pub loop-steps-preserved : goal.loop-steps-preserved
 loop-steps-preserved c =
-    let made = c.step-stepped.ensures in (
-      down_next c.loop-steps.invariant.0 c.limits_hold.ensures c.if-limits_hold.false c.weakest_of-i.ensures c.if-i-eq0.false c.loop-steps-test.true made.by_index
-          made.running,
-      made.share_sums,
-    )
+    let at = found _ _ (sym c.in-Some.is ∙ c.weakest.ensures) in
+    let made = c.step.ensures in
+    (down_next c.loop-steps.invariant.0 (sym c.if-limits_hold.false ∙ c.limits_hold.ensures) at.0 at.1.0 c.loop-steps-test.true made.stepped made.running, made.share_sums)
 
-pub shape_of-choice : goal.shape_of-choice
-shape_of-choice c = c.loop-steps.invariant.0.held.running.chosen.places ∙ sym c.requires.held.running.chosen.places
+pub returns-clause-choice_after : goal.returns-clause-choice_after
+returns-clause-choice_after c = (down_spent c.loop-steps.invariant.0 (omega arith)).1.0
 
-pub shape_of-sums : goal.shape_of-sums
-shape_of-sums c = c.loop-steps.invariant.0.held.running.sums_length ∙ sym c.requires.held.running.sums_length
-
-pub returns : goal.returns
-returns c =
-    let done = down_spent c.loop-steps.invariant.0 c.loop-steps-test.false in
-    record { running = done.0; choice_after = done.1.0; value = done.1.1 }
+pub returns-clause-value : goal.returns-clause-value
+returns-clause-value c =
+    let all : c.args.t.size.segments * c.args.t.size.strategies ≡ c.loop-steps.steps = omega arith in
+    all ∙ (down_spent c.loop-steps.invariant.0 (omega arith)).1.1

@@ -1,14 +1,16 @@
 -- `phase1::start` meets its contract.
 use mathlib.Core.List.{[]}
+use native.Mathlib.Omega.{arith}
 use Rattle.phase1.proofs.Candidates.{bests_chosen}
 use Rattle.phase1.proofs.Pruning.{pruned_chosen, start_is}
+use Rattle.phase1.proofs.Pulls.{uses_summable, uses_running}
 use Rattle.phase1.proofs.start.Goals as goal
 
-pub make_sums-requires : goal.make_sums-requires
-make_sums-requires c =
-    let p = c.requires in
-    let tops = bests_chosen _ [] [] (c.choose_tops.ensures [] []) in
-    (p.bounded.0, p.bounded.3, pruned_chosen _ tops c.prune.ensures.choice_after, p.choice_len.1)
+pub sums_of-draft-requires : goal.sums_of-draft-requires
+sums_of-draft-requires c = uses_summable c.requires c.args.uses.held (pruned_chosen _ (bests_chosen _ [] [] (c.choose_tops.ensures [] [])) c.prune.ensures.choice_after)
 
-pub returns : goal.returns
-returns c = record { running = c.make_sums.ensures; by_index = λ l. start_is _ _ (c.choose_tops.ensures _ l) c.prune.ensures.choice_after }
+pub returns-clause-running : goal.returns-clause-running
+returns-clause-running c = uses_running c.requires c.args.uses.held (pruned_chosen _ (bests_chosen _ [] [] (c.choose_tops.ensures [] [])) c.prune.ensures.choice_after) (omega arith) c.sums_of-draft.ensures
+
+pub returns-clause-by_index : goal.returns-clause-by_index
+returns-clause-by_index c = λ l. start_is _ _ (c.choose_tops.ensures _ l) c.prune.ensures.choice_after

@@ -3,50 +3,47 @@ use mathlib.Core.List.{[]}
 use native.Mathlib.Omega.{arith}
 use Rattle.tables.proofs.Arrays.{cell_of}
 use Rattle.phase1.proofs.Candidates.{next_le}
-use Rattle.phase1.proofs.Pulls.{share_moves, shares_moved}
+use Rattle.phase1.proofs.Pulls.{uses_summable, uses_running, measured_summable, share_moves, shares_moved}
 use Rattle.phase1.proofs.Reduction.{held_measured, next_measured, pruned_measured, steps_down}
 use Rattle.phase1.proofs.step.Goals as goal
 
-pub next_candidate-j-requires : goal.next_candidate-j-requires
-next_candidate-j-requires c =
-    let p = c.requires in
-    let h = p.fitted.0.held in
-    record { benefits = h.benefits; cell = (cell_of h.running.bounded _ _ p.le_i.0 p.le_i.1 (omega arith), h.running.chosen.numbers _) }
+pub give-requires-clause-le_i : goal.give-requires-clause-le_i
+give-requires-clause-le_i c = let p = c.requires in (p.le_i.0, p.le_i.1, next_le _ _ [] [] _ _ (c.next_candidate-j.ensures [] []))
 
-pub make_one-requires : goal.make_one-requires
-make_one-requires c =
+pub sums_of-draft-requires : goal.sums_of-draft-requires
+sums_of-draft-requires c =
     let p = c.requires in
-    record { running = p.fitted.0.held.running; le_i = (p.le_i.0, p.le_i.1, next_le _ _ [] [] _ _ (c.next_candidate-j.ensures [] [])) }
+    let after = pruned_measured p.held _ p.le_i.0 p.le_i.1 (c.next_candidate-j.ensures _ _) p.leaders c.give.ensures.choice_after c.prune.ensures.choice_after in
+    uses_summable after.bounded c.args.t.uses.held after.chosen
 
-pub make_sums-requires : goal.make_sums-requires
-make_sums-requires c =
+pub sums_of-requires : goal.sums_of-requires
+sums_of-requires c =
     let p = c.requires in
-    let made = c.make_one.ensures in
-    let after = pruned_measured p.fitted.0 _ p.le_i.0 p.le_i.1 c.next_candidate-j.ensures p.leaders.1 made.choice_after c.prune.ensures.choice_after in
-    (made.running_2.bounded, made.running_2.uses, after.chosen, made.running_2.sums_length)
+    measured_summable (pruned_measured p.held _ p.le_i.0 p.le_i.1 (c.next_candidate-j.ensures _ _) p.leaders c.give.ensures.choice_after c.prune.ensures.choice_after)
 
-pub share_sums-requires : goal.share_sums-requires
-share_sums-requires c =
+pub move_sums-requires-clause-moves : goal.move_sums-requires-clause-moves
+move_sums-requires-clause-moves c =
     let p = c.requires in
-    pruned_measured p.fitted.0 _ p.le_i.0 p.le_i.1 c.next_candidate-j.ensures p.leaders.1 c.make_one.ensures.choice_after c.prune.ensures.choice_after
+    share_moves (held_measured p.held) p.share_sums _ _ p.le_i.0 p.le_i.1 (next_measured p.held _ p.le_i.0 p.le_i.1 (c.next_candidate-j.ensures _ _))
 
-pub returns-then-prune : goal.returns-then-prune
-returns-then-prune c =
+pub returns-then-prune-clause-running : goal.returns-then-prune-clause-running
+returns-then-prune-clause-running c =
     let p = c.requires in
-    let down = steps_down p.fitted.0 _ p.le_i.0 p.le_i.1 c.next_candidate-j.ensures p.leaders.1 c.make_one.ensures.choice_after c.prune.ensures.choice_after in
-    record { running = c.make_sums.ensures; by_index = down; share_sums = c.share_sums.ensures }
+    let after = pruned_measured p.held _ p.le_i.0 p.le_i.1 (c.next_candidate-j.ensures _ _) p.leaders c.give.ensures.choice_after c.prune.ensures.choice_after in
+    uses_running after.bounded c.args.t.uses.held after.chosen (omega arith) c.sums_of-draft.ensures
 
-pub moved_shares-requires : goal.moved_shares-requires
-moved_shares-requires c =
+pub returns-then-prune-clause-stepped : goal.returns-then-prune-clause-stepped
+returns-then-prune-clause-stepped c =
     let p = c.requires in
-    let h = p.fitted.0.held in
-    let next = c.next_candidate-j.ensures in
-    let cell = cell_of h.running.bounded in record { resources_le_most_resources = (h.running.bounded.resources, h.shares.places, cell _ _ p.le_i.0 p.le_i.1 (h.running.chosen.numbers _), cell _ _ p.le_i.0 p.le_i.1 (next_le _ _ [] [] _ _ (next [] []))); by_index = share_moves (held_measured h) p.fitted.1 _ _ p.le_i.0 p.le_i.1 (next_measured p.fitted.0 _ p.le_i.0 p.le_i.1 next) }
+    steps_down p.held _ p.le_i.0 p.le_i.1 (c.next_candidate-j.ensures _ _) p.leaders c.give.ensures.choice_after c.prune.ensures.choice_after
 
-pub returns : goal.returns
-returns c =
+pub returns-else-prune-clause-stepped : goal.returns-else-prune-clause-stepped
+returns-else-prune-clause-stepped c =
     let p = c.requires in
-    let made = c.make_one.ensures in
+    steps_down p.held _ p.le_i.0 p.le_i.1 (c.next_candidate-j.ensures _ _) p.leaders c.give.ensures.choice_after c.prune.ensures.choice_after
+
+pub returns-else-prune-clause-share_sums : goal.returns-else-prune-clause-share_sums
+returns-else-prune-clause-share_sums c =
+    let p = c.requires in
     let kept = c.prune.ensures.choice_unchanged c.if-prune.false in
-    let down = steps_down p.fitted.0 _ p.le_i.0 p.le_i.1 c.next_candidate-j.ensures p.leaders.1 made.choice_after c.prune.ensures.choice_after in
-    record { running = rw kept made.running_2; by_index = down; share_sums = rw (kept, made.choice_after) (shares_moved (held_measured p.fitted.0.held) p.fitted.1 _ _ p.le_i.0 p.le_i.1 c.moved_shares.ensures) }
+    rw (kept, c.give.ensures.choice_after) (shares_moved (held_measured p.held) p.share_sums _ _ p.le_i.0 p.le_i.1 c.move_sums.ensures)

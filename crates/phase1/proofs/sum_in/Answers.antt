@@ -1,0 +1,39 @@
+-- `phase1::sum_in` meets its contract: the sum so far is that of the segments passed.
+use Prim.Native.Nat.{◌+◌}
+use mathlib.Core.Path.{◌∙◌}
+use native.Mathlib.Omega.{arith}
+use Rattle.base.proofs.Sums.{sum_none, sum_next, sum_end}
+use Rattle.phase1.specs.Reduce.{held_share}
+use Rattle.phase1.proofs.Pulls.{first_all, first_le, first_share, summable_le}
+use Rattle.phase1.proofs.sum_in.Goals as goal
+
+pub loop-i-init : goal.loop-i-init
+loop-i-init c = sum_none _
+
+pub overflow_add-all : goal.overflow_add-all
+overflow_add-all c = omega (arith, first_le c.requires.summable c.loop-i.i (omega arith))
+
+pub overflow_mul-all-in-loop-i : goal.overflow_mul-all-in-loop-i
+overflow_mul-all-in-loop-i c = omega (arith, first_le c.requires.summable c.loop-i.i (omega arith))
+
+pub overflow_add-all-in-loop-i : goal.overflow_add-all-in-loop-i
+overflow_add-all-in-loop-i c = omega (arith, first_le c.requires.summable c.loop-i.i (omega arith), c.requires.summable.bounded.resources)
+
+pub offset_bounds-entries-i : goal.offset_bounds-entries-i
+offset_bounds-entries-i c = omega (arith, first_le c.requires.summable c.loop-i.i (omega arith), c.requires.summable.bounded.resources)
+
+pub bounds-entries-i : goal.bounds-entries-i
+bounds-entries-i c = omega (arith, first_le c.requires.summable c.loop-i.i (omega arith), c.requires.summable.bounded.resources, c.requires.summable.places)
+
+pub overflow_add-all-in-loop-i-2 : goal.overflow_add-all-in-loop-i-2
+overflow_add-all-in-loop-i-2 c =
+    let l = c.loop-i in
+    let p = c.requires in
+    let more = sum_next l.i (held_share c.args.entries.now c.args.choice.now c.args.r) l.invariant in
+    omega (arith, first_share p.summable l.i (omega arith) c.args.r, summable_le p.summable c.args.r p.le_r.0 p.le_r.1 (l.i + 1) (omega (arith, first_all p.summable)))
+
+pub loop-i-preserved : goal.loop-i-preserved
+loop-i-preserved c = rw (first_share c.requires.summable c.loop-i.i (omega arith) c.args.r) (sum_next _ _ c.loop-i.invariant)
+
+pub returns : goal.returns
+returns c = sum_end _ _ _ c.loop-i.invariant (omega (arith, first_all c.requires.summable)) (omega (arith, first_all c.requires.summable))

@@ -1,0 +1,13 @@
+-- `phase1::Weighed::surplus` meets its contract.
+use Rattle.phase1.proofs.Pulls.{no_surplus, some_surplus}
+use Rattle.phase1.proofs.weighed.Weighed.surplus.Goals as goal
+
+pub returns-then-self-r : goal.returns-then-self-r
+returns-then-self-r c =
+    let w = c.args.self.now in
+    no_surplus w.shares_are w.measured _ c.requires.0 c.requires.1 w.running c.if-self-r.true
+
+pub returns : goal.returns
+returns c =
+    let w = c.args.self.now in
+    some_surplus w.shares_are w.measured _ c.requires.0 c.requires.1 w.running c.if-self-r.false (w.sums_are.each _ c.requires.0 c.requires.1) c.saturating_sub.ensures

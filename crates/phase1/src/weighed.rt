@@ -1,0 +1,131 @@
+// A programme weighed against the limits: surpluses, pulls, and the weakest segment.
+ghost use Rattle.std.specs.Prelude.{◌≡◌, ℕ, ◌-◌, ◌*◌, ◌/◌, ◌^◌, ◌<◌, ◌≤◌, get_or, length};
+ghost use Rattle.base.specs.Over.{sum};
+ghost use Rattle.rules.specs.District.{most_resources};
+ghost use Rattle.rules.specs.Phases.{within, surplus, pull, weakest};
+ghost use Rattle.tables.specs.Views.{table_in, Drafted};
+ghost use Rattle.phase1.specs.Reduce.{ShareSums, Measured, Surpluses, IsWeaker, row_pull, segment_in};
+ghost use Rattle.phase1.specs.Views.{SharesIn};
+
+use crate::shares::ShareTable;
+use rules::places::MOST_RESOURCES;
+use tables::{Draft, TableView};
+
+// A segment with its ratio.
+#[derive(Clone, Copy)]
+struct Weak {
+    segment: usize,
+    ratio: u64,
+}
+
+// A table with its shares, a programme, and the sum of the programme's shares in each resource.
+#[derive(Clone, Copy)]
+pub(crate) struct Weighed<'a> {
+    pub(crate) t: TableView<'a>,
+    pub(crate) shares: ShareTable<'a>,
+    pub(crate) draft: &'a Draft,
+    pub(crate) share_sums: &'a [u64; MOST_RESOURCES],
+    ghost shares_are: { SharesIn t shares.entries.now },
+    ghost running: { Drafted t draft.now },
+    ghost measured: { Measured t.size shares.entries.now draft.now.choice },
+    ghost sums_are: { ShareSums t.size shares.entries.now draft.now.choice share_sums.now },
+}
+
+impl Weighed<'_> {
+    // Every limit holds.
+    pub(crate) fn limits_hold(&self) -> bool
+        ensures { result ≡ within (table_in self.now.t) self.now.draft.now.choice }
+    {
+        for r in 0..self.t.size.resources {
+            if self.t.limits.entries[r] < self.draft.sums[r] {
+                return false;
+            }
+        }
+        true
+    }
+
+    // The surplus of resource r: what its shares are beyond 10,000, where its limit does not hold.
+    fn surplus(&self, r: usize) -> u64
+        requires { (1 ≤ r) × (r ≤ self.now.t.size.resources) }
+        ensures { result ≡ surplus (table_in self.now.t) self.now.draft.now.choice r }
+    {
+        if self.draft.sums[r - 1] <= self.t.limits.entries[r - 1] {
+            return 0;
+        }
+        self.share_sums[r - 1].saturating_sub(10_000)
+    }
+
+    // The surplus of each resource.
+    fn surpluses(&self) -> [u64; MOST_RESOURCES]
+        ensures { Surpluses (table_in self.now.t) self.now.draft.now.choice result }
+    {
+        let mut over = [0u64; MOST_RESOURCES];
+        for r in 0..self.t.size.resources {
+            over[r] = self.surplus(r + 1);
+        }
+        over
+    }
+
+    // The pull of segment i: the shares of its strategy times the surpluses.
+    fn pull(&self, over: &[u64; MOST_RESOURCES], i: usize) -> u64
+        requires over { Surpluses (table_in self.now.t) self.now.draft.now.choice over.now }
+        requires le_i { (1 ≤ i) × (i ≤ self.now.t.size.segments) }
+        ensures { result ≡ pull (table_in self.now.t) self.now.draft.now.choice i }
+    {
+        let row = self.shares.row(i, self.draft.choice[i - 1]);
+        pull_by(self.t.size.resources, row, over)
+    }
+
+    // The weaker of w and segment i: the one of the lesser ratio, of equals w; only a segment that pulls counts.
+    fn weaker(&self, over: &[u64; MOST_RESOURCES], w: Option<Weak>, i: usize) -> Option<Weak>
+        requires over { Surpluses (table_in self.now.t) self.now.draft.now.choice over.now }
+        requires le_i { (1 ≤ i) × (i ≤ self.now.t.size.segments) }
+        ensures { IsWeaker (table_in self.now.t) self.now.draft.now.choice i w result }
+    {
+        let pulled = self.pull(over, i);
+        if pulled == 0 {
+            return w;
+        }
+        let ratio = ratio_of(self.t.benefits.chosen(&self.draft.choice, i), pulled);
+        match w {
+            Some(least) if least.ratio <= ratio => w,
+            _ => Some(Weak { segment: i, ratio }),
+        }
+    }
+
+    // The segment to step: of those that pull the one of least ratio, of equals the lowest.
+    pub(crate) fn weakest(&self) -> Option<usize>
+        ensures { result ≡ segment_in (weakest (table_in self.now.t) self.now.draft.now.choice) }
+    {
+        let over = self.surpluses();
+        let mut least = None;
+        for i in 0..self.t.size.segments {
+            least = self.weaker(&over, least, i + 1);
+        }
+        least.map(|w| w.segment)
+    }
+}
+
+// A row of shares times the surpluses. A resource without surplus adds nothing.
+fn pull_by(resources: usize, row: &[u64], over: &[u64; MOST_RESOURCES]) -> u64
+    requires resources_le_most_resources { (resources ≤ most_resources) × (length row.now ≡ most_resources) }
+    requires by_index { ((r : ℕ) → 1 ≤ r → r ≤ resources → get_or row.now (r - 1) 0 ≤ 10_000) × ((r : ℕ) → 1 ≤ r → r ≤ resources → get_or over.now (r - 1) 0 ≤ 640_000) }
+    ensures { result ≡ sum resources (row_pull row.now over.now) }
+{
+    let mut all: u64 = 0;
+    for r in 0..resources {
+        let beyond = over[r];
+        if beyond > 0 {
+            all += row[r] * beyond;
+        }
+    }
+    all
+}
+
+// What a benefit gives for a pull, in millionths.
+fn ratio_of(benefit: u64, pulled: u64) -> u64
+    requires { (benefit < 2 ^ 40) × (1 ≤ pulled) }
+    ensures { result ≡ benefit * 1_000_000 / pulled }
+{
+    benefit * 1_000_000 / pulled
+}
