@@ -1,19 +1,19 @@
 -- Shares, surpluses and pulls that arrays hold, and the weakest segment by them.
 use Prim.Native.Nat.{ℕ, zero, suc, ◌+◌, ◌-◌, ◌*◌, ◌/◌, ◌^◌, ◌≤◌, ◌<◌}
 use mathlib.Core.Path.{◌≡◌, refl, ap, sym, ◌∙◌}
-use mathlib.Core.Bool.{true, false}
+use mathlib.Core.Bool.{Bool, true, false}
 use mathlib.Core.List.{List, []}
 use Rattle.std.specs.Prelude.{Option, None, Some}
 use Rattle.std.specs.Option.{option_map}
+use Rattle.std.proofs.Common.{IsTrue, ◌↔◌}
 use native.Mathlib.Nat.{mul-le-mul}
 use native.Mathlib.Omega.{arith}
-use borrow.Author.Tests.{lt-ltb, le-ltb, le-leb, lt-leb}
+use borrow.Author.Tests.{lt-ltb, le-ltb, le-leb, lt-leb, leb-true}
 use lib.ListN.{get_or, length, take, length-take}
 use lib.Seq.{get_or-take}
 use Rattle.base.specs.Over.{sum, best}
 use Rattle.base.proofs.Choice.{pick_all}
 use Rattle.base.proofs.Sums.{sum_next, sum_part, sum_bound, sum_cong}
-use Rattle.base.proofs.All.{all_true, all_fails}
 use Rattle.base.proofs.Best.{best_next, better_passed, better_first, better_taken, better_worse}
 use Rattle.rules.specs.District.{most_segments, most_strategies, most_resources}
 use Rattle.rules.specs.Table.{Table}
@@ -21,6 +21,7 @@ use Rattle.rules.specs.Phases.{strategy_at, give, chosen_benefit, chosen_usage, 
 use Rattle.laws.proofs.Give.{given, sum_give}
 use Rattle.tables.specs.declared.Size.{Size}
 use Rattle.tables.specs.Arrays.{columns, entry, use_entry, limit_at, tables, Uses, Bounded, Chosen, Cell, Running}
+use Rattle.tables.proofs.Moves.{all_is}
 use Rattle.tables.proofs.Arrays.{limit_at_lem, usage_at_lem, cell_of}
 use Rattle.phase1.specs.declared.weighed.Weak.{Weak}
 use Rattle.phase1.specs.Reduce.{share_at, ShareSums, ShareMove, held_share, row_pull, Shares, Summable, Measured, Surpluses, segment_in, weak_at, weaker_of, IsWeaker}
@@ -141,13 +142,19 @@ module _ {z : Size} {u c sums : List ℕ} (running : Running z u c sums) (b l : 
     unfolding surplus
     surplus_some h = rw (limit_fails h)
 
-  pub not_within : (r : ℕ) → 1 ≤ r → r ≤ z.resources → get_or l (r - 1) 0 < get_or sums (r - 1) 0 → false ≡ within (tables z b u l) c
-  unfolding within
-  not_within r lr hr h = sym (all_fails z.resources (holds (tables z b u l) c) r lr hr (limit_fails r lr hr h))
+  -- what a test of each limit answers
+  pub within_is : {r : Bool} → IsTrue r ↔ ((k : ℕ) → k < z.resources → get_or sums k 0 ≤ get_or l k 0) → r ≡ within (tables z b u l) c
+  unfolding within holds
+  within_is {r} test = all_is z.resources (holds (tables z b u l) c) r ((λ t k h. to k h (test.0 t k h)), (λ each. test.1 (λ k h. from k h (each k h))))
+    where
+      to : (k : ℕ) → k < z.resources → get_or sums k 0 ≤ get_or l k 0 → holds (tables z b u l) c (k + 1) ≡ true
+      to k h le = let here : k + 1 - 1 ≡ k = omega arith in limit_holds (k + 1) (omega arith) (omega arith) (rw here le)
 
-  pub is_within : ((r : ℕ) → 1 ≤ r → r ≤ z.resources → get_or sums (r - 1) 0 ≤ get_or l (r - 1) 0) → true ≡ within (tables z b u l) c
-  unfolding within
-  is_within h = sym (all_true z.resources (holds (tables z b u l) c) (λ r lr hr. limit_holds r lr hr (h r lr hr)))
+      from : (k : ℕ) → k < z.resources → holds (tables z b u l) c (k + 1) ≡ true → get_or sums k 0 ≤ get_or l k 0
+      from k h e =
+          let here : k + 1 - 1 ≡ k = omega arith in
+          let le = leb-true (used (tables z b u l) c (k + 1)) (limit_at l (k + 1)) e in
+          omega (arith, limit_is (k + 1) (omega arith) (omega arith), running.sums_are b l (k + 1) (omega arith) (omega arith), ap (λ (i : ℕ). get_or sums i 0) here, ap (λ (i : ℕ). get_or l i 0) here)
 
 -- ---- a surplus: 0 where the limit holds, else what the shares are beyond 10,000
 

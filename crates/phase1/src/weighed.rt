@@ -36,12 +36,7 @@ impl Weighed<'_> {
     pub(crate) fn limits_hold(&self) -> bool
         ensures { result ≡ within (table_in self.now.t) self.now.draft.now.choice }
     {
-        for r in 0..self.t.size.resources {
-            if self.t.limits.entries[r] < self.draft.sums[r] {
-                return false;
-            }
-        }
-        true
+        (0..self.t.size.resources).all(|r| self.draft.sums[r] <= self.t.limits.entries[r])
     }
 
     // The surplus of resource r: what its shares are beyond 10,000, where its limit does not hold.
