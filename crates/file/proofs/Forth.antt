@@ -14,7 +14,9 @@ use Rattle.base.proofs.Bytes.{bytes_drop, bytes_suffix, front_bytes}
 use Rattle.base.proofs.Choice.{pick_yes}
 use Rattle.base.specs.Bytes.{Bytes, bytes_of, number_of}
 use Rattle.base.specs.Choice.{pick}
-use Rattle.rules.specs.Answers.{accepting}
+use Rattle.std.specs.Prelude.{Result, Ok, Err, IfOk}
+use Rattle.rules.specs.Answers.{refusal_in}
+use Rattle.rules.specs.declared.refusals.Refusal.{Refusal}
 use Rattle.rules.specs.Calls.{load_refusal_of, load_refusal, loaded_of, district_in}
 use Rattle.rules.specs.Demands.{led_by_none}
 use Rattle.rules.specs.District.{District, value_at, district_places}
@@ -23,8 +25,7 @@ use Rattle.rules.specs.Format.{leader_form, slot_of, present, field_at, inside, 
 use Rattle.grammar.specs.Places.{Form, Suits, start_of, Ready}
 use Rattle.grammar.proofs.Forms.{range_form}
 use Rattle.grammar.proofs.Slots.{start_next, ready}
-use Rattle.file.specs.Readings.{loaded_from}
-use Rattle.file.specs.declared.Loaded.{Loaded}
+use Rattle.file.specs.Forms.{load_refusal_as, district_as}
 use Rattle.file.proofs.TwoForms.{form_in_lem, form_kept}
 use Rattle.file.proofs.Refusals.{refusals_as}
 use Rattle.file.proofs.Steps.{widths_none, widths_take, header_there, header_none, record_none, records_found, records_refused}
@@ -267,13 +268,12 @@ pub loads_as : (file : List ℕ) → load_refusal file ≡ 0 → (Bytes file →
 unfolding load_refusal district_in decode
 loads_as file e = let k = encode_decode file _ [] (found_as (form_in file) (form_in_lem file) file e) in (k.0, k.1)
 
--- what is loaded is in the file's ranges too
-pub loaded_ranged : (file : List ℕ) → {r : Loaded} → r ≡ loaded_from file → (r ≡ loaded_from file) × (r.refusal ≡ 0 → in_range r.district ≡ true)
-unfolding accepting
-loaded_ranged file {r} q = (q, ranged)
-  where
-    ranged : r.refusal ≡ 0 → in_range r.district ≡ true
-    ranged e =
-        let z : load_refusal file ≡ 0 = sym (ap (λ (r : Loaded). r.refusal) q) ∙ e in
-        let d : r.district ≡ district_in file = ap (λ (r : Loaded). r.district) q ∙ rw z in
-        rw d (loads_as file z).1
+-- what loads in a form in which the file is read as it is in its own, loads from the file, and is in the file's ranges
+pub load_own : (form : ℕ) (file : List ℕ) → decode_as form file ≡ decode file → (r : Result District Refusal) → refusal_in r ≡ load_refusal_as form file → IfOk r (λ d. d ≡ district_as form file)
+    → (refusal_in r ≡ load_refusal file) × IfOk r (λ d. d ≡ district_in file) × IfOk r (λ d. in_range d ≡ true)
+unfolding load_refusal district_in
+load_own form file e (Ok d) f g =
+    let z : 0 ≡ load_refusal_of (decode file) = rw e at f in
+    let q : d ≡ loaded_of (decode file) = rw e at g in
+    (z, q, rw q (loads_as file (sym z)).1)
+load_own form file e (Err refusal) f g = (rw e at f, tt, tt)

@@ -5,16 +5,15 @@ use mathlib.Core.List.{List, [], ◌∷◌, ◌++◌}
 use native.Mathlib.Omega.{arith}
 use lib.Dec.{leb, ltb, eqb}
 use borrow.Author.Tests.{le-leb, lt-leb}
-use lib.ListN.{length, take, drop, replicate}
+use lib.ListN.{length, take, drop}
 use Rattle.base.proofs.Choice.{pick_all}
 use Rattle.base.specs.Bytes.{number_of}
 use Rattle.rules.specs.Answers.{unless, answer_of, accepting, cut_short, other_kind, other_length, out_of_range, bytes_follow, Accepted, Refused}
-use Rattle.rules.specs.Calls.{load_refusal_of, load_refusal, loaded_of, district_in, exported}
-use Rattle.rules.specs.District.{District, district_places}
+use Rattle.rules.specs.Calls.{load_refusal_of, load_refusal, loaded_of, exported}
+use Rattle.rules.specs.District.{District}
 use Rattle.rules.specs.File.{Read, refused, found, value, size, read_numbers, kind_in, read_record, and_then, read_records, decode_as, form_in, decode}
 use Rattle.rules.specs.Format.{present, field_at, inside, slot_of, file_records, Slot}
-use Rattle.file.specs.Forms.{loaded_as}
-use Rattle.file.specs.Readings.{loaded_from}
+use Rattle.file.specs.Forms.{load_refusal_as, district_as}
 
 -- a refusal is one of document 01's table for files
 abbrev Right : Read → Type 0
@@ -68,19 +67,17 @@ refusal_most file = go (decode file) refl
 
 -- ---- what a load gives
 
-pub loaded_found : (form : ℕ) (file : List ℕ) (d : District) (rest : List ℕ) → decode_as form file ≡ found d rest → record { refusal = 0; district = d } ≡ loaded_as form file
-unfolding load_refusal_of loaded_of accepting
-loaded_found form file d rest e = rw e
+pub refusal_found : (form : ℕ) (file d rest : List ℕ) → decode_as form file ≡ found d rest → 0 ≡ load_refusal_as form file
+unfolding load_refusal_of
+refusal_found form file d rest e = rw e
 
-pub loaded_refused : (form : ℕ) (file : List ℕ) (n : ℕ) → decode_as form file ≡ refused n → record { refusal = n; district = replicate district_places 0 } ≡ loaded_as form file
-unfolding load_refusal_of loaded_of accepting
-loaded_refused form file zero e = absurd (omega (arith, (refusals_as form file zero e).0))
-loaded_refused form file (suc n) e = rw e
+pub refusal_refused : (form : ℕ) (file : List ℕ) (n : ℕ) → decode_as form file ≡ refused n → n ≡ load_refusal_as form file
+unfolding load_refusal_of
+refusal_refused form file n e = rw e
 
--- in a form in which the file is read as it is in its own
-pub loaded_from_lem : (form : ℕ) (file : List ℕ) → decode_as form file ≡ decode file → loaded_as form file ≡ loaded_from file
-unfolding load_refusal district_in
-loaded_from_lem form file e = rw e
+pub district_found : (form : ℕ) (file d rest : List ℕ) → decode_as form file ≡ found d rest → d ≡ district_as form file
+unfolding loaded_of
+district_found form file d rest e = rw e
 
 -- ---- what a call gives that writes into a buffer: whether that has the bytes that are needed decides
 

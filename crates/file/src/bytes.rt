@@ -7,12 +7,9 @@ pub fn number(file: &[u8], at: usize, width: usize) -> usize
     requires { (width ≤ 4) × (at + width ≤ length file.now) }
     ensures { result ≡ number_of (take width (drop at file.now)) }
 {
-    let mut value: usize = 0;
-    let mut left = width;
-    while 0 < left {
-        left -= 1;
-        let byte = file[at + left] as usize;
-        value = value * 256 + byte;
+    let mut value = 0;
+    for byte in file[at..at + width].iter().rev() {
+        value = value * 256 + usize::from(*byte);
     }
     value
 }
@@ -23,10 +20,8 @@ pub fn put(out: &mut [u8], width: usize, value: usize)
     ensures { out.new ≡ bytes_of width value ++ drop width out.old }
 {
     let mut rest = value;
-    let mut i = 0;
-    while i < width {
-        out[i] = (rest % 256) as u8;
-        rest = rest / 256;
-        i += 1;
+    for byte in out[..width].iter_mut() {
+        *byte = (rest % 256) as u8;
+        rest /= 256;
     }
 }

@@ -1,53 +1,42 @@
 // Which form a file has, and which form the file of a district gets.
-ghost use Rattle.std.specs.Prelude.{◌≡◌, min};
-ghost use Rattle.grammar.specs.Places.{Form};
+ghost use Rattle.std.specs.Prelude.{◌≡◌};
+ghost use Rattle.grammar.specs.Slots.{form_number};
 ghost use Rattle.rules.specs.File.{decode_as, decode, leaderless, form_of};
 
 use crate::bytes;
-use grammar::{LEADER_FORM, PLAIN_FORM};
+use grammar::Form;
 use rules::District;
 use rules::places::*;
 
 // The form in which a file is read. One that ends before its first kind does is refused in both.
-pub fn form_in(file: &[u8]) -> usize
-    ensures { Form result × (decode_as result file.now ≡ decode file.now) }
+pub fn form_in(file: &[u8]) -> Form
+    ensures { decode_as (form_number result) file.now ≡ decode file.now }
 {
     if file.len() < 4 {
-        return PLAIN_FORM;
+        return Form::Plain;
     }
-    if bytes::number(file, 2, 2) == LEADER_FORM {
-        return LEADER_FORM;
+    if bytes::number(file, 2, 2) == Form::Leaders as usize {
+        Form::Leaders
+    } else {
+        Form::Plain
     }
-    PLAIN_FORM
-}
-
-fn smaller(a: usize, b: usize) -> usize
-    ensures { result ≡ min a b }
-{
-    if a < b { a } else { b }
 }
 
 // Whether no segment has a leader. Past the last place there is none.
-pub fn is_leaderless(d: District) -> bool
-    ensures { result ≡ leaderless d }
+pub fn is_leaderless(d: &District) -> bool
+    ensures { result ≡ leaderless d.now }
 {
-    let segments = smaller(d[SEGMENT_COUNT], MOST_SEGMENTS);
-    let mut i: usize = 0;
-    while i < segments {
-        if d[SEGMENTS + PER_SEGMENT * i + LEADER] != 0 {
-            return false;
-        }
-        i += 1;
-    }
-    true
+    let segments = d[SEGMENT_COUNT].min(MOST_SEGMENTS);
+    (0..segments).all(|i| d[SEGMENTS + PER_SEGMENT * i + LEADER] == 0)
 }
 
-pub fn form_of(d: District) -> usize
-    ensures { result ≡ form_of d }
+#[tactic(auto, using(base::proofs::Choice::picks), unfolding(rules::specs::File::form_of))]
+pub fn form_of(d: &District) -> Form
+    ensures { form_number result ≡ form_of d.now }
 {
     if is_leaderless(d) {
-        PLAIN_FORM
+        Form::Plain
     } else {
-        LEADER_FORM
+        Form::Leaders
     }
 }

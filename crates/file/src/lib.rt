@@ -7,102 +7,73 @@ mod ranges;
 mod reading;
 mod writing;
 
-ghost use Rattle.std.specs.Prelude.{true, ◌≡◌, replicate};
-ghost use Rattle.rules.specs.Calls.{exported, export_refusal};
+ghost use Rattle.std.specs.Prelude.{true, ◌≡◌, IfOk};
+ghost use Rattle.rules.specs.Answers.{answer_in, refusal_in};
+ghost use Rattle.rules.specs.Calls.{load_refusal, district_in, exported, export_refusal};
 ghost use Rattle.rules.specs.File.{encode, longest_file, in_range};
-ghost use Rattle.grammar.specs.Places.{Form};
-ghost use Rattle.file.specs.Forms.{loaded_as, exported_as};
-ghost use Rattle.file.specs.Readings.{loaded_from};
+ghost use Rattle.grammar.specs.Slots.{form_number};
+ghost use Rattle.file.specs.Forms.{load_refusal_as, district_as, exported_as};
 ghost use Rattle.file.specs.Trips.{Trips};
-ghost use Rattle.rules.specs.District.{district_places};
 
-use reading::Reading;
+use grammar::Form;
 use rules::places::DISTRICT_PLACES;
 use rules::records::{LONGEST_FILE, RECORDS};
-use rules::{Answer, District, refusals};
-
-// The number of the refusal, or 0 and the district of the file.
-#[derive(Clone, Copy)]
-pub struct Loaded {
-    pub refusal: usize,
-    pub district: District,
-}
-
-fn refused(refusal: usize) -> Loaded
-    ensures { result ≡ record { refusal = refusal; district = replicate district_places 0 } }
-{
-    Loaded {
-        refusal,
-        district: [0usize; DISTRICT_PLACES],
-    }
-}
+use rules::{Answer, District, Refusal};
 
 // A file of the form given. One of the other form is refused at its first kind.
-pub fn load_as(form: usize, file: &[u8]) -> Loaded
-    requires { Form form }
-    ensures { result ≡ loaded_as form file.now }
+pub fn load_as(form: Form, file: &[u8]) -> Result<District, Refusal>
+    ensures refusal { refusal_in result ≡ load_refusal_as (form_number form) file.now }
+    ensures district { IfOk result (λ d. d ≡ district_as (form_number form) file.now) }
 {
     let mut d = [0usize; DISTRICT_PLACES];
-    let mut at: usize = 0;
-    let mut place: usize = 0;
-    let mut n: usize = 0;
-    while n < RECORDS {
+    let mut at = 0;
+    let mut place = 0;
+    for n in 0..RECORDS {
         let slot = grammar::slot_at(form, n);
-        let step = reading::read_record(&mut d, file, at, slot, place);
-        match step {
-            Reading::At(next) => {
-                at = next;
-                place += slot.places;
-                n += 1;
-            }
-            Reading::Refused(refusal) => {
-                return refused(refusal);
-            }
-        }
+        at = reading::read_record(&mut d, file, at, slot, place)?;
+        place += slot.places;
     }
     if at < file.len() {
-        return refused(refusals::BYTES_FOLLOW);
+        return Err(Refusal::BytesFollow);
     }
-    Loaded {
-        refusal: 0,
-        district: d,
-    }
+    Ok(d)
 }
 
 // A file of either form.
-pub fn load(file: &[u8]) -> Loaded
-    ensures same { result ≡ loaded_from file.now }
-    ensures ranged { result.refusal ≡ 0 → in_range result.district ≡ true }
+pub fn load(file: &[u8]) -> Result<District, Refusal>
+    ensures refusal { refusal_in result ≡ load_refusal file.now }
+    ensures district { IfOk result (λ d. d ≡ district_in file.now) }
+    ensures ranged { IfOk result (λ d. in_range d ≡ true) }
 {
-    let form = forms::form_in(file);
-    load_as(form, file)
+    load_as(forms::form_in(file), file)
 }
 
 // The file of the district, in the form given, to the front of the buffer, where the buffer has room for it.
-pub fn export_as(form: usize, d: District, buffer: &mut [u8]) -> Answer
-    ensures { record { answer = result; buffer = buffer.new } ≡ exported_as form d buffer.old }
+pub fn export_as(form: Form, d: &District, buffer: &mut [u8]) -> Answer
+    ensures { record { answer = answer_in result; buffer = buffer.new } ≡ exported_as (form_number form) d.now buffer.old }
 {
-    let length = writing::file_length(form, &d);
+    let length = writing::file_length(form, d);
     if buffer.len() < length {
-        return Answer::Refused(refusals::BUFFER_TOO_SHORT);
+        return Err(Refusal::BufferTooShort);
     }
-    writing::write_file(buffer, form, &d);
-    Answer::Accepted(length)
+    writing::write_file(buffer, form, d);
+    Ok(length)
 }
 
 // With leaders only where one is set.
-pub fn export(d: District, buffer: &mut [u8]) -> Answer
-    ensures { record { answer = result; buffer = buffer.new } ≡ exported (export_refusal d buffer.old) (encode d) buffer.old }
+#[tactic(auto, unfolding(rules::specs::Calls::export_refusal, rules::specs::File::encode))]
+pub fn export(d: &District, buffer: &mut [u8]) -> Answer
+    ensures { record { answer = answer_in result; buffer = buffer.new } ≡ exported (export_refusal d.now buffer.old) (encode d.now) buffer.old }
 {
-    let form = forms::form_of(d);
-    export_as(form, d, buffer)
+    export_as(forms::form_of(d), d, buffer)
 }
 
 // Whether each number of the district is one that the file may hold.
-pub fn in_range(d: District) -> bool
-    ensures { result ≡ in_range d }
+#[tactic(auto, using(base::proofs::Choice::picks), unfolding(rules::specs::File::in_range))]
+pub fn in_range(d: &District) -> bool
+    ensures { result ≡ in_range d.now }
 {
-    ranges::records_in_range(&d)
+    ranges::records_in_range(d)
 }
 
 // How many bytes the longest file has. The contract says of load and export what holds of every file and every district.

@@ -6,3 +6,4 @@ pub mod Edits
 pub mod Fresh
 pub mod Fits
 pub mod Forms
+pub mod Named

@@ -1,9 +1,9 @@
-use Rattle.std.proofs.Common.{◌+◌, ◌-◌, ◌≤◌, ◌≡◌, take, drop}
+use Rattle.std.proofs.Common.{◌^◌, ◌<◌, ◌≡◌, length, reverse, map}
 use Rattle.base.specs.Bytes.{number_of}
 use Rattle.file.proofs.bytes.number.Given as goal
 
-abbrev pub invariant-loop-left : goal.invariant-loop-left
-invariant-loop-left l = (l.left ≤ l.width) × (l.value ≡ number_of (take (l.width - l.left) (drop (l.at + l.left) l.file)))
-
-abbrev pub decreases-loop-left : goal.decreases-loop-left
-decreases-loop-left l = l.left
+abbrev pub invariant-loop-byte : goal.invariant-loop-byte
+invariant-loop-byte l =
+    (goal.iterator-loop-byte).can_next l.byte-iterator × (goal.iterator-loop-byte).is_finite l.byte-iterator
+    × (l.value ≡ number_of (reverse (map (λ b. b.now) l.yielded)))
+    × (l.value < 256 ^ length l.yielded)

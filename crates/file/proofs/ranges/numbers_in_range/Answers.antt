@@ -1,37 +1,28 @@
--- `numbers_in_range` meets its contract: the test in all is the test from here on.
-use Prim.Native.Nat.{ℕ, ◌+◌, ◌-◌}
-use mathlib.Core.Path.{◌≡◌, sym, ap, ◌∙◌}
-use mathlib.Core.Bool.{Bool, true, false, ◌&&◌}
-use native.Mathlib.Nat.{sub-zero, add-zero}
-use native.Mathlib.Omega.{arith}
-use lib.ListN.{drop}
+-- `numbers_in_range` meets its contract: the numbers are tested in their order.
+use Rattle.std.proofs.Common.{ℕ, zero, suc, ◌+◌, ◌≡◌, refl, ◌∙◌, add-zero, get_or, drop, arith, rules, tests}
+use Rattle.std.specs.List.{range_with_len, list_all}
+use Rattle.std.proofs.lemmas.Iterator.{YieldsList-from_range}
+use Rattle.std.proofs.lemmas.Iterator.Search.{all_from_yields_List}
+use lib.Seq.{get_or-drop, drop-drop}
+use Rattle.rules.specs.District.{District}
 use Rattle.rules.specs.File.{numbers_in_range}
-use Rattle.file.proofs.Steps.{range_step}
+use Rattle.rules.specs.Format.{inside, field_at, Slot}
+use Rattle.grammar.specs.Slots.{slot_in}
 use Rattle.file.proofs.ranges.numbers_in_range.Goals as goal
-use Rattle.file.proofs.ranges.numbers_in_range.Goals.{After-is_inside}
 
-tested : (c : After-is_inside) (t : Bool) → c.is_inside.result ≡ t → let l = c.loop-i in let a = c.args in numbers_in_range a.slot.places a.d.now a.slot 0 (drop a.place a.d.now) ≡ (t && numbers_in_range (a.slot.places - (l.i + 1)) a.d.now a.slot (l.i + 1) (drop (a.place + (l.i + 1)) a.d.now))
-tested c t e =
-    let l = c.loop-i in
-    let a = c.args in
-    let f = c.field_at-f in
-    l.invariant.1
-    ∙ range_step a.slot.places a.d.now a.slot l.i a.place f.result (omega arith) f.ensures
-    ∙ ap (λ (t : Bool). t && numbers_in_range (a.slot.places - (l.i + 1)) a.d.now a.slot (l.i + 1) (drop (a.place + (l.i + 1)) a.d.now)) (sym c.is_inside.ensures ∙ e)
-
-pub loop-i-init : goal.loop-i-init
-loop-i-init c = (omega arith, rw (sub-zero, add-zero))
-
-pub returns-then-not-is_inside : goal.returns-then-not-is_inside
-returns-then-not-is_inside c = sym (tested (goal.at.returns-then-not-is_inside c).After-is_inside false c.if-not-is_inside.true)
-
-pub loop-i-preserved : goal.loop-i-preserved
-loop-i-preserved c = (omega arith, tested (goal.at.loop-i-preserved c).After-is_inside true c.if-not-is_inside.false)
+module _ (d : District) (s : Slot) (place : ℕ) where
+  listed : (m a : ℕ) → list_all (λ i. inside (field_at d s i) (get_or d (place + i) 0)) (range_with_len a m) ≡ numbers_in_range m d s a (drop (place + a) d)
+  unfolding numbers_in_range
+  listed zero a = refl
+  listed (suc m) a =
+      let q : place + (a + 1) ≡ place + a + 1 = omega arith in
+      rw (listed m (a + 1), q, get_or-drop (place + a) d 0 0, add-zero (place + a), drop-drop 1 (place + a) d)
 
 pub returns : goal.returns
-unfolding numbers_in_range
 returns c =
-    let l = c.loop-i in
-    let a = c.args in
-    let z : a.slot.places - l.i ≡ 0 = omega arith in
-    sym (l.invariant.1 ∙ ap (λ (m : ℕ). numbers_in_range m a.d.now a.slot l.i (drop (a.place + l.i) a.d.now)) z)
+    let d = c.args.d.now in
+    let s = slot_in c.args.slot in
+    let place = c.args.place in
+    let n = c.args.slot.places in
+    all_from_yields_List (λ i. inside (field_at d s i) (get_or d (place + i) 0)) _ _ c.all.result c.all.ensures.ran (YieldsList-from_range 0 n n refl (omega arith)) (λ x b q k. search (rules, tests))
+    ∙ rw (add-zero place) at (listed d s place n 0)

@@ -9,38 +9,39 @@ use Rattle.rules.specs.Format.{Slot, file_records}
 use Rattle.grammar.proofs.Slots.{few_places, start_next, record_room}
 use Rattle.file.proofs.Steps.{records_step, length_records}
 use Rattle.file.proofs.writing.file_length.Goals as goal
+use Rattle.grammar.specs.Slots.{form_number, slot_in}
 use Rattle.file.proofs.writing.file_length.Goals.{After-record_length-sum}
 
-left : (c : After-record_length-sum) → let l = c.loop-n in let a = c.args in l.sum + c.record_length-sum.result + length (records_bytes a.form (file_records - (l.n + 1)) a.d.now (l.n + 1) (l.place + c.slot_at-slot.result.places)) ≡ length (encode_as a.form a.d.now)
+left : (c : After-record_length-sum) → let l = c.loop-n in let a = c.args in l.sum + c.record_length-sum.result + length (records_bytes (form_number a.form) (file_records - (l.n + 1)) a.d.now (l.n + 1) (l.place + c.slot_at-slot.result.places)) ≡ length (encode_as (form_number a.form) a.d.now)
 left c =
     let l = c.loop-n in
     let a = c.args in
     let d = a.d.now in
     let s = c.slot_at-slot in
-    omega (arith, c.record_length-sum.ensures, ap length (records_step a.form d l.n l.place s.result (omega arith) s.ensures) ∙ length-append (record_bytes d s.result l.place) (records_bytes a.form (file_records - (l.n + 1)) d (l.n + 1) (l.place + s.result.places)))
+    omega (arith, c.record_length-sum.ensures, ap length (records_step (form_number a.form) d l.n l.place (slot_in s.result) (omega arith) s.ensures) ∙ length-append (record_bytes d (slot_in s.result) l.place) (records_bytes (form_number a.form) (file_records - (l.n + 1)) d (l.n + 1) (l.place + s.result.places)))
 
 pub loop-n-init : goal.loop-n-init
 unfolding encode_as
-loop-n-init c = (omega arith, zero-add _, refl)
+loop-n-init c = (zero-add _, refl)
 
 pub record_length-sum-requires : goal.record_length-sum-requires
-record_length-sum-requires c = omega (arith, few_places c.args.form c.loop-n.n, ap (λ (s : Slot). s.places) c.slot_at-slot.ensures)
+record_length-sum-requires c = omega (arith, few_places (form_number c.args.form) c.loop-n.n, ap (λ (s : Slot). s.places) c.slot_at-slot.ensures)
 
 pub overflow_add-sum : goal.overflow_add-sum
 unfolding encode_as
 overflow_add-sum c =
     let a = c.args in
-    omega (arith, left (goal.at.overflow_add-sum c).After-record_length-sum, length_records a.form file_records a.d.now 0 0)
+    omega (arith, left (goal.at.overflow_add-sum c).After-record_length-sum, length_records (form_number a.form) file_records a.d.now 0 0)
 
 pub overflow_add-place : goal.overflow_add-place
 overflow_add-place c =
     let l = c.loop-n in
-    omega (arith, ap (λ (s : Slot). s.places) c.slot_at-slot.ensures, record_room c.args.form l.n (omega arith))
+    omega (arith, ap (λ (s : Slot). s.places) c.slot_at-slot.ensures, record_room (form_number c.args.form) l.n (omega arith))
 
 pub loop-n-preserved : goal.loop-n-preserved
 loop-n-preserved c =
     let l = c.loop-n in
-    (omega arith, omega (arith, left (goal.at.loop-n-preserved c).After-record_length-sum), omega (arith, start_next c.args.form l.n, ap (λ (s : Slot). s.places) c.slot_at-slot.ensures))
+    (omega (arith, left (goal.at.loop-n-preserved c).After-record_length-sum), omega (arith, start_next (form_number c.args.form) l.n, ap (λ (s : Slot). s.places) c.slot_at-slot.ensures))
 
 pub returns : goal.returns
 unfolding records_bytes
@@ -48,4 +49,4 @@ returns c =
     let l = c.loop-n in
     let a = c.args in
     let z : file_records - l.n ≡ 0 = omega arith in
-    omega (arith, l.invariant.1, ap (λ (m : ℕ). length (records_bytes a.form m a.d.now l.n l.place)) z)
+    omega (arith, l.invariant.0, ap (λ (m : ℕ). length (records_bytes (form_number a.form) m a.d.now l.n l.place)) z)

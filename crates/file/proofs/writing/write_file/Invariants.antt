@@ -1,13 +1,11 @@
-use Prim.Native.Nat.{◌-◌, ◌≤◌}
+use Prim.Native.Nat.{◌-◌}
 use mathlib.Core.Path.{◌≡◌}
 use Rattle.base.proofs.Buffers.{Written}
 use Rattle.rules.specs.File.{records_bytes, encode_as}
 use Rattle.rules.specs.Format.{file_records}
 use Rattle.grammar.specs.Places.{start_of}
+use Rattle.grammar.specs.Slots.{form_number}
 use Rattle.file.proofs.writing.write_file.Given as goal
 
 abbrev pub invariant-loop-n : goal.invariant-loop-n
-invariant-loop-n l = (l.n ≤ file_records) × Written l.initial.out (encode_as l.form l.d) (records_bytes l.form (file_records - l.n) l.d l.n l.place) l.at l.out × (l.place ≡ start_of l.n)
-
-abbrev pub decreases-loop-n : goal.decreases-loop-n
-decreases-loop-n l = file_records - l.n
+invariant-loop-n l = Written l.initial.out (encode_as (form_number l.form) l.d) (records_bytes (form_number l.form) (file_records - l.n) l.d l.n l.place) l.at l.out × (l.place ≡ start_of l.n)

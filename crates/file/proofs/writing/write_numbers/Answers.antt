@@ -1,24 +1,26 @@
 -- `write_numbers` meets its contract: what is written so far and what is to come is the whole.
-use Prim.Native.Nat.{ℕ, ◌+◌, ◌-◌, ◌≤◌}
-use mathlib.Core.Path.{◌≡◌, ap}
+use Prim.Native.Nat.{ℕ, ◌+◌, ◌-◌, ◌≤◌, ◌<◌}
+use mathlib.Core.Path.{◌≡◌, ap, ◌∙◌}
 use mathlib.Core.List.{◌++◌}
 use native.Mathlib.Nat.{sub-zero, add-zero}
 use native.Mathlib.Omega.{arith}
-use lib.ListN.{length, get_or, length-drop}
+use lib.ListN.{length, get_or, take, drop, length-drop}
+use lib.Seq.{get_or-take, get_or-drop}
 use Rattle.base.proofs.Bytes.{length_bytes}
 use Rattle.base.proofs.Buffers.{Written, written_none, written_all, written_more, tail_room, whole_tail}
 use Rattle.base.specs.Bytes.{bytes_of}
 use Rattle.rules.specs.File.{number_bytes}
 use Rattle.file.proofs.Steps.{numbers_step}
 use Rattle.file.proofs.writing.write_numbers.Goals as goal
+use Rattle.grammar.specs.Slots.{slot_in}
 use Rattle.file.proofs.writing.write_numbers.Goals.{After-field_at-f}
 
 -- a number is to come, and there is room for it
-now : (c : After-field_at-f) → let l = c.loop-i in let a = c.args in Written a.out.now (number_bytes a.slot.places a.d.now a.slot 0 a.place) (bytes_of c.field_at-f.result.width (get_or a.d.now (a.place + l.i) 0) ++ number_bytes (a.slot.places - (l.i + 1)) a.d.now a.slot (l.i + 1) (a.place + (l.i + 1))) l.at l.out
+now : (c : After-field_at-f) → let l = c.loop-i in let a = c.args in Written a.out.now (number_bytes a.slot.places a.d.now (slot_in a.slot) 0 a.place) (bytes_of c.field_at-f.result.width (get_or a.d.now (a.place + l.i) 0) ++ number_bytes (a.slot.places - (l.i + 1)) a.d.now (slot_in a.slot) (l.i + 1) (a.place + (l.i + 1))) l.at l.out
 now c =
     let l = c.loop-i in
     let a = c.args in
-    rw (numbers_step a.slot.places a.d.now a.slot l.i a.place c.field_at-f.result (omega arith) c.field_at-f.ensures) at l.invariant.1
+    rw (numbers_step a.slot.places a.d.now (slot_in a.slot) l.i a.place c.field_at-f.result (omega arith) c.field_at-f.ensures) at l.invariant
 
 room : (c : After-field_at-f) → let l = c.loop-i in l.at + c.field_at-f.result.width ≤ length l.out
 room c =
@@ -28,13 +30,13 @@ room c =
     omega (arith, tail_room (bytes_of w (get_or a.d.now (a.place + l.i) 0)) _ (now c) c.requires.place_in_bounds, length_bytes w (get_or a.d.now (a.place + l.i) 0))
 
 pub loop-i-init : goal.loop-i-init
-loop-i-init c = (omega arith, rw (sub-zero, add-zero) (written_none _ _))
+loop-i-init c = rw (sub-zero, add-zero) (written_none _ _)
 
 pub slice_bounds-put-count : goal.slice_bounds-put-count
-slice_bounds-put-count c = omega (arith, c.loop-i.invariant.1.room)
+slice_bounds-put-count c = omega (arith, c.loop-i.invariant.room)
 
 pub slice_bounds-put-start : goal.slice_bounds-put-start
-slice_bounds-put-start c = omega (arith, c.loop-i.invariant.1.room)
+slice_bounds-put-start c = omega (arith, c.loop-i.invariant.room)
 
 pub put-requires : goal.put-requires
 put-requires c =
@@ -53,8 +55,10 @@ loop-i-preserved c =
     let bs = bytes_of w (get_or a.d.now (a.place + l.i) 0) in
     let n : length bs ≡ w = length_bytes w (get_or a.d.now (a.place + l.i) 0) in
     let p = c.put in
-    let more = written_more bs (number_bytes (a.slot.places - (l.i + 1)) a.d.now a.slot (l.i + 1) (a.place + (l.i + 1))) (now (goal.at.loop-i-preserved c).After-field_at-f) c.requires.place_in_bounds p.new.out (rw n p.ensures) in
-    (omega arith, rw n at more)
+    let i : l.i < a.slot.places = omega arith in
+    let v : get_or (take (a.place + a.slot.places - a.place) (drop a.place a.d.now)) l.i 0 ≡ get_or a.d.now (a.place + l.i) 0 = get_or-take (a.place + a.slot.places - a.place) (drop a.place a.d.now) l.i 0 (omega arith) ∙ get_or-drop a.place a.d.now l.i 0 in
+    let more = written_more bs (number_bytes (a.slot.places - (l.i + 1)) a.d.now (slot_in a.slot) (l.i + 1) (a.place + (l.i + 1))) (now (goal.at.loop-i-preserved c).After-field_at-f) c.requires.place_in_bounds p.new.out (rw (n, ← v) p.ensures) in
+    rw n at more
 
 pub returns : goal.returns
 unfolding number_bytes
@@ -62,5 +66,5 @@ returns c =
     let l = c.loop-i in
     let a = c.args in
     let z : a.slot.places - l.i ≡ 0 = omega arith in
-    let w = written_all l.invariant.1 (ap (λ (m : ℕ). number_bytes m a.d.now a.slot l.i (a.place + l.i)) z) in
+    let w = written_all l.invariant (ap (λ (m : ℕ). number_bytes m a.d.now (slot_in a.slot) l.i (a.place + l.i)) z) in
     record { value = w.0; out_after = w.1 }
