@@ -1,11 +1,14 @@
 -- What the programs print.
-use Rattle.std.specs.Prelude.{ℕ, zero, suc, ◌+◌, ◌-◌, ◌*◌, min, List, [], ◌++◌, eqb, get_or}
+use Rattle.std.specs.Prelude.{ℕ, zero, suc, ◌+◌, ◌-◌, ◌*◌, min, List, [], ◌++◌, eqb, get_or, Option, None, Some, Result}
 use Rattle.base.specs.Choice.{pick}
 use Rattle.base.specs.Text.{text, most_digits, decimal}
 use Rattle.rules.specs.District.{most_segments, segments_of}
 use Rattle.rules.specs.declared.Unit.{Unit}
 use Rattle.rules.specs.declared.Programme.{Programme}
-use Rattle.rules.specs.Answers.{Answer, Accepted, Refused, Answered}
+use Rattle.rules.specs.Answers.{Answer, Accepted, Refused, Answered, answer_in}
+use Rattle.rules.specs.Desks.{console_number}
+use Rattle.rules.specs.declared.Console.{Console}
+use Rattle.rules.specs.declared.refusals.Refusal.{Refusal}
 use Rattle.rules.specs.declared.Reason.{Reason}
 use Rattle.rules.specs.declared.Reason.TheVariants.{InProgramme, Barred, MinimumMissed, OverallMissed, NoBenefit, LeaderHasNothing, OverAlone, OverBeside, NoGreaterTotal}
 use Rattle.rules.specs.Calls.{Why}
@@ -78,6 +81,11 @@ carried n answer = ended (text "console ") n (text " ") ++ done answer
 -- of a step; 0 for the number says that no edit waited
 unfoldable pub stepped : ℕ → Answer → List ℕ
 stepped n answer = pick (eqb n 0) (text "idle\n") (carried n answer)
+
+-- of what a step gives: the console and the edit's answer, or nothing
+abbrev pub stepped_in : Option (Console × Result ℕ Refusal) → List ℕ
+stepped_in None = stepped 0 (Accepted 0)
+stepped_in (Some s) = stepped (console_number s.0) (answer_in s.1)
 
 -- of a load, with the programme
 unfoldable pub planned : Answer → Unit → List ℕ

@@ -1,14 +1,15 @@
 // What the programs print, written to the front of a lent buffer. Each writer takes what remains of the buffer, and
-// says how many bytes it wrote.
+// says how many bytes it wrote. No Display: the programs have no heap, and a contract says which bytes the buffer holds.
 #![tactic(auto)]
 
-ghost use Rattle.std.specs.Prelude.{◌≡◌, ◌+◌, ◌≤◌, min, length, take};
+ghost use Rattle.std.specs.Prelude.{◌≡◌, ◌+◌, ◌≤◌, length, take};
 ghost use Rattle.base.specs.Text.{decimal, Writes, Put};
-ghost use Rattle.listing.specs.Listing.{named, ended, line, segment_line, segment_lines, steps_line, results, listing, shown, refusal, done, carried, stepped, planned, valued, pair_line, over_line, reason_line, explained, told, failed, longest_refusal, longest_stepped, longest_reason, longest_roughness, longest_listing};
-ghost use Rattle.rules.specs.District.{most_segments};
+ghost use Rattle.listing.specs.Listing.{named, ended, line, segment_line, segment_lines, steps_line, results, listing, shown, refusal as refusal_line, done, carried, stepped_in, planned, valued, pair_line, over_line, reason_line, explained, told, failed, longest_refusal, longest_stepped, longest_reason, longest_roughness, longest_listing};
+ghost use Rattle.rules.specs.Answers.{number_of, answer_in};
+ghost use Rattle.rules.specs.Desks.{console_number};
 
 use rules::places::{MOST_SEGMENTS, SEGMENT_COUNT};
-use rules::{Answer, Programme, Reason, Roughness, Unit, Why};
+use rules::{Answer, Console, Programme, Reason, Refusal, Roughness, Unit};
 
 // The most bytes of a listing: a line for each segment, with two numbers of up to 20 digits, and the results.
 pub const LONGEST_LISTING: usize = 42 * MOST_SEGMENTS + 127;
@@ -17,12 +18,9 @@ pub fn put(out: &mut [u8], bytes: &[u8]) -> usize
     requires { length bytes.now ≤ length out.old }
     ensures { Put bytes.now out.old out.new result }
 {
-    let mut i = 0;
-    while i < bytes.len() {
-        out[i] = bytes[i];
-        i += 1;
-    }
-    i
+    let n = bytes.len();
+    out[..n].copy_from_slice(bytes);
+    n
 }
 
 // The digits of its tenth, then the last one.
@@ -32,15 +30,16 @@ pub fn put_number(out: &mut [u8], value: usize) -> usize
     ensures writes { Writes (take result out.new) value }
 {
     if value < 10 {
-        out[0] = 48 + value as u8;
+        out[0] = b'0' + value as u8;
         return 1;
     }
     let at = put_number(out, value / 10);
-    out[at] = 48 + (value % 10) as u8;
+    out[at] = b'0' + (value % 10) as u8;
     at + 1
 }
 
 // A word and a number, the same with an end behind them, and as a line.
+#[tactic(auto, using(base::proofs::Text::front_fits, crate::proofs::Pieces::second_fits, crate::proofs::Pieces::put_two), unfolding(crate::specs::Listing::named))]
 pub fn put_named(out: &mut [u8], word: &[u8], value: usize) -> usize
     requires { length (named word.now value) ≤ length out.old }
     ensures { Put (named word.now value) out.old out.new result }
@@ -49,6 +48,7 @@ pub fn put_named(out: &mut [u8], word: &[u8], value: usize) -> usize
     at + put_number(&mut out[at..], value)
 }
 
+#[tactic(auto, using(base::proofs::Text::front_fits, crate::proofs::Pieces::second_fits, crate::proofs::Pieces::put_two), unfolding(crate::specs::Listing::ended))]
 fn put_ended(out: &mut [u8], word: &[u8], value: usize, end: &[u8]) -> usize
     requires { length (ended word.now value end.now) ≤ length out.old }
     ensures { Put (ended word.now value end.now) out.old out.new result }
@@ -57,6 +57,7 @@ fn put_ended(out: &mut [u8], word: &[u8], value: usize, end: &[u8]) -> usize
     at + put(&mut out[at..], end)
 }
 
+#[tactic(auto, unfolding(crate::specs::Listing::line, base::specs::Text::text))]
 fn put_line(out: &mut [u8], word: &[u8], value: usize) -> usize
     requires { length (line word.now value) ≤ length out.old }
     ensures { Put (line word.now value) out.old out.new result }
@@ -65,6 +66,7 @@ fn put_line(out: &mut [u8], word: &[u8], value: usize) -> usize
 }
 
 // Two numbers in a line, each behind its word.
+#[tactic(auto, using(base::proofs::Text::front_fits, crate::proofs::Pieces::second_fits, crate::proofs::Pieces::put_two), unfolding(crate::specs::Listing::pair_line))]
 fn put_pair(out: &mut [u8], first: &[u8], a: usize, second: &[u8], b: usize) -> usize
     requires { length (pair_line first.now a second.now b) ≤ length out.old }
     ensures { Put (pair_line first.now a second.now b) out.old out.new result }
@@ -75,6 +77,7 @@ fn put_pair(out: &mut [u8], first: &[u8], a: usize, second: &[u8], b: usize) -> 
 
 // ---- a programme
 
+#[tactic(auto, using(base::proofs::Text::front_fits, crate::proofs::Pieces::second_fits, crate::proofs::Pieces::put_two), unfolding(crate::specs::Listing::segment_line, base::specs::Text::text))]
 fn put_segment_line(out: &mut [u8], segment: usize, strategy: usize) -> usize
     requires { length (segment_line segment strategy) ≤ length out.old }
     ensures { Put (segment_line segment strategy) out.old out.new result }
@@ -83,32 +86,32 @@ fn put_segment_line(out: &mut [u8], segment: usize, strategy: usize) -> usize
     at + put_line(&mut out[at..], b" ", strategy)
 }
 
-fn put_segment_lines(out: &mut [u8], strategies: [usize; MOST_SEGMENTS], n: usize) -> usize
-    requires n_le_most_segments { n ≤ most_segments }
-    requires strategies_in_bounds { length (segment_lines n 1 strategies) ≤ length out.old }
-    ensures { Put (segment_lines n 1 strategies) out.old out.new result }
+// A line for each segment, by the strategies that they get.
+fn put_segment_lines(out: &mut [u8], strategies: &[usize]) -> usize
+    requires { length (segment_lines (length strategies.now) 1 strategies.now) ≤ length out.old }
+    ensures { Put (segment_lines (length strategies.now) 1 strategies.now) out.old out.new result }
 {
-    let mut at: usize = 0;
-    let mut i: usize = 0;
-    while i < n {
-        at += put_segment_line(&mut out[at..], i + 1, strategies[i]);
-        i += 1;
+    let mut at = 0;
+    for (i, strategy) in strategies.iter().enumerate() {
+        at += put_segment_line(&mut out[at..], i + 1, *strategy);
     }
     at
 }
 
-fn put_steps_line(out: &mut [u8], p: Programme) -> usize
-    requires { length (steps_line p) ≤ length out.old }
-    ensures { Put (steps_line p) out.old out.new result }
+#[tactic(auto, using(base::proofs::Text::front_fits, crate::proofs::Pieces::second_of_three_fits, crate::proofs::Pieces::third_fits, crate::proofs::Pieces::put_three), unfolding(crate::specs::Listing::steps_line, base::specs::Text::text))]
+fn put_steps_line(out: &mut [u8], p: &Programme) -> usize
+    requires { length (steps_line p.now) ≤ length out.old }
+    ensures { Put (steps_line p.now) out.old out.new result }
 {
     let mut at = put_named(out, b"steps ", p.steps as usize);
     at += put_named(&mut out[at..], b" ", p.pickups as usize);
     at + put_line(&mut out[at..], b" ", p.changes as usize)
 }
 
-fn put_results(out: &mut [u8], p: Programme) -> usize
-    requires { length (results p) ≤ length out.old }
-    ensures { Put (results p) out.old out.new result }
+#[tactic(auto, using(base::proofs::Text::front_fits, crate::proofs::Pieces::second_of_three_fits, crate::proofs::Pieces::third_fits, crate::proofs::Pieces::put_three), unfolding(crate::specs::Listing::results, base::specs::Text::text))]
+fn put_results(out: &mut [u8], p: &Programme) -> usize
+    requires { length (results p.now) ≤ length out.old }
+    ensures { Put (results p.now) out.old out.new result }
 {
     let mut at = put_line(out, b"benefit ", p.total as usize);
     at += put_line(&mut out[at..], b"ceiling ", p.ceiling as usize);
@@ -116,94 +119,92 @@ fn put_results(out: &mut [u8], p: Programme) -> usize
 }
 
 // The programme of a district of `n` segments.
-fn put_listing(out: &mut [u8], p: Programme, n: usize) -> usize
+fn put_listing(out: &mut [u8], p: &Programme, n: usize) -> usize
     requires { longest_listing ≤ length out.old }
-    ensures { Put (listing p n) out.old out.new result }
+    ensures { Put (listing p.now n) out.old out.new result }
 {
-    let strategies = p.strategies;
-    let at = put_segment_lines(out, strategies, line_count(n));
+    let at = put_segment_lines(out, &p.strategies[..n.min(MOST_SEGMENTS)]);
     at + put_results(&mut out[at..], p)
 }
 
-fn line_count(n: usize) -> usize
-    ensures { result ≡ min n most_segments }
-{
-    if n < MOST_SEGMENTS { n } else { MOST_SEGMENTS }
-}
-
 // The unit's own.
-pub fn put_shown(out: &mut [u8], u: Unit) -> usize
+#[tactic(auto, unfolding(crate::specs::Listing::shown))]
+pub fn put_shown(out: &mut [u8], u: &Unit) -> usize
     requires { longest_listing ≤ length out.old }
-    ensures { Put (shown u) out.old out.new result }
+    ensures { Put (shown u.now) out.old out.new result }
 {
-    let p = u.programme;
-    let d = u.district;
-    put_listing(out, p, d[SEGMENT_COUNT])
+    put_listing(out, &u.programme, u.district[SEGMENT_COUNT])
 }
 
 // ---- the answer to a call
 
-pub fn put_refusal(out: &mut [u8], n: usize) -> usize
+#[tactic(auto, using(crate::proofs::Lengths::refusal_few), unfolding(crate::specs::Listing::refusal, base::specs::Text::text))]
+pub fn put_refusal(out: &mut [u8], refusal: Refusal) -> usize
     requires { longest_refusal ≤ length out.old }
-    ensures { Put (refusal n) out.old out.new result }
+    ensures { Put (refusal_line (number_of refusal)) out.old out.new result }
 {
-    put_line(out, b"refused ", n)
+    put_line(out, b"refused ", usize::from(refusal))
 }
 
+#[tactic(auto, unfolding(crate::specs::Listing::done, base::specs::Text::text))]
 pub fn put_done(out: &mut [u8], answer: Answer) -> usize
     requires { longest_refusal ≤ length out.old }
-    ensures { Put (done answer) out.old out.new result }
+    ensures { Put (done (answer_in answer)) out.old out.new result }
 {
     match answer {
-        Answer::Accepted(_) => put(out, b"ok\n"),
-        Answer::Refused(n) => put_refusal(out, n),
+        Ok(_) => put(out, b"ok\n"),
+        Err(refusal) => put_refusal(out, refusal),
     }
 }
 
 // Of an edit that a step carried out, with its console.
-fn put_carried(out: &mut [u8], console: usize, answer: Answer) -> usize
+#[tactic(auto, using(base::proofs::Text::front_fits, crate::proofs::Pieces::second_fits, crate::proofs::Pieces::put_two, crate::proofs::Lengths::console_fits, crate::proofs::Lengths::carried_fits), unfolding(crate::specs::Listing::carried, base::specs::Text::text))]
+fn put_carried(out: &mut [u8], console: Console, answer: Answer) -> usize
     requires { longest_stepped ≤ length out.old }
-    ensures { Put (carried console answer) out.old out.new result }
+    ensures { Put (carried (console_number console) (answer_in answer)) out.old out.new result }
 {
-    let at = put_ended(out, b"console ", console, b" ");
+    let at = put_ended(out, b"console ", usize::from(console), b" ");
     at + put_done(&mut out[at..], answer)
 }
 
-// Of a step; console 0 says that no edit waited.
-pub fn put_stepped(out: &mut [u8], console: usize, answer: Answer) -> usize
+// Of a step, which gives nothing where no edit waited.
+#[tactic(auto, unfolding(crate::specs::Listing::stepped, base::specs::Text::text))]
+pub fn put_stepped(out: &mut [u8], stepped: Option<(Console, Answer)>) -> usize
     requires { longest_stepped ≤ length out.old }
-    ensures { Put (stepped console answer) out.old out.new result }
+    ensures { Put (stepped_in stepped) out.old out.new result }
 {
-    if console == 0 {
-        return put(out, b"idle\n");
+    match stepped {
+        Some((console, answer)) => put_carried(out, console, answer),
+        None => put(out, b"idle\n"),
     }
-    put_carried(out, console, answer)
 }
 
 // Of a load, with the programme.
 #[tactic(auto, unfolding(crate::specs::Listing::planned))]
-pub fn put_planned(out: &mut [u8], answer: Answer, u: Unit) -> usize
+pub fn put_planned(out: &mut [u8], answer: Answer, u: &Unit) -> usize
     requires { longest_listing ≤ length out.old }
-    ensures { Put (planned answer u) out.old out.new result }
+    ensures { Put (planned (answer_in answer) u.now) out.old out.new result }
 {
     match answer {
-        Answer::Accepted(_) => put_shown(out, u),
-        Answer::Refused(number) => put_refusal(out, number),
+        Ok(_) => put_shown(out, u),
+        Err(refusal) => put_refusal(out, refusal),
     }
 }
 
+#[tactic(auto, using(crate::proofs::Lengths::line_fits), unfolding(crate::specs::Listing::valued))]
 pub fn put_valued(out: &mut [u8], word: &[u8], answer: Answer) -> usize
     requires { length word.now + longest_refusal ≤ length out.old }
-    ensures { Put (valued word.now answer) out.old out.new result }
+    ensures { Put (valued word.now (answer_in answer)) out.old out.new result }
 {
     match answer {
-        Answer::Accepted(value) => put_line(out, word, value),
-        Answer::Refused(refusal) => put_refusal(out, refusal),
+        Ok(value) => put_line(out, word, value),
+        Err(refusal) => put_refusal(out, refusal),
     }
 }
 
 // ---- the answer to why
 
+#[tactic(auto, unfolding(crate::specs::Listing::over_line, base::specs::Text::text))]
 fn put_over(out: &mut [u8], resource: usize, end: &[u8]) -> usize
     requires { length (over_line resource end.now) ≤ length out.old }
     ensures { Put (over_line resource end.now) out.old out.new result }
@@ -211,6 +212,7 @@ fn put_over(out: &mut [u8], resource: usize, end: &[u8]) -> usize
     put_ended(out, b"over limit ", resource, end)
 }
 
+#[tactic(auto, using(crate::proofs::Lengths::pair_fits, crate::proofs::Lengths::over_fits), unfolding(crate::specs::Listing::reason_line, base::specs::Text::text))]
 fn put_reason(out: &mut [u8], reason: Reason) -> usize
     requires { longest_reason ≤ length out.old }
     ensures { Put (reason_line reason) out.old out.new result }
@@ -234,33 +236,35 @@ fn put_reason(out: &mut [u8], reason: Reason) -> usize
     }
 }
 
-pub fn put_why(out: &mut [u8], why: Why) -> usize
+#[tactic(auto, unfolding(crate::specs::Listing::explained))]
+pub fn put_why(out: &mut [u8], why: Result<Reason, Refusal>) -> usize
     requires { longest_reason ≤ length out.old }
-    ensures { Put (explained why) out.old out.new result }
+    ensures { Put (explained (answer_in why)) out.old out.new result }
 {
     match why {
-        Why::Because(reason) => put_reason(out, reason),
-        Why::Refused(number) => put_refusal(out, number),
+        Ok(reason) => put_reason(out, reason),
+        Err(refusal) => put_refusal(out, refusal),
     }
 }
 
 // ---- the answer to the question for roughness
 
-pub fn put_roughness(out: &mut [u8], roughness: Roughness) -> usize
+#[tactic(auto, using(crate::proofs::Lengths::pair_fits), unfolding(crate::specs::Listing::told, base::specs::Text::text))]
+pub fn put_roughness(out: &mut [u8], roughness: Result<Roughness, Refusal>) -> usize
     requires { longest_roughness ≤ length out.old }
-    ensures { Put (told roughness) out.old out.new result }
+    ensures { Put (told (answer_in roughness)) out.old out.new result }
 {
     match roughness {
-        Roughness::Points(points, marker) => {
-            let bits = marker as usize;
-            put_pair(out, b"points ", points, b" marker ", bits)
+        Ok(Roughness { points, marker }) => {
+            put_pair(out, b"points ", points, b" marker ", marker as usize)
         }
-        Roughness::Refused(number) => put_refusal(out, number),
+        Err(refusal) => put_refusal(out, refusal),
     }
 }
 
 // ---- a file that could not be had
 
+#[tactic(auto, using(base::proofs::Text::front_fits, crate::proofs::Pieces::second_of_three_fits, crate::proofs::Pieces::third_fits, crate::proofs::Pieces::put_three), unfolding(crate::specs::Listing::failed, base::specs::Text::text))]
 pub fn put_failed(out: &mut [u8], what: &[u8], path: &[u8]) -> usize
     requires { length (failed what.now path.now) ≤ length out.old }
     ensures { Put (failed what.now path.now) out.old out.new result }

@@ -1,22 +1,8 @@
 -- `listing::put_failed` meets its contract: three pieces, one after another.
-use Rattle.std.proofs.Common.{◌++◌}
 use Rattle.base.specs.Text.{text}
 use Rattle.listing.specs.Listing.{failed}
-use Rattle.base.proofs.Text.{front_fits}
-use Rattle.listing.proofs.Pieces.{second_of_three_fits, third_fits, put_three}
+use Rattle.listing.proofs.Pieces.{put_three}
 use Rattle.listing.proofs.put_failed.Goals as goal
-
-pub put-at-requires : goal.put-at-requires
-unfolding failed text
-put-at-requires c = front_fits c.args.what.now (c.args.path.now ++ (text "\n")) c.requires
-
-pub put-at-requires-2 : goal.put-at-requires-2
-unfolding failed text
-put-at-requires-2 c = second_of_three_fits c.args.what.now c.args.path.now (text "\n") c.requires c.put-at.ensures
-
-pub put-requires : goal.put-requires
-unfolding failed text
-put-requires c = third_fits c.args.what.now c.args.path.now (text "\n") c.requires c.put-at.ensures c.put-at-2.ensures
 
 pub returns : goal.returns
 unfolding failed text

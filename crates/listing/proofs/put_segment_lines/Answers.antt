@@ -1,5 +1,5 @@
--- `listing::put_segment_lines` meets its contract: what is written and what is to come is the whole.
-use Rattle.std.proofs.Common.{ℕ, ◌≡◌, ◌+◌, ◌-◌, ◌<◌, List, ◌++◌, get_or, arith}
+-- `listing::put_segment_lines` meets its contract.
+use Rattle.std.proofs.Common.{ℕ, ◌≡◌, ◌+◌, ◌-◌, ◌<◌, List, ◌++◌, length, get_or, arith}
 use Rattle.base.proofs.Buffers.{Written}
 use Rattle.base.proofs.Text.{put_all, put_more, tail_fits}
 use Rattle.listing.specs.Listing.{lines_from, segment_line, strategy_line, segment_lines}
@@ -17,17 +17,17 @@ next n i s h w =
 pub put_segment_line-at-requires : goal.put_segment_line-at-requires
 put_segment_line-at-requires c =
     let l = c.loop-i in
-    tail_fits (segment_line (l.i + 1) (get_or c.args.strategies l.i 0)) _ (next c.args.n l.i c.args.strategies c.loop-i-test.true l.invariant.1) c.requires.strategies_in_bounds
+    let s = c.args.strategies.now in
+    tail_fits (segment_line (l.i + 1) (get_or s l.i 0)) _ (next (length s) l.i s (omega arith) l.invariant) c.requires
 
 pub loop-i-preserved : goal.loop-i-preserved
 loop-i-preserved c =
-    let l = c.loop-i in (
-      omega arith,
-      put_more (segment_line (l.i + 1) (get_or c.args.strategies l.i 0)) _ (next c.args.n l.i c.args.strategies c.loop-i-test.true l.invariant.1) c.requires.strategies_in_bounds c.put_segment_line-at.ensures,
-    )
+    let l = c.loop-i in
+    let s = c.args.strategies.now in
+    put_more (segment_line (l.i + 1) (get_or s l.i 0)) _ (next (length s) l.i s (omega arith) l.invariant) c.requires c.put_segment_line-at.ensures
 
 pub returns : goal.returns
 unfolding lines_from
 returns c =
-    let none : c.args.n - c.loop-i.i ≡ 0 = omega arith in
-    put_all (rw none at c.loop-i.invariant.1)
+    let none : length c.args.strategies.now - c.loop-i.i ≡ 0 = omega arith in
+    put_all (rw none at c.loop-i.invariant)
