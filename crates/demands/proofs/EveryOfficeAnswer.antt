@@ -31,13 +31,13 @@ every_office_answer o AskRoughness =
 -- the points for a window
 
 points_given : (n points marker : ℕ) → n ≡ 0 → points_unless n points marker ≡ Accepted (points_at points marker)
-unfolding points_unless
+unfolding points_unless answer_of
 points_given n points marker e = rw e
 
 points_refused :
     (t : Bool) (points marker : ℕ) → ¬ (unless t window_empty 0 ≡ 0)
     → points_unless (unless t window_empty 0) points marker ≡ Refused window_empty
-unfolding points_unless
+unfolding points_unless answer_of
 points_refused true points marker some = absurd (some refl)
 points_refused false points marker some = refl
 

@@ -14,20 +14,20 @@ use Rattle.rules.specs.declared.Reason.{Reason}
 use Rattle.rules.specs.declared.Reason.TheVariants.{NoGreaterTotal}
 use Rattle.theorems.specs.Reasons.{EveryReason}
 use Rattle.theorems.proofs.Reasons.{explained_some}
-use Rattle.rules.specs.Answers.{Accepted, Refused}
+use Rattle.rules.specs.Answers.{answer_of, Accepted, Refused}
 
 module _ (u : Unit) (i j : ℕ) where
   pub why_accepted : bar_refusal u.district i j ≡ 0 → why_of u i j ≡ Accepted (reason_for u.district u.programme.strategies i j)
-  unfolding why_of explained
+  unfolding why_of explained answer_of
   why_accepted e = rw e
 
   why_refused : (n : ℕ) → bar_refusal u.district i j ≡ suc n → why_of u i j ≡ Refused (suc n)
-  unfolding why_of explained
+  unfolding why_of explained answer_of
   why_refused n e = rw e
 
 -- a reason for an answer is the one that the search came to
 named : (n : ℕ) (q r : Reason) → explained n q ≡ Accepted r → q ≡ r
-unfolding explained
+unfolding explained answer_of
 named zero q r e = cc
 named (suc n) q r e = absurd (let z : ◌≡◌ {A = ℕ} 0 1 = cc in omega arith)
 
