@@ -1,7 +1,7 @@
 -- Laws of the search for changes: what raises nothing is no change, and how the nested loops find the first.
 use Prim.Native.Nat.{ℕ, zero, suc, ◌+◌, ◌-◌, ◌^◌, ◌≤◌, ◌<◌}
 use mathlib.Core.Path.{◌≡◌, refl, sym, ap, ◌∙◌}
-use mathlib.Core.Bool.{Bool, true, false, ◌&&◌, and-false, or-true, true≢false}
+use mathlib.Core.Bool.{Bool, true, false, ◌&&◌, and-false, or-true}
 use mathlib.Core.List.{List}
 use Rattle.std.specs.Prelude.{Option, None, Some}
 use native.Mathlib.Omega.{arith}
@@ -46,10 +46,8 @@ use Rattle.laws.proofs.Give.{kept, total_give, used_give, within_less}
 use Rattle.tables.specs.declared.Size.{Size}
 use Rattle.tables.specs.Arrays.{benefit_at, tables, Benefits, Running}
 use Rattle.tables.proofs.Arrays.{benefit_nothing, benefit_lt, total_le}
-use Rattle.tables.proofs.Moves.{from_cell}
-use Rattle.phase3.specs.Improve.{after, is_nothing, made, Found, counts_one, counts_two, top, Compared, present, pair_may_rise}
-use Rattle.phase3.specs.declared.Change.{Change}
-use Rattle.phase3.specs.declared.Change.TheVariants.{Nothing, One, Two}
+use Rattle.phase3.specs.Improve.{after, Found, counts_one, counts_two, top, present, pair_may_rise}
+use Rattle.phase3.specs.declared.change.Change.{Change}
 
 -- ---- whether the total rises, by the benefits of the segments that change
 
@@ -252,15 +250,6 @@ top_le s {b} g i = most_bound s (2 ^ 40) (benefit_at b i) (λ j l h. let lt = be
 
 -- ---- what the loop of changes keeps
 
-pub compared : {z : Size} {b u c sums : List ℕ} → Benefits b → Running z u c sums → {i k : ℕ} → 1 ≤ i → i < k → k ≤ z.segments → Compared b c i k
-compared benefits running {i} {k} low above high =
-    record {
-      benefits = benefits;
-      places = running.chosen.places;
-      first = from_cell running i low (omega arith);
-      second = from_cell running k (omega arith) high;
-    }
-
 -- programme c after m changes from c₀
 pub record Under (z : Size) (leader : ℕ → ℕ) (b u l c₀ c sums : List ℕ) (m : ℕ) : Type 0 where
   pub running : Running z u c sums
@@ -308,48 +297,20 @@ module _ {z : Size} {leader : ℕ → ℕ} {b u l c₀ c sums : List ℕ} {m : �
 
 -- ---- the code's own changes
 
-pub nothing_made : (c : List ℕ) (x : Change) → is_nothing x ≡ true → made c x ≡ None
-nothing_made c Nothing e = refl
-nothing_made c (One i a) e = absurd (true≢false (sym e))
-nothing_made c (Two i k a b) e = absurd (true≢false (sym e))
-
-pub change_made : (c : List ℕ) (x : Change) → is_nothing x ≡ false → made c x ≡ Some (after c x)
-change_made c Nothing e = absurd (true≢false e)
-change_made c (One i a) e = refl
-change_made c (Two i k a b) e = refl
-
-pub found_nothing : {z : Size} {c : List ℕ} {x : Change} {search : Option (List ℕ)} → x ≡ Nothing → search ≡ None → Found z c x search
-found_nothing e q = rw (e, q) (record { is = refl; inside = tt })
-
 -- single changes come before pairs
-module _ (t : Table) (leader : ℕ → ℕ) {z : Size} {c : List ℕ} {x : Change} (single : Found z c x (first_single t leader c)) where
-  pub change_pair : is_nothing x ≡ true → {y : Change} → Found z c y (first_pair t leader c) → Found z c y (change t leader c)
+module _ (t : Table) (leader : ℕ → ℕ) {z : Size} {c : List ℕ} where
+  pub change_single : {x : Change} → Found z c (Some x) (first_single t leader c) → Found z c (Some x) (change t leader c)
   unfolding change
-  change_pair e pair =
-      record { is = pair.is ∙ sym (ap (λ (o : Option (List ℕ)). or_else o (first_pair t leader c)) (sym single.is ∙ nothing_made c x e)); inside = pair.inside }
+  change_single one = record { is = ap (λ (o : Option (List ℕ)). or_else o (first_pair t leader c)) one.is; inside = one.inside }
 
-  pub change_single : is_nothing x ≡ false → Found z c x (change t leader c)
+  pub change_pair : Found z c None (first_single t leader c) → {x : Option Change} → Found z c x (first_pair t leader c) → Found z c x (change t leader c)
   unfolding change
-  change_single e =
-      let m = change_made c x e in
-      record { is = m ∙ sym (ap (λ (o : Option (List ℕ)). or_else o (first_pair t leader c)) (sym single.is ∙ m)); inside = single.inside }
+  change_pair none pair =
+      record { is = pair.is ∙ ap (λ (o : Option (List ℕ)). or_else o (first_pair t leader c)) none.is; inside = pair.inside }
 
--- what a search found, as the loop of changes goes on or ends
-module _ {z : Size} {c : List ℕ} {x : Change} {search : Option (List ℕ)} (found : Found z c x search) where
-  pub turn : is_nothing x ≡ false → search ≡ Some (after c x)
-  turn e = sym found.is ∙ change_made c x e
-
-  pub no_turn : is_nothing x ≡ true → search ≡ None
-  no_turn e = sym found.is ∙ nothing_made c x e
-
--- a pair that is found comes first where those before it are none
-pub found_pair : (t : Table) (leader : ℕ → ℕ) {z : Size} {c : List ℕ} {x : Change} (i k : ℕ) → 1 ≤ i → i < k → k ≤ t.segments
-    → ((p : ℕ) → p < i → 1 ≤ p → pairs_from t leader c p ≡ None) → ((p : ℕ) → p < k → 1 ≤ p → pairs_of t leader c i p ≡ None)
-    → Found z c x (pairs_of t leader c i k) → is_nothing x ≡ false → Found z c x (first_pair t leader c)
-found_pair t leader {z} {c} {x} i k li ik hk none-i none-k found e =
-    record { is = change_made c x e ∙ sym (pair_found t leader c i k (after c x) li ik hk none-i none-k (turn found e)); inside = found.inside }
-
-pub nothing_is : (x : Change) → is_nothing x ≡ true → x ≡ Nothing
-nothing_is Nothing e = refl
-nothing_is (One i a) e = absurd (true≢false (sym e))
-nothing_is (Two i k a b) e = absurd (true≢false (sym e))
+  -- a pair that is found comes first where those before it are none
+  pub found_pair : {x : Change} (i k : ℕ) → 1 ≤ i → i < k → k ≤ t.segments
+      → ((p : ℕ) → p < i → 1 ≤ p → pairs_from t leader c p ≡ None) → ((p : ℕ) → p < k → 1 ≤ p → pairs_of t leader c i p ≡ None)
+      → Found z c (Some x) (pairs_of t leader c i k) → Found z c (Some x) (first_pair t leader c)
+  found_pair {x} i k li ik hk none-i none-k found =
+      record { is = sym (pair_found t leader c i k (after c x) li ik hk none-i none-k (sym found.is)); inside = found.inside }

@@ -12,7 +12,7 @@ use lib.ListN.{get_or, set, length, length-set}
 use lib.Seq.{get_or-set_same, get_or-set_other}
 use Rattle.base.specs.Over.{all}
 use Rattle.base.proofs.All.{all_fails}
-use Rattle.rules.specs.District.{most_strategies}
+use Rattle.rules.specs.District.{most_strategies, most_resources}
 use Rattle.rules.specs.Table.{Table}
 use Rattle.rules.specs.Phases.{strategy_at, give, chosen_usage, used, holds, within, respects, another, pair, pairs_of}
 use Rattle.laws.proofs.Give.{kept, used_give}
@@ -22,12 +22,13 @@ use Rattle.tables.specs.Moves.{Budgets, room_for}
 use Rattle.tables.proofs.Arrays.{limit_at_lem, usage_lt, usage_nothing, benefit_nothing}
 use Rattle.tables.proofs.Moves.{places, two_fits}
 use Rattle.phase3.specs.Improve.{top, present}
+use Rattle.phase3.specs.declared.memory.Row.{Row}
 use Rattle.phase3.specs.Memory.{
   offset,
   unreached,
-  row_places,
   mark,
   excess_of,
+  lowered,
   Lower,
   Tight,
   Alike,
@@ -45,7 +46,7 @@ use Rattle.phase3.proofs.ChangeSearch.{with_may_count, high_two, not_second, ove
 
 -- ---- a row that goes down
 
-pub lower_same : (row : List ℕ) → Lower row row
+pub lower_same : (row : Row) → Lower row row
 lower_same row = record { places = refl; marks = λ _. refl; down = λ r. omega arith }
 
 set_down : (row : List ℕ) (r v : ℕ) → v ≤ get_or row r 0 → (q : ℕ) → get_or (set row r v) q 0 ≤ get_or row q 0
@@ -55,18 +56,20 @@ set_down (x ∷ row) zero v h (suc q) = omega arith
 set_down (x ∷ row) (suc r) v h zero = omega arith
 set_down (x ∷ row) (suc r) v h (suc q) = set_down row r v h q
 
-pub lower_set : (row : List ℕ) (r v : ℕ) → 1 ≤ r → v ≤ get_or row r 0 → Lower row (set row r v)
-lower_set row r v low h =
-    record { places = length-set row r v; marks = λ _. get_or-set_other row r 0 v 0 (λ e. omega arith); down = set_down row r v h }
+lower_lowered : (row : Row) (r v : ℕ) → Lower row (lowered row r v)
+lower_lowered row r v =
+    record {
+      places = length-set row.excesses (r - 1) (min v (numbers row r));
+      marks = λ _. refl;
+      down = λ q. set_down row.excesses (r - 1) (min v (numbers row r)) (omega arith) (q - 1);
+    }
 
 -- the mark goes
-unmark : (row next : List ℕ) → get_or (set next 0 0) 0 0 ≡ 0 → Lower row next → Lower row (set next 0 0)
-unmark row next gone lower =
-    record {
-      places = length-set next 0 0 ∙ lower.places;
-      marks = λ h. absurd (omega (arith, gone, h));
-      down = λ r. omega (arith, set_down next 0 0 (omega arith) r, lower.down r);
-    }
+abbrev pub unmarked_as : Row → Row
+unmarked_as row = record { marked = 0; excesses = row.excesses }
+
+unmark : (row next : Row) → Lower row next → Lower row (unmarked_as next)
+unmark row next lower = record { places = lower.places; marks = λ h. absurd (omega arith); down = lower.down }
 
 -- ---- tight programmes
 
@@ -91,9 +94,9 @@ module _ {t : Table} {i k x y : ℕ} where
       }
 
   -- one number that goes down to another that the slack does not reach
-  pub tight_set : (row : List ℕ) (r v : ℕ) {c : List ℕ} → r < length row → t.limit r + offset < v + used t c r
-      → Tight t i k x y (numbers row) c → Tight t i k x y (numbers (set row r v)) c
-  tight_set row r v {c} inside h tight =
+  tight_lowered : (row : Row) (r v : ℕ) {c : List ℕ} → 1 ≤ r → r ≤ t.resources → r - 1 < length row.excesses → t.limit r + offset < v + used t c r
+      → Tight t i k x y (numbers row) c → Tight t i k x y (numbers (lowered row r v)) c
+  tight_lowered row r v {c} lr hr inside h tight =
       record {
         places = tight.places;
         first = tight.first;
@@ -101,9 +104,12 @@ module _ {t : Table} {i k x y : ℕ} where
         short = λ q low high. go q low high (eqb q r) refl;
       }
     where
-      go : (q : ℕ) → 1 ≤ q → q ≤ t.resources → (b : Bool) → eqb q r ≡ b → t.limit q + offset < get_or (set row r v) q 0 + used t c q
-      go q low high true e = rw (eqb-true q r e, get_or-set_same row r v 0 inside) h
-      go q low high false e = rw (get_or-set_other row r q v 0 (eqb-false q r e)) (tight.short q low high)
+      go : (q : ℕ) → 1 ≤ q → q ≤ t.resources → (b : Bool) → eqb q r ≡ b → t.limit q + offset < numbers (lowered row r v) q + used t c q
+      go q low high true e =
+          rw (eqb-true q r e, get_or-set_same row.excesses (r - 1) (min v (numbers row r)) 0 inside) (omega (arith, h, tight.short r lr hr))
+      go q low high false e =
+          let ne = eqb-false q r e in
+          rw (get_or-set_other row.excesses (r - 1) (q - 1) (min v (numbers row r)) 0 (λ z. ne (omega arith))) (tight.short q low high)
 
   module _ (low : 1 ≤ i) (above : i < k) (high : k ≤ t.segments) where
     -- what has an excess of at least the row's number is refused
@@ -133,13 +139,13 @@ module _ {z : Size} {p u l c sums given : List ℕ} {i k : ℕ} (s : Setting z p
   given_le r lr hr =
       omega (arith, s.budgets.each r lr hr, usage_lt s.running.uses i x r, usage_lt s.running.uses k y r)
 
-  pub refusal_none : (a b : ℕ) (row : List ℕ) → Refusal t c i k a b row row false
+  pub refusal_none : (a b : ℕ) (row : Row) → Refusal t c i k a b row row false
   refusal_none a b row = record { lower = lower_same row; tight = λ q. q; short = λ q. absurd (true≢false (sym q)) }
 
   pub all_fit : (a b : ℕ) → all z.resources (room_for u sums given i a k b) ≡ true → within t (give (give c i a) k b) ≡ true
   all_fit a b e = sym (two_fits s.running i a s.low (omega (arith, s.above, s.high)) p l k b s.above s.high s.budgets) ∙ e
 
-  module _ (a b : ℕ) (row : List ℕ) (r : ℕ) (lr : 1 ≤ r) (hr : r ≤ z.resources) (wide : length row ≡ row_places) (e : room_for u sums given i a k b r ≡ false) where
+  module _ (a b : ℕ) (row : Row) (r : ℕ) (lr : 1 ≤ r) (hr : r ≤ z.resources) (wide : length row.excesses ≡ most_resources) (e : room_for u sums given i a k b r ≡ false) where
     abbrev v : ℕ
     v = excess_of u l given i a k b r
 
@@ -160,14 +166,14 @@ module _ {z : Size} {p u l c sums given : List ℕ} {i k : ℕ} (s : Setting z p
           s.running.sums_are p l r lr hr,
         )
 
-    pub refusal_short : Refusal t c i k a b row (set row r (min v (get_or row r 0))) true
+    pub refusal_short : Refusal t c i k a b row (lowered row r v) true
     refusal_short =
-        let inside : r < length row = omega (arith, s.running.bounded.resources, wide) in
-        let there : get_or (set row r (min v (get_or row r 0))) r 0 ≡ min v (get_or row r 0) = get_or-set_same row r (min v (get_or row r 0)) 0 inside in
+        let inside : r - 1 < length row.excesses = omega (arith, s.running.bounded.resources, wide) in
+        let there : numbers (lowered row r v) r ≡ min v (numbers row r) = get_or-set_same row.excesses (r - 1) (min v (numbers row r)) 0 inside in
         record {
-          lower = lower_set row r (min v (get_or row r 0)) lr (omega arith);
-          tight = λ q. tight_set row r (min v (get_or row r 0)) inside (omega (arith, over, q.short r lr hr)) q;
-          short = λ _ d tight. tight_refuses s.low s.above s.high (numbers (set row r (min v (get_or row r 0)))) d tight a b r lr hr (omega (arith, there, excess_is));
+          lower = lower_lowered row r v;
+          tight = λ q. tight_lowered row r v lr hr inside over q;
+          short = λ _ d tight. tight_refuses s.low s.above s.high (numbers (lowered row r v)) d tight a b r lr hr (omega (arith, there, excess_is));
         }
 
   -- ---- a first strategy, and a pair, that are tested
@@ -179,8 +185,8 @@ module _ {z : Size} {p u l c sums given : List ℕ} {i k : ℕ} (s : Setting z p
   present_same : (e : List ℕ) → strategy_at e i ≡ x → strategy_at e k ≡ y → present t e i k ≡ present t c i k
   present_same e q₁ q₂ = rw (q₁, q₂)
 
-  module _ (a : ℕ) (row : List ℕ) where
-    with_not : (next : List ℕ) → Lower row next → (Tight t i k x y (numbers row) c → Tight t i k x y (numbers next) c)
+  module _ (a : ℕ) (row : Row) where
+    with_not : (next : Row) → Lower row next → (Tight t i k x y (numbers row) c → Tight t i k x y (numbers next) c)
         → ((e : List ℕ) → Tight t i k x y (numbers next) e → with_may_count t e i k a ≡ false) → WithTest t c i k a row next false
     with_not next lower tight h =
         record {
@@ -196,13 +202,13 @@ module _ {z : Size} {p u l c sums given : List ℕ} {i k : ℕ} (s : Setting z p
     pub with_low : t.benefit i a + top t k ≤ present t c i k → WithTest t c i k a row row false
     with_low h = with_not row (lower_same row) (λ q. q) (λ d q. not_more t d i k a (omega (arith, present_same d q.first q.second)))
 
-    pub with_test : (next : List ℕ) (refused : Bool) → another t c i a ≡ true → Refusal t c i k a 0 row next refused → (may : Bool) → may ≡ not refused → WithTest t c i k a row next may
+    pub with_test : (next : Row) (refused : Bool) → another t c i a ≡ true → Refusal t c i k a 0 row next refused → (may : Bool) → may ≡ not refused → WithTest t c i k a row next may
     with_test next true e r may q = rw q (with_not next r.lower r.tight (λ d g. not_fits t d i k a (r.short refl d g)))
     with_test next false e r may q =
         rw q (record { lower = r.lower; tight = r.tight; other = λ _. e; passed = λ z. absurd (true≢false z) })
 
-  module _ (leader : ℕ → ℕ) (a b : ℕ) (row : List ℕ) where
-    pair_not : (next : List ℕ) → Lower row next → (Tight t i k x y (numbers row) c → Tight t i k x y (numbers next) c)
+  module _ (leader : ℕ → ℕ) (a b : ℕ) (row : Row) where
+    pair_not : (next : Row) → Lower row next → (Tight t i k x y (numbers row) c → Tight t i k x y (numbers next) c)
         → ((d : List ℕ) → Tight t i k x y (numbers next) d → pair t leader d i k a b ≡ None) → PairTest t leader c i k a b row next false
     pair_not next lower tight h =
         record { lower = lower; tight = tight; counted = λ q. absurd (true≢false (sym q)); passed = λ _ d q. h d q.tight }
@@ -217,34 +223,40 @@ module _ {z : Size} {p u l c sums given : List ℕ} {i k : ℕ} (s : Setting z p
         pair_not row (lower_same row) (λ q. q)
         (λ d q. pair_none t leader d i k a b (not_second t leader d i k a b (another_same d k b q.second ∙ e)))
 
-    pub pair_over : (next : List ℕ) (refused : Bool) → Refusal t c i k a b row next refused → refused ≡ true → PairTest t leader c i k a b row next false
+    pub pair_over : (next : Row) (refused : Bool) → Refusal t c i k a b row next refused → refused ≡ true → PairTest t leader c i k a b row next false
     pair_over next refused r e =
         pair_not next r.lower r.tight (λ d q. pair_none t leader d i k a b (over_two t leader d i k a b (r.short e d q)))
 
     -- leaders decide of a pair that fits, and of programme c alone: the row has lost its mark
-    pub pair_test : (next : List ℕ) (refused : Bool) → Refusal t c i k a b row next refused → length row ≡ row_places → present t c i k < t.benefit i a + t.benefit k b → another t c i a ≡ true → another t c k b ≡ true
-        → within t (give (give c i a) k b) ≡ true → (ok : Bool) → ok ≡ respects leader z.segments (give (give c i a) k b) → PairTest t leader c i k a b row (set next 0 0) ok
-    pair_test next refused r wide h ei ek fit ok q =
-        let gone : get_or (set next 0 0) 0 0 ≡ 0 = get_or-set_same next 0 0 0 (omega (arith, r.lower.places, wide)) in
+    pub pair_test : (next : Row) (refused : Bool) → Refusal t c i k a b row next refused → present t c i k < t.benefit i a + t.benefit k b → another t c i a ≡ true → another t c k b ≡ true
+        → within t (give (give c i a) k b) ≡ true → (ok : Bool) → ok ≡ respects leader z.segments (give (give c i a) k b) → PairTest t leader c i k a b row (unmarked_as next) ok
+    pair_test next refused r h ei ek fit ok q =
         let known = high_two t leader c i a s.low (omega (arith, s.above, s.high)) (places s.running) k b s.above s.high h ei ek fit ∙ sym q in
         record {
-          lower = unmark row next gone r.lower;
-          tight = λ g. tight_under (numbers (set next 0 0)) (numbers next) (λ r low _. omega (arith, get_or-set_other next 0 r 0 0 (λ e. omega arith))) (r.tight g);
-          counted = λ e. (known ∙ e, gone);
-          passed = λ e d g. rw (g.same gone) (pair_none t leader c i k a b (known ∙ e));
+          lower = unmark row next r.lower;
+          tight = r.tight;
+          counted = λ e. (known ∙ e, refl);
+          passed = λ e d g. rw (g.same refl) (pair_none t leader c i k a b (known ∙ e));
         }
 
 -- ---- the search of two segments
 
 module _ (t : Table) (leader : ℕ → ℕ) (c : List ℕ) (i k : ℕ) where
-  alike_lower : {row next d : List ℕ} → Lower row next → Alike t c i k next d → Alike t c i k row d
+  zero_mark : {row next : Row} → Lower row next → row.marked ≡ 0 → next.marked ≡ 0
+  zero_mark {row} {next} lower e = go next.marked refl
+    where
+      go : (m : ℕ) → next.marked ≡ m → next.marked ≡ 0
+      go zero q = q
+      go (suc m) q = absurd (omega (arith, lower.marks (omega arith)))
+
+  alike_lower : {row next : Row} {d : List ℕ} → Lower row next → Alike t c i k next d → Alike t c i k row d
   alike_lower {row} {next} lower g =
       record {
         tight = tight_under (numbers row) (numbers next) (λ r _ _. lower.down r) g.tight;
-        same = λ e. g.same (omega (arith, lower.down 0, e));
+        same = λ e. g.same (zero_mark lower e);
       }
 
-  pub searching_lower : {row next : List ℕ} {a : ℕ} → Lower row next
+  pub searching_lower : {row next : Row} {a : ℕ} → Lower row next
       → (Tight t i k (strategy_at c i) (strategy_at c k) (numbers row) c → Tight t i k (strategy_at c i) (strategy_at c k) (numbers next) c)
       → Searching t leader c i k row a → Searching t leader c i k next a
   searching_lower lower tight g =
@@ -255,22 +267,22 @@ module _ (t : Table) (leader : ℕ → ℕ) (c : List ℕ) (i k : ℕ) where
         before = λ v lv d q. g.before v lv d (alike_lower lower q);
       }
 
-  pub passed_lower : {row next : List ℕ} (a b : ℕ) → Lower row next → PassedPair t leader c i k row a b → PassedPair t leader c i k next a b
+  pub passed_lower : {row next : Row} (a b : ℕ) → Lower row next → PassedPair t leader c i k row a b → PassedPair t leader c i k next a b
   passed_lower a b lower g d q = g d (alike_lower lower q)
 
   -- first strategy a is done with
-  pub searching_next : {row : List ℕ} {a : ℕ} → Searching t leader c i k row a → PassedWith t leader c i k row a → Searching t leader c i k row (a + 1)
+  pub searching_next : {row : Row} {a : ℕ} → Searching t leader c i k row a → PassedWith t leader c i k row a → Searching t leader c i k row (a + 1)
   searching_next {row} {a} g h =
       record { places = g.places; marked = g.marked; tight = g.tight; before = below_more _ _ g.before h }
 
-  pub passed_with : (row : List ℕ) (a : ℕ) → ((b : ℕ) → b < t.strategies + 1 → PassedPair t leader c i k row a b) → PassedWith t leader c i k row a
+  pub passed_with : (row : Row) (a : ℕ) → ((b : ℕ) → b < t.strategies + 1 → PassedPair t leader c i k row a b) → PassedWith t leader c i k row a
   passed_with row a h d q = with_none t leader d i k a (λ b lb. h b lb d q)
 
-  module _ {row : List ℕ} {a : ℕ} (g : Searching t leader c i k row a) where
+  module _ {row : Row} {a : ℕ} (g : Searching t leader c i k row a) where
     pub alike : Alike t c i k row c
     alike = record { tight = g.tight; same = λ _. refl }
 
-    pub unmarked_holds : get_or row 0 0 ≡ 0 → Holds t leader i k (numbers row)
+    pub unmarked_holds : row.marked ≡ 0 → Holds t leader i k row
     unmarked_holds e x y few small m = absurd (omega (arith, e, m))
 
     -- all of them are
@@ -282,7 +294,7 @@ module _ (t : Table) (leader : ℕ → ℕ) (c : List ℕ) (i k : ℕ) where
       searching_none = all_passed c alike
 
       -- a row that still has its mark holds for the strategies of that
-      pub searching_holds : strategy_at c i ≤ most_strategies → strategy_at c k ≤ most_strategies → Holds t leader i k (numbers row)
+      pub searching_holds : strategy_at c i ≤ most_strategies → strategy_at c k ≤ most_strategies → Holds t leader i k row
       searching_holds few small x y few₂ small₂ e =
           let m = g.marked (omega (arith, e)) in
           let ex : x ≡ strategy_at c i = omega (arith, m, e) in
@@ -295,8 +307,8 @@ setting_of b l r g low above high =
     record { benefits = b; limits = l; running = r; budgets = g; low = low; above = above; high = high }
 
 -- a row with unreached numbers
-pub searching_start : {z : Size} {p u l c sums given row : List ℕ} {i k : ℕ} → Setting z p u l c sums given i k → length row ≡ row_places → get_or row 0 0 ≡ mark (strategy_at c i) (strategy_at c k)
-    → ((r : ℕ) → 1 ≤ r → r ≤ z.resources → get_or row r 0 ≡ unreached) → (leader : ℕ → ℕ) → Searching (tables z p u l) leader c i k row 0
+pub searching_start : {z : Size} {p u l c sums given : List ℕ} {row : Row} {i k : ℕ} → Setting z p u l c sums given i k → length row.excesses ≡ most_resources
+    → row.marked ≡ mark (strategy_at c i) (strategy_at c k) → ((r : ℕ) → 1 ≤ r → r ≤ z.resources → numbers row r ≡ unreached) → (leader : ℕ → ℕ) → Searching (tables z p u l) leader c i k row 0
 searching_start {z} {p} {u} {l} s wide marked h leader =
     record {
       places = wide;

@@ -1,42 +1,38 @@
 -- What the code's own changes stand for, and each segment's greatest benefit.
-use Rattle.std.specs.Prelude.{ℕ, ◌+◌, ◌-◌, ◌≤◌, ◌<◌, ◌≡◌, Bool, true, false, ◌&&◌, List, ltb, get_or, length}
-use Rattle.std.specs.Prelude.{Option, None, Some}
+use Rattle.std.specs.Prelude.{ℕ, ◌+◌, ◌-◌, ◌≤◌, ◌<◌, ◌≡◌, Bool, ◌&&◌, List, ltb, get_or, length}
+use Rattle.std.specs.Prelude.{Option, None, Some, IfSome}
 use Rattle.base.specs.Over.{most}
 use Rattle.rules.specs.District.{most_segments}
 use Rattle.rules.specs.Table.{Table}
 use Rattle.rules.specs.Phases.{strategy_at, give, another, counts}
 use Rattle.tables.specs.declared.Size.{Size}
-use Rattle.tables.specs.Arrays.{benefit_at, Benefits, Cell}
-use Rattle.phase3.specs.declared.Change.{Change}
-use Rattle.phase3.specs.declared.Change.TheVariants.{Nothing, One, Two}
+use Rattle.tables.specs.Arrays.{benefit_at}
+use Rattle.phase3.specs.declared.change.Move.{Move}
+use Rattle.phase3.specs.declared.change.Change.{Change}
+use Rattle.phase3.specs.declared.change.Change.TheVariants.{One, Two}
 
--- programme c after a change
+-- programme c after a move, and after a change
+abbrev pub after_move : List ℕ → Move → List ℕ
+after_move c m = give c m.0 m.1
+
 abbrev pub after : List ℕ → Change → List ℕ
-after c Nothing = c
-after c (One i a) = give c i a
-after c (Two i k a b) = give (give c i a) k b
-
-abbrev pub is_nothing : Change → Bool
-is_nothing Nothing = true
-is_nothing (One i a) = false
-is_nothing (Two i k a b) = false
+after c (One m) = after_move c m
+after c (Two m n) = after_move (after_move c m) n
 
 -- the same as the rules give it: none where there is no change
-abbrev pub made : List ℕ → Change → Option (List ℕ)
-made c Nothing = None
-made c (One i a) = Some (give c i a)
-made c (Two i k a b) = Some (give (give c i a) k b)
+abbrev pub made : List ℕ → Option Change → Option (List ℕ)
+made c None = None
+made c (Some x) = Some (after c x)
 
 -- a change's numbers are the table's
 abbrev pub Inside : Size → Change → Type 0
-Inside z Nothing = Unit {0}
-Inside z (One i a) = (1 ≤ i) × (i ≤ z.segments) × (a ≤ z.strategies)
-Inside z (Two i k a b) = (1 ≤ i) × (i < k) × (k ≤ z.segments) × (a ≤ z.strategies) × (b ≤ z.strategies)
+Inside z (One m) = (1 ≤ m.0) × (m.0 ≤ z.segments) × (m.1 ≤ z.strategies)
+Inside z (Two m n) = (1 ≤ m.0) × (m.0 < n.0) × (n.0 ≤ z.segments) × (m.1 ≤ z.strategies) × (n.1 ≤ z.strategies)
 
 -- x is what a search of the rules found from programme c
-pub record Found (z : Size) (c : List ℕ) (x : Change) (search : Option (List ℕ)) : Type 0 where
+pub record Found (z : Size) (c : List ℕ) (x : Option Change) (search : Option (List ℕ)) : Type 0 where
   pub is : made c x ≡ search
-  pub inside : Inside z x
+  pub inside : IfSome x (Inside z)
 
 -- a single change, and a pair, that the search takes
 abbrev pub counts_one : Table → (ℕ → ℕ) → List ℕ → ℕ → ℕ → Bool
@@ -52,13 +48,6 @@ top t i = most t.strategies (t.benefit i)
 pub record Tops (z : Size) (b tops : List ℕ) : Type 0 where
   pub places : length tops ≡ most_segments
   pub each : (i : ℕ) → 1 ≤ i → i ≤ z.segments → get_or tops (i - 1) 0 ≡ most z.strategies (benefit_at b i)
-
--- what a comparison of segments i and k reads: the benefits, and a programme
-pub record Compared (b c : List ℕ) (i k : ℕ) : Type 0 where
-  pub benefits : Benefits b
-  pub places : length c ≡ most_segments
-  pub first : Cell i (strategy_at c i)
-  pub second : Cell k (strategy_at c k)
 
 -- the present benefit of segments i and k
 abbrev pub present : Table → List ℕ → ℕ → ℕ → ℕ

@@ -1,8 +1,8 @@
 -- What phase 3 remembers of two segments of which every pair of strategies that raises the total goes beyond a limit: the strategies that
 -- they have, and for each resource a number. While they have these strategies, and every resource's slack, its limit less its sum, is below
 -- its number, still no pair counts. A pair that leaders alone refuse is not remembered: it counts as soon as a third segment lets it.
-use Rattle.std.specs.Prelude.{ℕ, ◌+◌, ◌-◌, ◌*◌, ◌^◌, ◌≤◌, ◌<◌, ◌≡◌, Bool, true, false, ◌&&◌, List, eqb, ltb, get_or, length}
-use Rattle.std.specs.Prelude.{None}
+use Rattle.std.specs.Prelude.{ℕ, ◌+◌, ◌-◌, ◌*◌, ◌^◌, ◌≤◌, ◌<◌, ◌≡◌, min, Bool, true, false, ◌&&◌, List, [], eqb, ltb, get_or, set, length}
+use Rattle.std.specs.Prelude.{Option, None, Some}
 use Rattle.base.specs.Over.{all}
 use Rattle.rules.specs.District.{most_segments, most_strategies, most_resources}
 use Rattle.rules.specs.Table.{Table}
@@ -11,6 +11,7 @@ use Rattle.tables.specs.declared.Size.{Size}
 use Rattle.tables.specs.Arrays.{columns, usage_at, Benefits, Limits, Running}
 use Rattle.tables.specs.Moves.{Budgets}
 use Rattle.phase3.specs.Improve.{counts_two}
+use Rattle.phase3.specs.declared.memory.Row.{Row}
 
 -- Slacks and excesses may be negative, so both are kept with this added; and a number that no slack reaches.
 abbrev pub offset : ℕ
@@ -19,16 +20,12 @@ offset = 2 ^ 48
 abbrev pub unreached : ℕ
 unreached = 2 ^ 50
 
--- a row: its mark, and the number of each resource
-abbrev pub row_places : ℕ
-row_places = most_resources + 1
+-- a row for each two segments, and where the row of segments i and k stands
+abbrev pub row_count : ℕ
+row_count = most_segments * most_segments
 
-abbrev pub memory_places : ℕ
-memory_places = row_places * (most_segments * most_segments)
-
--- where the row of segments i and k begins
 abbrev pub row_at : ℕ → ℕ → ℕ
-row_at i k = row_places * (most_segments * (i - 1) + (k - 1))
+row_at i k = most_segments * (i - 1) + (k - 1)
 
 -- the mark of a row that holds for strategies x and y; a row marked 0 holds for none
 abbrev pub mark : ℕ → ℕ → ℕ
@@ -38,17 +35,24 @@ mark x y = columns * x + y + 1
 abbrev pub excess_of : List ℕ → List ℕ → List ℕ → ℕ → ℕ → ℕ → ℕ → ℕ → ℕ
 excess_of u l given i a k b r = usage_at u i a r + usage_at u k b r + (get_or l (r - 1) 0 + offset - get_or given (r - 1) 0)
 
--- r is a resource without room, or 0 where each of them has room
-pub record IsShort (resources : ℕ) (room : ℕ → Bool) (r : ℕ) : Type 0 where
-  pub number : r ≤ resources
-  pub none_short : r ≡ 0 → all resources room ≡ true
-  pub no_room : 1 ≤ r → room r ≡ false
+-- a resource without room, or none where each of them has room
+abbrev pub IsShort : ℕ → (ℕ → Bool) → Option ℕ → Type 0
+IsShort resources room None = all resources room ≡ true
+IsShort resources room (Some r) = (1 ≤ r) × (r ≤ resources) × (room r ≡ false)
+
+-- a row's number for resource r
+abbrev pub numbers : Row → ℕ → ℕ
+numbers row r = get_or row.excesses (r - 1) 0
+
+-- the number for resource r goes down to v
+abbrev pub lowered : Row → ℕ → ℕ → Row
+lowered row r v = record { marked = row.marked; excesses = set row.excesses (r - 1) (min v (numbers row r)) }
 
 -- the numbers of a row went down or stayed, and its mark stayed or went
-pub record Lower (row next : List ℕ) : Type 0 where
-  pub places : length next ≡ length row
-  pub marks : 1 ≤ get_or next 0 0 → get_or next 0 0 ≡ get_or row 0 0
-  pub down : (r : ℕ) → get_or next r 0 ≤ get_or row r 0
+pub record Lower (row next : Row) : Type 0 where
+  pub places : length next.excesses ≡ length row.excesses
+  pub marks : 1 ≤ next.marked → next.marked ≡ row.marked
+  pub down : (r : ℕ) → numbers next r ≤ numbers row r
 
 -- slacks, one for each resource, with the offset
 pub record Slacks (resources : ℕ) (l sums slacks : List ℕ) : Type 0 where
@@ -62,22 +66,19 @@ pub record Tight (t : Table) (i k x y : ℕ) (row : ℕ → ℕ) (c : List ℕ) 
   pub second : strategy_at c k ≡ y
   pub short : (r : ℕ) → 1 ≤ r → r ≤ t.resources → t.limit r + offset < row r + used t c r
 
--- the numbers of a row, and of the row that begins at a place of the memory
-abbrev pub numbers : List ℕ → ℕ → ℕ
-numbers row r = get_or row r 0
-
-abbrev pub numbers_at : List ℕ → ℕ → ℕ → ℕ
-numbers_at memory at r = get_or memory (at + r) 0
-
 -- a row holds for the strategies that its mark names: of the programmes that are tight with them none has a pair that counts
-abbrev pub Holds : Table → (ℕ → ℕ) → ℕ → ℕ → (ℕ → ℕ) → Type 0
+abbrev pub Holds : Table → (ℕ → ℕ) → ℕ → ℕ → Row → Type 0
 Holds t leader i k row =
-    (x y : ℕ) → x ≤ most_strategies → y ≤ most_strategies → row 0 ≡ mark x y → (c : List ℕ) → Tight t i k x y row c → pairs_of t leader c i k ≡ None
+    (x y : ℕ) → x ≤ most_strategies → y ≤ most_strategies → row.marked ≡ mark x y → (c : List ℕ) → Tight t i k x y (numbers row) c → pairs_of t leader c i k ≡ None
+
+-- a row that holds for none
+abbrev pub unmarked : Row
+unmarked = record { marked = 0; excesses = [] }
 
 -- and so does every row of the memory
-pub record Memory (t : Table) (leader : ℕ → ℕ) (memory : List ℕ) : Type 0 where
-  pub places : length memory ≡ memory_places
-  pub rows : (i k : ℕ) → 1 ≤ i → i < k → k ≤ t.segments → Holds t leader i k (numbers_at memory (row_at i k))
+pub record Remembers (t : Table) (leader : ℕ → ℕ) (rows : List Row) : Type 0 where
+  pub places : length rows ≡ row_count
+  pub each : (i k : ℕ) → 1 ≤ i → i < k → k ≤ t.segments → Holds t leader i k (get_or rows (row_at i k) unmarked)
 
 -- what a search of segments i and k reads, with the budgets where both give up what they have
 pub record Setting (z : Size) (b u l c sums given : List ℕ) (i k : ℕ) : Type 0 where
@@ -90,48 +91,48 @@ pub record Setting (z : Size) (b u l c sums given : List ℕ) (i k : ℕ) : Type
   pub high : k ≤ z.segments
 
 -- what a search of segments i and k in programme c finds out is true of c, and as long as the row has its mark of every tight programme
-pub record Alike (t : Table) (c : List ℕ) (i k : ℕ) (row d : List ℕ) : Type 0 where
+pub record Alike (t : Table) (c : List ℕ) (i k : ℕ) (row : Row) (d : List ℕ) : Type 0 where
   pub tight : Tight t i k (strategy_at c i) (strategy_at c k) (numbers row) d
-  pub same : get_or row 0 0 ≡ 0 → d ≡ c
+  pub same : row.marked ≡ 0 → d ≡ c
 
 -- in such programmes no pair counts that gives segment i strategy a
-abbrev pub PassedWith : Table → (ℕ → ℕ) → List ℕ → ℕ → ℕ → List ℕ → ℕ → Type 0
+abbrev pub PassedWith : Table → (ℕ → ℕ) → List ℕ → ℕ → ℕ → Row → ℕ → Type 0
 PassedWith t leader c i k row a = (d : List ℕ) → Alike t c i k row d → pairs_with t leader d i k a ≡ None
 
 -- and none that gives them strategies a and b
-abbrev pub PassedPair : Table → (ℕ → ℕ) → List ℕ → ℕ → ℕ → List ℕ → ℕ → ℕ → Type 0
+abbrev pub PassedPair : Table → (ℕ → ℕ) → List ℕ → ℕ → ℕ → Row → ℕ → ℕ → Type 0
 PassedPair t leader c i k row a b = (d : List ℕ) → Alike t c i k row d → pair t leader d i k a b ≡ None
 
 -- where the search stands: the row has its mark or none, programme c is tight, and no first strategy below a counts
-pub record Searching (t : Table) (leader : ℕ → ℕ) (c : List ℕ) (i k : ℕ) (row : List ℕ) (a : ℕ) : Type 0 where
-  pub places : length row ≡ row_places
-  pub marked : 1 ≤ get_or row 0 0 → get_or row 0 0 ≡ mark (strategy_at c i) (strategy_at c k)
+pub record Searching (t : Table) (leader : ℕ → ℕ) (c : List ℕ) (i k : ℕ) (row : Row) (a : ℕ) : Type 0 where
+  pub places : length row.excesses ≡ most_resources
+  pub marked : 1 ≤ row.marked → row.marked ≡ mark (strategy_at c i) (strategy_at c k)
   pub tight : Tight t i k (strategy_at c i) (strategy_at c k) (numbers row) c
   pub before : (v : ℕ) → v < a → PassedWith t leader c i k row v
 
 -- a test of the limits, with what the row then remembers where strategies a and b are refused
-pub record Refusal (t : Table) (c : List ℕ) (i k a b : ℕ) (row next : List ℕ) (refused : Bool) : Type 0 where
+pub record Refusal (t : Table) (c : List ℕ) (i k a b : ℕ) (row next : Row) (refused : Bool) : Type 0 where
   pub lower : Lower row next
   pub tight : Tight t i k (strategy_at c i) (strategy_at c k) (numbers row) c → Tight t i k (strategy_at c i) (strategy_at c k) (numbers next) c
   pub short : refused ≡ true → (e : List ℕ) → Tight t i k (strategy_at c i) (strategy_at c k) (numbers next) e → within t (give (give e i a) k b) ≡ false
 
 -- a test of a first strategy: none of its pairs counts, whatever the leaders, or it is another one
-pub record WithTest (t : Table) (c : List ℕ) (i k a : ℕ) (row next : List ℕ) (may : Bool) : Type 0 where
+pub record WithTest (t : Table) (c : List ℕ) (i k a : ℕ) (row next : Row) (may : Bool) : Type 0 where
   pub lower : Lower row next
   pub tight : Tight t i k (strategy_at c i) (strategy_at c k) (numbers row) c → Tight t i k (strategy_at c i) (strategy_at c k) (numbers next) c
   pub other : may ≡ true → another t c i a ≡ true
   pub passed : may ≡ false → (leader : ℕ → ℕ) → PassedWith t leader c i k next a
 
 -- a test of a pair: one that counts takes the row's mark
-pub record PairTest (t : Table) (leader : ℕ → ℕ) (c : List ℕ) (i k a b : ℕ) (row next : List ℕ) (ok : Bool) : Type 0 where
+pub record PairTest (t : Table) (leader : ℕ → ℕ) (c : List ℕ) (i k a b : ℕ) (row next : Row) (ok : Bool) : Type 0 where
   pub lower : Lower row next
   pub tight : Tight t i k (strategy_at c i) (strategy_at c k) (numbers row) c → Tight t i k (strategy_at c i) (strategy_at c k) (numbers next) c
-  pub counted : ok ≡ true → (counts_two t leader c i k a b ≡ true) × (get_or next 0 0 ≡ 0)
+  pub counted : ok ≡ true → (counts_two t leader c i k a b ≡ true) × (next.marked ≡ 0)
   pub passed : ok ≡ false → PassedPair t leader c i k next a b
 
 -- the row's mark is m, and every slack is below its number
-unfoldable pub below : List ℕ → List ℕ → ℕ → Bool
-below slacks row r = ltb (get_or slacks (r - 1) 0) (get_or row r 0)
+unfoldable pub below : List ℕ → Row → ℕ → Bool
+below slacks row r = ltb (get_or slacks (r - 1) 0) (numbers row r)
 
-abbrev pub holds_still : ℕ → List ℕ → List ℕ → ℕ → Bool
-holds_still resources slacks row m = eqb (get_or row 0 0) m && all resources (below slacks row)
+abbrev pub holds_still : ℕ → List ℕ → Row → ℕ → Bool
+holds_still resources slacks row m = eqb row.marked m && all resources (below slacks row)

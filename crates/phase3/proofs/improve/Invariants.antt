@@ -1,11 +1,12 @@
 use Prim.Native.Nat.{◌-◌, ◌^◌}
-use Rattle.tables.specs.Arrays.{tables, leader_in}
-use Rattle.phase3.specs.Memory.{Memory}
+use Rattle.tables.specs.Views.{table_in, leaders_in}
+use Rattle.phase3.specs.Memory.{Remembers}
 use Rattle.phase3.proofs.ChangeSearch.{Under}
 use Rattle.phase3.proofs.improve.Given as goal
 
-abbrev pub invariant-loop-z : goal.invariant-loop-z
-invariant-loop-z l = Under l.z (leader_in l.leaders) l.benefits l.uses l.limits l.initial.choice l.choice l.sums l.changes × Memory (tables l.z l.benefits l.uses l.limits) (leader_in l.leaders) l.memory
+abbrev pub invariant-loop-next : goal.invariant-loop-next
+invariant-loop-next l = Under l.t.size (leaders_in l.t) l.t.benefits.entries.now l.t.uses.entries.now l.t.limits.entries.now l.initial.draft.choice l.draft.choice l.draft.sums l.changes
+    × Remembers (table_in l.t) (leaders_in l.t) l.memory.rows
 
-abbrev pub decreases-loop-z : goal.decreases-loop-z
-decreases-loop-z l = 2 ^ 46 - l.changes
+abbrev pub decreases-loop-next : goal.decreases-loop-next
+decreases-loop-next l = 2 ^ 46 - l.changes

@@ -1,0 +1,15 @@
+-- `phase3::look::Look::first_change` meets its contract: the new row has unreached numbers.
+use Prim.Native.Nat.{◌-◌}
+use native.Mathlib.Omega.{arith}
+use Rattle.std.proofs.lemmas.List.{get_or-replicate}
+use Rattle.rules.specs.District.{most_resources}
+use Rattle.phase3.specs.Memory.{unreached}
+use Rattle.phase3.proofs.Remembered.{searching_start}
+use Rattle.phase3.proofs.look.Look.first_change.Goals as goal
+
+pub search-requires : goal.search-requires
+search-requires c =
+    let s = c.args.self.now.setting in
+    searching_start s (omega arith) c.mark.ensures
+    (λ r low high. get_or-replicate most_resources (r - 1) unreached 0 (omega (arith, s.running.bounded.resources)))
+    _

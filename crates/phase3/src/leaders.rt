@@ -1,0 +1,62 @@
+// Whether leaders are respected once one segment or two have changed.
+ghost use Rattle.std.specs.Prelude.{◌≡◌, ◌≤◌, length};
+ghost use Rattle.rules.specs.District.{most_segments};
+
+use crate::change::Move;
+use rules::places::MOST_SEGMENTS;
+use tables::LeaderList;
+
+// A programme after two moves. One segment alone changes where both are the same.
+#[derive(Clone, Copy)]
+pub struct Changed<'a> {
+    pub choice: &'a [usize; MOST_SEGMENTS],
+    pub first: Move,
+    pub second: Move,
+    pub ghost places: { length choice.now ≡ most_segments },
+    pub ghost segments: { (1 ≤ first.0) × (first.0 ≤ most_segments) × (1 ≤ second.0) × (second.0 ≤ most_segments) },
+}
+
+impl Changed<'_> {
+    ghost use Rattle.rules.specs.Phases.{strategy_at, heeds, respects};
+    ghost use Rattle.tables.specs.Arrays.{leader_in};
+    ghost use Rattle.phase3.specs.Views.{changed};
+
+    // The strategy of segment m.
+    fn strategy(&self, m: usize) -> usize
+        requires { (1 ≤ m) × (m ≤ most_segments) }
+        ensures { result ≡ strategy_at (changed self.now) m }
+    {
+        let Move(k, b) = self.second;
+        if m == k {
+            return b;
+        }
+        let Move(i, a) = self.first;
+        if m == i {
+            return a;
+        }
+        self.choice[m - 1]
+    }
+
+    // Segment m has nothing, or no leader, or one that has something.
+    #[tactic(auto, unfolding(rules::specs::Phases::heeds, rules::specs::Phases::led))]
+    fn heeds_leader(&self, leaders: LeaderList<'_>, m: usize) -> bool
+        requires { (1 ≤ m) × (m ≤ most_segments) }
+        ensures { result ≡ heeds (leader_in leaders.entry.entries.now) (strategy_at (changed self.now)) m }
+    {
+        let leader = leaders.entries[m - 1];
+        leader == 0 || self.strategy(m) == 0 || self.strategy(leader) > 0
+    }
+
+    // Each of the first segments does.
+    pub fn respects_leaders(&self, leaders: LeaderList<'_>, segments: usize) -> bool
+        requires { segments ≤ most_segments }
+        ensures { result ≡ respects (leader_in leaders.entry.entries.now) segments (changed self.now) }
+    {
+        for m in 0..segments {
+            if !self.heeds_leader(leaders, m + 1) {
+                return false;
+            }
+        }
+        true
+    }
+}

@@ -1,0 +1,74 @@
+// What phase 3 remembers of the pairs of segments that it looked at (specs/Memory.antt).
+ghost use Rattle.std.specs.Prelude.{◌≡◌, ◌≤◌};
+ghost use Rattle.rules.specs.District.{most_resources};
+ghost use Rattle.rules.specs.Phases.{pairs_of};
+ghost use Rattle.std.specs.Prelude.{None, true};
+ghost use Rattle.phase3.specs.Improve.{Found};
+ghost use Rattle.phase3.specs.Memory.{row_at, holds_still, Remembers};
+ghost use Rattle.phase3.specs.Views.{table_of, leaders_of, choice_of};
+
+use crate::change::Change;
+use crate::pair::Pair;
+use rules::places::{MOST_RESOURCES, MOST_SEGMENTS};
+
+pub const PAIRS: usize = MOST_SEGMENTS * MOST_SEGMENTS;
+
+// A row for two segments: the mark of the strategies for which it holds, 0 for none, and for each resource the least excess
+// for which it refused a pair of strategies.
+#[derive(Clone, Copy)]
+pub struct Row {
+    pub marked: u64,
+    pub excesses: [u64; MOST_RESOURCES],
+}
+
+impl Row {
+    // The row has this mark, and every slack is below its excess.
+    fn holds_still(&self, mark: u64, resources: usize, slacks: &[u64; MOST_RESOURCES]) -> bool
+        requires { resources ≤ most_resources }
+        ensures { result ≡ holds_still resources slacks.now self.now mark }
+    {
+        if self.marked != mark {
+            return false;
+        }
+        for r in 0..resources {
+            if self.excesses[r] <= slacks[r] {
+                return false;
+            }
+        }
+        true
+    }
+}
+
+// A row for each two segments.
+#[derive(Drop)]
+pub struct Memory {
+    pub rows: [Row; PAIRS],
+}
+
+// Where the row of a pair stands.
+fn place_of(pair: &Pair<'_>) -> usize
+    ensures { result ≡ row_at pair.now.i pair.now.k }
+{
+    MOST_SEGMENTS * (pair.i - 1) + (pair.k - 1)
+}
+
+impl Memory {
+    // The pair's row still holds, so none of its changes counts.
+    pub fn rules_out(&self, pair: &Pair<'_>) -> bool
+        requires { let p = pair.now.pass.now in Remembers (table_of p) (leaders_of p) self.now.rows }
+        ensures { let p = pair.now.pass.now in result ≡ true → pairs_of (table_of p) (leaders_of p) (choice_of p) pair.now.i pair.now.k ≡ None }
+    {
+        let pass = pair.pass;
+        self.rows[place_of(pair)].holds_still(pair.mark(), pass.t.size.resources, &pass.slacks)
+    }
+
+    // A look at the pair: the first of its changes that counts, and its row made anew.
+    pub fn look(&mut self, pair: &Pair<'_>, asked: &mut usize) -> Option<Change>
+        requires { let p = pair.now.pass.now in Remembers (table_of p) (leaders_of p) self.old.rows }
+        ensures found { let p = pair.now.pass.now in Found p.t.size (choice_of p) result (pairs_of (table_of p) (leaders_of p) (choice_of p) pair.now.i pair.now.k) }
+        ensures memory { let p = pair.now.pass.now in Remembers (table_of p) (leaders_of p) self.new.rows }
+    {
+        let at = place_of(pair);
+        pair.look().first_change(&mut self.rows[at], asked)
+    }
+}

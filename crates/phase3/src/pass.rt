@@ -1,0 +1,151 @@
+// A pass over the changes of a programme, up to the first that counts.
+ghost use Rattle.std.specs.Prelude.{◌≡◌, ℕ, ◌-◌, ◌^◌, ◌≤◌, get_or};
+ghost use Rattle.rules.specs.District.{most_resources};
+ghost use Rattle.tables.specs.Views.{Drafted};
+ghost use Rattle.phase3.specs.Improve.{Tops};
+ghost use Rattle.phase3.specs.Memory.{Slacks};
+
+use crate::OFFSET;
+use crate::change::{Change, Move};
+use crate::leaders::Changed;
+use crate::memory::Memory;
+use crate::pair::Pair;
+use rules::places::{MOST_RESOURCES, MOST_SEGMENTS};
+use tables::{Draft, LimitList, TableView};
+
+// What a pass reads: the table, the programme as it stands, each segment's greatest benefit, and each resource's slack.
+#[derive(Clone, Copy)]
+pub struct Pass<'a> {
+    pub t: TableView<'a>,
+    pub draft: &'a Draft,
+    pub tops: &'a [u64; MOST_SEGMENTS],
+    pub slacks: [u64; MOST_RESOURCES],
+    pub ghost running: { Drafted t draft.now },
+    pub ghost topped: { Tops t.size t.benefits.entries.now tops.now },
+    pub ghost slack: { Slacks t.size.resources t.limits.entries.now draft.now.sums slacks },
+}
+
+// Each resource's slack, where the first so many sums are small.
+pub fn slacks_of(
+    resources: usize,
+    limits: LimitList<'_>,
+    sums: &[u64; MOST_RESOURCES],
+) -> [u64; MOST_RESOURCES]
+    requires resources_le_most_resources { resources ≤ most_resources }
+    requires by_index { (r : ℕ) → 1 ≤ r → r ≤ resources → get_or sums.now (r - 1) 0 ≤ 2 ^ 47 }
+    ensures { Slacks resources limits.entry.entries.now sums.now result }
+{
+    let mut each = [0u64; MOST_RESOURCES];
+    for r in 0..resources {
+        each[r] = limits.entries[r] + OFFSET - sums[r];
+    }
+    each
+}
+
+impl Pass<'_> {
+    ghost use Rattle.std.specs.Prelude.{◌<◌};
+    ghost use Rattle.rules.specs.Phases.{another, first_single, pairs_of, first_pair, change};
+    ghost use Rattle.tables.specs.Arrays.{Cell};
+    ghost use Rattle.phase3.specs.Improve.{Found, counts_one};
+    ghost use Rattle.phase3.specs.Memory.{Remembers};
+    ghost use Rattle.phase3.specs.Views.{table_of, leaders_of, choice_of};
+
+    // Strategy a is not the one that segment i has, and is a candidate or nothing.
+    #[tactic(auto, unfolding(rules::specs::Phases::another, rules::specs::Phases::is_candidate))]
+    pub fn is_another(&self, i: usize, a: usize) -> bool
+        requires { Cell i a }
+        ensures { result ≡ another (table_of self.now) (choice_of self.now) i a }
+    {
+        a != self.draft.choice[i - 1] && (a == 0 || self.t.benefits.at(i, a) > 0)
+    }
+
+    // Giving segment i strategy a counts. A strategy of greater benefit is another one, and a candidate.
+    fn counts_one(&self, i: usize, a: usize) -> bool
+        requires { (1 ≤ i) × (i ≤ self.now.t.size.segments) × (a ≤ self.now.t.size.strategies) }
+        ensures { result ≡ counts_one (table_of self.now) (leaders_of self.now) (choice_of self.now) i a }
+    {
+        let t = &self.t;
+        if t.benefits.at(i, a) <= t.benefits.chosen(&self.draft.choice, i) {
+            return false;
+        }
+        if !self.draft.fits(t.size, t.uses, t.limits, i, a) {
+            return false;
+        }
+        let changed = Changed {
+            choice: &self.draft.choice,
+            first: Move(i, a),
+            second: Move(i, a),
+        };
+        changed.respects_leaders(t.leaders, t.size.segments)
+    }
+
+    // The first single change that counts, segment by segment: nothing before strategy 1, and so on up.
+    fn first_one(&self) -> Option<Change>
+        ensures { Found self.now.t.size (choice_of self.now) result (first_single (table_of self.now) (leaders_of self.now) (choice_of self.now)) }
+    {
+        let mut found = None;
+        let segments_end = self.t.size.segments + 1;
+        let strategies_end = self.t.size.strategies + 1;
+        'search: for i in 1..segments_end {
+            for a in 0..strategies_end {
+                if self.counts_one(i, a) {
+                    found = Some(Change::One(Move(i, a)));
+                    break 'search;
+                }
+            }
+        }
+        found
+    }
+
+    // The first pair of segments i and k that counts, without a look where none can rise, or where the memory still holds.
+    fn first_of_pair(
+        &self,
+        i: usize,
+        k: usize,
+        memory: &mut Memory,
+        asked: &mut usize,
+    ) -> Option<Change>
+        requires memory { Remembers (table_of self.now) (leaders_of self.now) memory.old.rows }
+        requires le_i { (1 ≤ i) × (i < k) × (k ≤ self.now.t.size.segments) }
+        ensures found { Found self.now.t.size (choice_of self.now) result (pairs_of (table_of self.now) (leaders_of self.now) (choice_of self.now) i k) }
+        ensures memory { Remembers (table_of self.now) (leaders_of self.now) memory.new.rows }
+    {
+        let pair = Pair { pass: self, i, k };
+        if !pair.may_rise() || memory.rules_out(&pair) {
+            return None;
+        }
+        memory.look(&pair, asked)
+    }
+
+    // The first pair that counts, ordered by the lower segment, the higher one, and then the strategy of each.
+    fn first_two(&self, memory: &mut Memory) -> Option<Change>
+        requires { Remembers (table_of self.now) (leaders_of self.now) memory.old.rows }
+        ensures found { Found self.now.t.size (choice_of self.now) result (first_pair (table_of self.now) (leaders_of self.now) (choice_of self.now)) }
+        ensures memory { Remembers (table_of self.now) (leaders_of self.now) memory.new.rows }
+    {
+        let mut found = None;
+        let mut asked: usize = 0;
+        let segments_end = self.t.size.segments + 1;
+        'search: for i in 1..segments_end {
+            for k in i + 1..segments_end {
+                if let Some(change) = self.first_of_pair(i, k, memory, &mut asked) {
+                    found = Some(change);
+                    break 'search;
+                }
+            }
+        }
+        found
+    }
+
+    // The first change that counts: single changes come before pairs.
+    pub fn first_change(&self, memory: &mut Memory) -> Option<Change>
+        requires { Remembers (table_of self.now) (leaders_of self.now) memory.old.rows }
+        ensures found { Found self.now.t.size (choice_of self.now) result (change (table_of self.now) (leaders_of self.now) (choice_of self.now)) }
+        ensures memory { Remembers (table_of self.now) (leaders_of self.now) memory.new.rows }
+    {
+        match self.first_one() {
+            Some(change) => Some(change),
+            None => self.first_two(memory),
+        }
+    }
+}
