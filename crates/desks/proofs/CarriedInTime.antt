@@ -17,7 +17,7 @@ use Rattle.rules.specs.declared.Waiting.{Waiting}
 use Rattle.desks.proofs.EveryArrival.{arrived}
 use Rattle.desks.proofs.NobodyStarves.{nobody_starves}
 
-none_refused : (n : ℕ) → answer_of n 0 ≡ Accepted 0 → n ≡ 0
+none_refused : (n : ℕ) → answer_of {A = ℕ} n 0 ≡ Accepted 0 → n ≡ 0
 unfolding answer_of
 none_refused zero e = refl
 none_refused (suc n) e = absurd (let z : ◌≡◌ {A = ℕ} 0 1 = cc in omega arith)
