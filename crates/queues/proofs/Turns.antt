@@ -1,25 +1,74 @@
 -- Arrivals, and what a step takes, in terms of one console's queue.
-use Prim.Native.Nat.{ℕ, zero, suc, ◌≤◌, ◌<◌}
-use mathlib.Core.Path.{◌≡◌, refl, ap, ◌∙◌}
-use mathlib.Core.Bool.{Bool}
+use Prim.Native.Nat.{ℕ, zero, suc, ◌+◌, ◌-◌, ◌<◌}
+use mathlib.Core.Path.{◌≡◌, refl, sym, ap, ◌∙◌}
 use mathlib.Core.List.{List, [], ◌∷◌, ◌++◌}
-use Rattle.std.specs.Prelude.{None, Some}
+use Rattle.std.specs.Prelude.{Option, None, Some}
 use native.Mathlib.Omega.{arith}
 use borrow.Author.Tests.{lt-ltb, le-ltb}
-use lib.Dec.{ltb}
-use lib.ListN.{length, take, drop, get_or}
-use Rattle.base.specs.Choice.{only}
+use lib.ListN.{length, get_or, set}
+use Rattle.std.proofs.lemmas.List.{set-get_or}
+use Rattle.std.specs.List.{slice_get, remove}
+use Rattle.arrayvec.specs.ArrayVec.{ArrayVec}
+use Rattle.base.specs.Search.{or_else}
 use Rattle.rules.specs.Answers.{no_such_console, queue_full, answer_of, accepting, Accepted, Refused}
 use Rattle.rules.specs.Desks as Desks
-use Rattle.rules.specs.Desks.{next_to, queue_of, with_queue, with_turn, most_waiting, oldest_of}
+use Rattle.rules.specs.Desks.{console_number, next_to, queue_of, with_queue, with_turn, most_waiting, oldest_of, oldest_at, taken}
 use Rattle.rules.specs.declared.Console.{Console}
 use Rattle.rules.specs.declared.Console.TheVariants.{One, Two, Three, Four}
 use Rattle.rules.specs.declared.Waiting.{Waiting}
-use Rattle.queues.specs.Waits.{waiting_in, queues_in, Admits}
-use Rattle.queues.specs.declared.Queue.{Queue}
+use Rattle.queues.specs.Waits.{queues_in, Admits}
 use Rattle.queues.specs.declared.Queues.{Queues}
 
+-- ---- one queue of four
+
+module _ (a b c d : ArrayVec Waiting) (turn : Console) where
+  abbrev among : Queues
+  among = record { waiting = a ∷ b ∷ c ∷ d ∷ []; turn = turn }
+
+  queue_among : (x : Console) (p : ℕ) (e : ArrayVec Waiting) → p + 1 ≡ console_number x → (get_or among.waiting p e).items ≡ queue_of x (queues_in among)
+  queue_among One p e h = let z : p ≡ 0 = omega arith in rw z
+  queue_among Two p e h = let z : p ≡ 1 = omega arith in rw z
+  queue_among Three p e h = let z : p ≡ 2 = omega arith in rw z
+  queue_among Four p e h = let z : p ≡ 3 = omega arith in rw z
+
+  with_among : (x : Console) (p : ℕ) (v : ArrayVec Waiting) (t : Console) → p + 1 ≡ console_number x
+      → queues_in (record { waiting = set among.waiting p v; turn = t }) ≡ with_turn t (with_queue x v.items (queues_in among))
+  with_among One p v t h = let z : p ≡ 0 = omega arith in rw z
+  with_among Two p v t h = let z : p ≡ 1 = omega arith in rw z
+  with_among Three p v t h = let z : p ≡ 2 = omega arith in rw z
+  with_among Four p v t h = let z : p ≡ 3 = omega arith in rw z
+
+-- what holds of four holds of a list of that length
+four : (P : List (ArrayVec Waiting) → Type 0) → ((a b c d : ArrayVec Waiting) → P (a ∷ b ∷ c ∷ d ∷ [])) → (l : List (ArrayVec Waiting)) → length l ≡ 4 → P l
+four P f (a ∷ b ∷ c ∷ d ∷ []) e = f a b c d
+four P f [] e = absurd (omega arith)
+four P f (a ∷ []) e = absurd (omega arith)
+four P f (a ∷ b ∷ []) e = absurd (omega arith)
+four P f (a ∷ b ∷ c ∷ []) e = absurd (omega arith)
+four P f (a ∷ b ∷ c ∷ d ∷ e' ∷ l) e = absurd (omega arith)
+
+module _ (q : Queues) (n : length q.waiting ≡ 4) (x : Console) (p : ℕ) (at : p + 1 ≡ console_number x) where
+  pub queue_is : (e : ArrayVec Waiting) → (get_or q.waiting p e).items ≡ queue_of x (queues_in q)
+  queue_is e =
+      four (λ l. (get_or l p e).items ≡ queue_of x (queues_in (record { waiting = l; turn = q.turn })))
+      (λ a b c d. queue_among a b c d q.turn x p e at) q.waiting n
+
+  pub with_is : (v : ArrayVec Waiting) (t : Console)
+      → queues_in (record { waiting = set q.waiting p v; turn = t }) ≡ with_turn t (with_queue x v.items (queues_in q))
+  with_is v t =
+      four (λ l. queues_in (record { waiting = set l p v; turn = t }) ≡ with_turn t (with_queue x v.items (queues_in (record { waiting = l; turn = q.turn }))))
+      (λ a b c d. with_among a b c d q.turn x p v t at) q.waiting n
+
 -- ---- arrivals
+
+-- an answer with a value is no refusal
+accepted_not : {A : Type 0} {n m : ℕ} → Accepted n ≡ Refused m → A
+accepted_not e = let z : ◌≡◌ {A = ℕ} 0 1 = cc in absurd (omega arith)
+
+-- no console has the number
+pub nowhere : (q : Queues) (w : Waiting) → Admits q None w (record { answer = Refused no_such_console; queues = q })
+unfolding answer_of accepting
+nowhere q w = record { settled = refl; refused = λ m e. refl }
 
 -- whose turn it is stays
 same_turn : (c : Console) (ws : List Waiting) (q : Desks.Queues) → with_turn q.turn (with_queue c ws q) ≡ with_queue c ws q
@@ -28,55 +77,71 @@ same_turn Two ws q = refl
 same_turn Three ws q = refl
 same_turn Four ws q = refl
 
--- an answer with a value is no refusal
-accepted_not : {A : Type 0} {n m : ℕ} → Accepted n ≡ Refused m → A
-accepted_not e = let z : ◌≡◌ {A = ℕ} 0 1 = cc in absurd (omega arith)
-
-module _ (q : Queues) (w : Waiting) where
+-- d is what the code reads at the place, and new what it leaves there
+module _ (q : Queues) (w : Waiting) (n : length q.waiting ≡ 4) (x : Console) (p : ℕ) (at : p + 1 ≡ console_number x) (d new : ArrayVec Waiting) where
   -- there is a place free
-  pub admitted :
-      (c : Console) (xs : Queue) (ys : Queue) (n : ℕ) (p : Queues) → waiting_in xs ≡ queue_of c (queues_in q) → n ≡ length (waiting_in xs) → n < most_waiting
-      → waiting_in ys ≡ waiting_in xs ++ (w ∷ []) → queues_in p ≡ with_turn q.turn (with_queue c (waiting_in ys) (queues_in q))
-      → Admits q (Some c) w (record { answer = Accepted 0; queues = p })
+  pub admitted : length (get_or q.waiting p d).items < most_waiting → new.items ≡ (get_or q.waiting p d).items ++ (w ∷ [])
+      → Admits q (Some x) w (record { answer = Accepted 0; queues = record { waiting = set q.waiting p new; turn = q.turn } })
   unfolding answer_of accepting
-  admitted c xs ys n p own size h e f =
-      let ws = queue_of c (queues_in q) in
-      let same = f ∙ same_turn c (waiting_in ys) (queues_in q) ∙ ap (λ (vs : List Waiting). with_queue c vs (queues_in q)) (rw own at e) in
+  admitted free e =
+      let held = queue_is q n x p at d in
       record {
         settled =
-            ap (λ (x : Desks.Queues). record { answer = Accepted 0; queues = x }) same
-            ∙ rw (lt-ltb (length ws) most_waiting (omega (arith, size, ap length own)));
+            ap (λ (y : Desks.Queues). record { answer = Accepted 0; queues = y })
+            (with_is q n x p at new q.turn ∙ same_turn x new.items (queues_in q) ∙ ap (λ (ws : List Waiting). with_queue x ws (queues_in q)) (rw held at e))
+            ∙ rw (lt-ltb (length (queue_of x (queues_in q))) most_waiting (omega (arith, ap length held)));
         refused = λ m not. accepted_not not;
       }
 
   -- there is none
-  pub not_admitted :
-      (c : Console) (xs : Queue) (n : ℕ) → waiting_in xs ≡ queue_of c (queues_in q) → n ≡ length (waiting_in xs) → most_waiting ≤ n
-      → Admits q (Some c) w (record { answer = Refused queue_full; queues = q })
+  pub not_admitted : length (get_or q.waiting p d).items ≡ most_waiting → new ≡ get_or q.waiting p d
+      → Admits q (Some x) w (record { answer = Refused queue_full; queues = record { waiting = set q.waiting p new; turn = q.turn } })
   unfolding answer_of accepting
-  not_admitted c xs n own size h =
-      record {
-        settled = rw (le-ltb (length (queue_of c (queues_in q))) most_waiting (omega (arith, size, ap length own)));
+  not_admitted full same =
+      rw (same, set-get_or q.waiting p d) record {
+        settled = rw (le-ltb (length (queue_of x (queues_in q))) most_waiting (omega (arith, ap length (queue_is q n x p at d))));
         refused = λ m e. refl;
       }
 
-  -- no console has the number
-  pub nowhere : Admits q None w (record { answer = Refused no_such_console; queues = q })
-  unfolding answer_of accepting
-  nowhere = record { settled = refl; refused = λ m e. refl }
-
 -- ---- what a step takes
 
--- of one console
-pub oldest_is :
-    (q : Desks.Queues) (c : Console) (ws : List Waiting) (found : Bool) (n : ℕ) (w : Waiting) (p : Desks.Queues) → n ≡ length ws → found ≡ ltb 0 n
-    → ((v : Waiting) (vs : List Waiting) → ws ≡ v ∷ vs → w ≡ v) → p ≡ with_turn (next_to c) (with_queue c (drop 1 ws) q)
-    → only found (record { console = c; waiting = w; queues = p }) ≡ oldest_of c ws q
-oldest_is q c [] found n w p e f head g = rw (f, e)
-oldest_is q c (v ∷ vs) found n w p e f head g = rw (f, lt-ltb 0 n (omega arith), head v vs refl, g)
+-- of n consoles from c on
+abbrev pub oldest_from : ℕ → Console → Desks.Queues → Option Desks.Taken
+oldest_from zero c q = None
+oldest_from (suc n) c q = or_else (oldest_at q c) (oldest_from n (next_to c) q)
 
--- the first of those that wait stands at the first place
-pub head_is : (places : List Waiting) (count : ℕ) (d v : Waiting) (vs : List Waiting) → take count places ≡ v ∷ vs → get_or places 0 d ≡ v
-head_is places zero d v vs e = absurd (let z : ◌≡◌ {A = ℕ} 0 1 = cc in omega arith)
-head_is [] (suc count) d v vs e = absurd (let z : ◌≡◌ {A = ℕ} 0 1 = cc in omega arith)
-head_is (x ∷ xs) (suc count) d v vs e = cc
+or_none : {A : Type 0} (x : Option A) → or_else x None ≡ x
+or_none None = refl
+or_none (Some x) = refl
+
+pub taken_is : (q : Desks.Queues) → oldest_from 4 q.turn q ≡ taken q
+unfolding taken
+taken_is q = rw (or_none (oldest_at q (next_to (next_to (next_to q.turn)))))
+
+first_of : (ws vs : List Waiting) (w : Waiting) → Some w ≡ slice_get ws 0 → vs ≡ remove ws 0 → ws ≡ w ∷ vs
+first_of [] vs w e f = absurd (let z : ◌≡◌ {A = ℕ} 0 1 = cc in omega arith)
+first_of (x ∷ xs) vs w e f = let z : w ≡ x = cc in rw (z, f)
+
+none_of : (ws : List Waiting) → None ≡ slice_get ws 0 → ws ≡ []
+none_of [] e = refl
+none_of (x ∷ xs) e = absurd (let z : ◌≡◌ {A = ℕ} 0 1 = cc in omega arith)
+
+-- the search has come to console x, with k consoles passed
+module _ (q : Queues) (n : length q.waiting ≡ 4) (x : Console) (p : ℕ) (at : p + 1 ≡ console_number x) (d : ArrayVec Waiting) (k : ℕ) (more : k < 4)
+    (left : oldest_from (4 - k) x (queues_in q) ≡ taken (queues_in q)) where
+  next : or_else (oldest_at (queues_in q) x) (oldest_from (4 - (k + 1)) (next_to x) (queues_in q)) ≡ taken (queues_in q)
+  next = let e : 4 - k ≡ suc (4 - (k + 1)) = omega arith in rw e at left
+
+  -- the console has an edit, which is taken
+  pub found : (new : ArrayVec Waiting) (w : Waiting) (t : Console) → Some w ≡ slice_get (get_or q.waiting p d).items 0 → new.items ≡ remove (get_or q.waiting p d).items 0
+      → t ≡ next_to x → Some record { console = x; waiting = w; queues = queues_in (record { waiting = set q.waiting p new; turn = t }) } ≡ taken (queues_in q)
+  found new w t e f g =
+      let ws : queue_of x (queues_in q) ≡ w ∷ new.items = sym (queue_is q n x p at d) ∙ first_of _ _ w e f in
+      rw (g, with_is q n x p at new (next_to x)) (rw ws at next)
+
+  -- it has none, and the next is looked at
+  pub passed : None ≡ slice_get (get_or q.waiting p d).items 0
+      → oldest_from (4 - (k + 1)) (next_to x) (queues_in q) ≡ taken (queues_in q)
+  passed e =
+      let ws : queue_of x (queues_in q) ≡ [] = sym (queue_is q n x p at d) ∙ none_of _ e in
+      rw ws at next

@@ -1,29 +1,36 @@
--- What the queues of this crate stand for, in any state: those of rules, specs/Desks.antt. Of a queue as many edits count as there are places at most.
-use Rattle.std.specs.Prelude.{ℕ, ◌≡◌, List, take}
-use Rattle.std.specs.Prelude.{Option, None, Some}
-use Rattle.base.specs.Choice.{only}
+-- What the queues of this crate stand for, in any state: those of rules, specs/Desks.antt.
+use Rattle.std.specs.Prelude.{ℕ, ◌≡◌, List, [], get_or}
+use Rattle.std.specs.Prelude.{Option, None, Some, Result}
+use Rattle.arrayvec.specs.ArrayVec.{ArrayVec}
 use Rattle.rules.specs.Desks as Desks
 use Rattle.rules.specs.Desks.{refusal_at, arrival_by}
-use Rattle.rules.specs.Answers.{Refused}
+use Rattle.rules.specs.Answers.{Answer, Refused, answer_in}
 use Rattle.rules.specs.declared.Console.{Console}
 use Rattle.rules.specs.declared.Waiting.{Waiting}
-use Rattle.queues.specs.declared.Queue.{Queue}
+use Rattle.rules.specs.declared.refusals.Refusal.{Refusal}
 use Rattle.queues.specs.declared.Queues.{Queues}
-use Rattle.queues.specs.declared.Named.{Named}
-use Rattle.queues.specs.declared.Named.TheVariants.{Is, Nobody}
-use Rattle.queues.specs.declared.Arrival.{Arrival}
-use Rattle.queues.specs.declared.Taken.{Taken}
 
-abbrev pub waiting_in : Queue → List Waiting
-waiting_in x = take x.count x.places
+-- the edits that wait in the queue at a place, counted from 0
+abbrev pub waiting_at : List (ArrayVec Waiting) → ℕ → List Waiting
+waiting_at queues place = (get_or queues place (record { items = [] })).items
 
 abbrev pub queues_in : Queues → Desks.Queues
 queues_in q =
-    record { one = waiting_in q.one; two = waiting_in q.two; three = waiting_in q.three; four = waiting_in q.four; turn = q.turn }
+    record {
+      one = waiting_at q.waiting 0;
+      two = waiting_at q.waiting 1;
+      three = waiting_at q.waiting 2;
+      four = waiting_at q.waiting 3;
+      turn = q.turn;
+    }
 
-abbrev pub named_in : Named → Option Console
-named_in (Is c) = Some c
-named_in Nobody = None
+-- the answer to an arrival, and the queues then
+pub record Arrival : Type 0 where
+  pub answer : Answer
+  pub queues : Queues
+
+abbrev pub arrival : Result ℕ Refusal → Queues → Arrival
+arrival r q = record { answer = answer_in r; queues = q }
 
 abbrev pub arrival_in : Arrival → Desks.Arrival
 arrival_in a = record { answer = a.answer; queues = queues_in a.queues }
@@ -33,5 +40,7 @@ pub record Admits (q : Queues) (c : Option Console) (w : Waiting) (a : Arrival) 
   pub settled : arrival_in a ≡ arrival_by (refusal_at c (queues_in q)) c w (queues_in q)
   pub refused : (n : ℕ) → a.answer ≡ Refused n → a.queues ≡ q
 
-abbrev pub taken_in : Taken → Option Desks.Taken
-taken_in t = only t.found (record { console = t.console; waiting = t.waiting; queues = queues_in t.queues })
+-- what is taken, and the queues then
+abbrev pub taken_in : Option (Console × Waiting) → Queues → Option Desks.Taken
+taken_in None q = None
+taken_in (Some t) q = Some record { console = t.0; waiting = t.1; queues = queues_in q }

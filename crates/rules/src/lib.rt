@@ -1,6 +1,8 @@
 // The types that the rules speak of. The rules themselves, document 01 as definitions, are in specs/.
 #![tactic(auto)]
 
+ghost use Rattle.std.specs.Prelude.{◌≡◌};
+
 mod numbered;
 pub mod places;
 pub mod records;
@@ -65,6 +67,18 @@ pub enum Edit {
 pub struct Waiting {
     pub office: usize,
     pub edit: Edit,
+}
+
+// What stands in a place where no edit waits: its number is no office's.
+impl Default for Waiting {
+    ghost is_default = { λ w. w.office ≡ 0 };
+
+    fn default() -> Waiting {
+        Waiting {
+            office: 0,
+            edit: Edit::Bar(0, 0),
+        }
+    }
 }
 
 // The consoles at which edits arrive.

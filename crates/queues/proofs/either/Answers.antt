@@ -1,8 +1,0 @@
--- `queues::either` meets its contract.
-use Rattle.queues.proofs.either.Goals as goal
-
-pub returns-then-a : goal.returns-then-a
-returns-then-a c = rw c.if-a.true
-
-pub returns-else-a : goal.returns-else-a
-returns-else-a c = rw c.if-a.false
