@@ -1,5 +1,5 @@
 -- The arrays of shares hold the table's shares, and a candidate's are at most 10,000.
-use Prim.Native.Nat.{ℕ, zero, suc, ◌+◌, ◌-◌, ◌*◌, ◌/◌, ◌%◌, ◌^◌, ◌≤◌, ◌<◌}
+use Prim.Native.Nat.{ℕ, zero, suc, ◌+◌, ◌-◌, ◌*◌, ◌/◌, ◌%◌, ◌≤◌, ◌<◌}
 use mathlib.Core.Path.{◌≡◌, ap, ap₂, sym, ◌∙◌}
 use mathlib.Core.List.{List}
 use native.Mathlib.Nat.{div-zero, zero-div, zero-mul, div-lt_iff_lt-mul}
@@ -13,7 +13,7 @@ use Rattle.rules.specs.Ceiling.{down_share}
 use Rattle.laws.specs.Tables.{FitAlone}
 use Rattle.laws.proofs.Shares.{share_none}
 use Rattle.tables.specs.declared.Size.{Size}
-use Rattle.tables.specs.Arrays.{columns, use_entry, usage_at, limit_at, tables, Uses, Cell, use_entries}
+use Rattle.tables.specs.Arrays.{columns, use_entry, usage_at, limit_at, tables, Uses, Limits, Cell, use_entries}
 use Rattle.tables.proofs.Arrays.{usage_at_lem, limit_at_lem}
 use Rattle.grammar.specs.Ranges.{Ranges}
 use Rattle.rules.specs.District.{District, segments_of, most_resources}
@@ -114,11 +114,11 @@ filled d ok =
 
 -- the same of arrays that equal them, with what the shares need of uses and limits
 module _ (d : District) (ok : Ranges d) {u l : List ℕ} (hu : u ≡ usage_list d) (hl : l ≡ limit_list d) where
-  pub sized : (length u ≡ use_entries) × (length l ≡ most_resources)
-  sized = rw (hu, hl) ((tabled d ok).uses.places, (tabled d ok).limits.places)
+  pub uses_held : Uses u
+  uses_held = rw hu (tabled d ok).uses
 
-  pub bounded : ((k : ℕ) → get_or u k 0 < 2 ^ 41) × ((k : ℕ) → get_or l k 0 < 2 ^ 47)
-  bounded = rw (hu, hl) ((tabled d ok).uses.small, (tabled d ok).limits.small)
+  pub limits_held : Limits l
+  limits_held = rw hl (tabled d ok).limits
 
   -- the uses of segments that the district does not have
   pub past : (k : ℕ) → most_resources * (columns * segments_of d) ≤ k → k < use_entries → get_or u k 0 ≡ 0

@@ -6,92 +6,76 @@ ghost use Rattle.std.specs.Prelude.{◌≡◌, ℕ, ◌+◌, ◌-◌, ◌*◌, �
 ghost use Rattle.base.specs.Over.{listed, divide_up};
 ghost use Rattle.tables.specs.Arrays.{columns, entries, use_entries};
 ghost use Rattle.rules.specs.District.{most_segments, most_resources};
-ghost use Rattle.grammar.specs.Ranges.{Ranges};
 ghost use Rattle.rules.specs.Table.{usage_in};
 ghost use Rattle.rating.specs.Numbers.{Segment};
 ghost use Rattle.fill.specs.Filled.{Filled};
 ghost use Rattle.fill.specs.Lists.{leader_list, benefit_list, usage_list, limit_list, share_list, down_share_list};
 
-use rules::places::MOST_RESOURCES;
-use rules::{District, places};
-use tables::{COLUMNS, Size};
+use rating::Ranged;
+use rules::District;
+use rules::places::{
+    LEADER, MOST_RESOURCES, MOST_SEGMENTS, PER_SEGMENT, RESOURCE_COUNT, SEGMENT_COUNT, SEGMENTS,
+    STRATEGY_COUNT,
+};
+use tables::{COLUMNS, ENTRIES, LimitList, Size, USE_ENTRIES, UsageTable};
 
 // The leaders of all segments.
-fn fill_leaders(d: &District, leaders: &mut [usize])
-    requires { length leaders.old ≡ most_segments }
+fn fill_leaders(d: &District, leaders: &mut [usize; MOST_SEGMENTS])
     ensures { leaders.new ≡ leader_list d.now }
 {
-    for i in 0..places::MOST_SEGMENTS {
-        leaders[i] = d[places::SEGMENTS + places::PER_SEGMENT * i + places::LEADER];
+    for (i, leader) in leaders.iter_mut().enumerate() {
+        *leader = d[SEGMENTS + PER_SEGMENT * i + LEADER];
     }
 }
 
 // The benefits of all segments and strategies.
-fn fill_benefits(d: &District, table: &mut [u64])
-    requires { Ranges d.now × (table.old ≡ replicate entries 0) }
-    ensures { table.new ≡ benefit_list d.now }
+fn fill_benefits(d: Ranged<'_>, table: &mut [u64; ENTRIES])
+    requires { table.old ≡ replicate entries 0 }
+    ensures { table.new ≡ benefit_list d.entry.district.now }
 {
-    let segments = d[places::SEGMENT_COUNT];
-    let end = COLUMNS * segments;
-    let mut n = 0;
-    while n < end {
-        let b = rating::candidate_benefit(d, n / COLUMNS + 1, n % COLUMNS);
-        table[n] = b;
-        n += 1;
+    let end = COLUMNS * d.district[SEGMENT_COUNT];
+    for (n, benefit) in table[..end].iter_mut().enumerate() {
+        *benefit = d.candidate_benefit(n / COLUMNS + 1, n % COLUMNS);
     }
 }
 
 // The uses that strategy j on segment i makes of each resource.
-fn fill_row(d: &District, i: usize, j: usize, row: &mut [u64])
-    requires { Ranges d.now × Segment i × (length row.old ≡ most_resources) }
-    ensures { row.new ≡ listed most_resources (usage_in d.now i j) }
+fn fill_row(d: Ranged<'_>, i: usize, j: usize, row: &mut [u64])
+    requires { Segment i × (length row.old ≡ most_resources) }
+    ensures { row.new ≡ listed most_resources (usage_in d.entry.district.now i j) }
 {
-    let a = rating::area_in(d, i, j);
-    let mut r = 0;
-    while r < MOST_RESOURCES {
-        let u = rating::usage_in(d, j, r + 1, a);
-        row[r] = u;
-        r += 1;
+    let a = d.area_in(i, j);
+    for (r, usage) in row.iter_mut().enumerate() {
+        *usage = d.usage_in(j, r + 1, a);
     }
 }
 
-// The uses of all segments and strategies, a row for each pair.
-fn fill_uses(d: &District, table: &mut [u64])
-    requires { Ranges d.now × (table.old ≡ replicate use_entries 0) }
-    ensures { table.new ≡ usage_list d.now }
+// The uses of all segments and strategies, a row for each pair. A range: over `chunks_exact_mut` the proof of what the table
+// then holds did not close.
+fn fill_uses(d: Ranged<'_>, table: &mut [u64; USE_ENTRIES])
+    requires { table.old ≡ replicate use_entries 0 }
+    ensures { table.new ≡ usage_list d.entry.district.now }
 {
-    let segments = d[places::SEGMENT_COUNT];
-    let end = COLUMNS * segments;
-    let mut n = 0;
-    while n < end {
-        fill_row(
-            d,
-            n / COLUMNS + 1,
-            n % COLUMNS,
-            &mut table[MOST_RESOURCES * n..MOST_RESOURCES * n + MOST_RESOURCES],
-        );
-        n += 1;
+    for n in 0..COLUMNS * d.district[SEGMENT_COUNT] {
+        let row = &mut table[MOST_RESOURCES * n..MOST_RESOURCES * n + MOST_RESOURCES];
+        fill_row(d, n / COLUMNS + 1, n % COLUMNS, row);
     }
 }
 
-fn fill_limits(d: &District, table: &mut [u64])
-    requires { Ranges d.now × (length table.old ≡ most_resources) }
-    ensures { table.new ≡ limit_list d.now }
+fn fill_limits(d: Ranged<'_>, table: &mut [u64; MOST_RESOURCES])
+    ensures { table.new ≡ limit_list d.entry.district.now }
 {
-    let mut r = 0;
-    while r < MOST_RESOURCES {
-        let l = rating::limit_in(d, r + 1);
-        table[r] = l;
-        r += 1;
+    for (r, limit) in table.iter_mut().enumerate() {
+        *limit = d.limit_in(r + 1);
     }
 }
 
 // The share that a use is of a limit, in ten-thousandths, rounded up; none of a limit of 0.
 fn share(u: u64, l: u64) -> u64
-    requires { (u < 2 ^ 41) × (l < 2 ^ 47) }
+    requires { u < 2 ^ 41 }
     ensures { result ≡ divide_up (u * 10000) l }
 {
-    if l == 0 { 0 } else { (u * 10000 + (l - 1)) / l }
+    if l == 0 { 0 } else { (u * 10000).div_ceil(l) }
 }
 
 // The same rounded down.
@@ -102,48 +86,71 @@ fn down_share(u: u64, l: u64) -> u64
     if l == 0 { 0 } else { u * 10000 / l }
 }
 
-// Both shares of all uses, of which those of segments past the last are 0.
-fn fill_shares(segments: usize, uses: &[u64], limits: &[u64], shares: &mut [u64], downs: &mut [u64])
-    requires uses_len { (length uses.now ≡ use_entries) × (length limits.now ≡ most_resources) × (shares.old ≡ replicate use_entries 0) × (downs.old ≡ replicate use_entries 0) }
-    requires segments_le_most_segments { (segments ≤ most_segments) × ((k : ℕ) → most_resources * (columns * segments) ≤ k → k < use_entries → get_or uses.now k 0 ≡ 0) }
-    requires by_index { ((k : ℕ) → get_or uses.now k 0 < 2 ^ 41) × ((k : ℕ) → get_or limits.now k 0 < 2 ^ 47) }
-    ensures up { shares.new ≡ share_list uses.now limits.now }
-    ensures down { downs.new ≡ down_share_list uses.now limits.now }
+// Both shares of all uses, of which those of segments past the last are 0. A range, since it is the place in four arrays.
+fn fill_shares(
+    segments: usize,
+    uses: UsageTable<'_>,
+    limits: LimitList<'_>,
+    shares: &mut [u64; USE_ENTRIES],
+    downs: &mut [u64; USE_ENTRIES],
+)
+    requires zeros { (shares.old ≡ replicate use_entries 0) × (downs.old ≡ replicate use_entries 0) }
+    requires segments { segments ≤ most_segments }
+    requires past { (k : ℕ) → most_resources * (columns * segments) ≤ k → k < use_entries → get_or uses.entries.now k 0 ≡ 0 }
+    ensures up { shares.new ≡ share_list uses.entry.entries.now limits.entry.entries.now }
+    ensures down { downs.new ≡ down_share_list uses.entry.entries.now limits.entry.entries.now }
 {
-    let end = MOST_RESOURCES * (COLUMNS * segments);
-    let mut n = 0;
-    while n < end {
-        let u = uses[n];
-        let l = limits[n % MOST_RESOURCES];
+    for n in 0..MOST_RESOURCES * (COLUMNS * segments) {
+        let u = uses.entries[n];
+        let l = limits.entries[n % MOST_RESOURCES];
         shares[n] = share(u, l);
         downs[n] = down_share(u, l);
-        n += 1;
     }
 }
 
-// All of them: what is proved of code over these arrays is what the rules say of the district.
-pub fn fill_all(
-    d: &District,
-    leaders: &mut [usize],
-    benefits: &mut [u64],
-    uses: &mut [u64],
-    limits: &mut [u64],
-    shares: &mut [u64],
-    downs: &mut [u64],
-) -> Size
-    requires ranges { Ranges d.now × (length leaders.old ≡ most_segments) × (length limits.old ≡ most_resources) }
-    requires benefits_value { (benefits.old ≡ replicate entries 0) × (uses.old ≡ replicate use_entries 0) × (shares.old ≡ replicate use_entries 0) × (downs.old ≡ replicate use_entries 0) }
-    ensures { Filled d.now result leaders.new benefits.new uses.new limits.new shares.new downs.new }
-{
-    fill_leaders(d, leaders);
-    fill_benefits(d, benefits);
-    fill_uses(d, uses);
-    fill_limits(d, limits);
-    let segments = d[places::SEGMENT_COUNT];
-    fill_shares(segments, uses, limits, shares, downs);
-    Size {
-        segments,
-        strategies: d[places::STRATEGY_COUNT],
-        resources: d[places::RESOURCE_COUNT],
+// The arrays of one plan.
+#[derive(Drop)]
+pub struct Arrays {
+    pub leaders: [usize; MOST_SEGMENTS],
+    pub benefits: [u64; ENTRIES],
+    pub uses: [u64; USE_ENTRIES],
+    pub limits: [u64; MOST_RESOURCES],
+    pub shares: [u64; USE_ENTRIES],
+    pub downs: [u64; USE_ENTRIES],
+}
+
+impl Arrays {
+    // All zeros.
+    pub const EMPTY: Arrays = Arrays {
+        leaders: [0; MOST_SEGMENTS],
+        benefits: [0; ENTRIES],
+        uses: [0; USE_ENTRIES],
+        limits: [0; MOST_RESOURCES],
+        shares: [0; USE_ENTRIES],
+        downs: [0; USE_ENTRIES],
+    };
+
+    // Fills all of them: what is proved of code over these arrays is what the rules say of the district.
+    pub fn fill(&mut self, d: Ranged<'_>) -> Size
+        requires { (self.old.benefits ≡ replicate entries 0) × (self.old.uses ≡ replicate use_entries 0) × (self.old.shares ≡ replicate use_entries 0) × (self.old.downs ≡ replicate use_entries 0) }
+        ensures { Filled d.entry.district.now result self.new.leaders self.new.benefits self.new.uses self.new.limits self.new.shares self.new.downs }
+    {
+        fill_leaders(d.district, &mut self.leaders);
+        fill_benefits(d, &mut self.benefits);
+        fill_uses(d, &mut self.uses);
+        fill_limits(d, &mut self.limits);
+        let segments = d.district[SEGMENT_COUNT];
+        let uses = UsageTable {
+            entries: &self.uses,
+        };
+        let limits = LimitList {
+            entries: &self.limits,
+        };
+        fill_shares(segments, uses, limits, &mut self.shares, &mut self.downs);
+        Size {
+            segments,
+            strategies: d.district[STRATEGY_COUNT],
+            resources: d.district[RESOURCE_COUNT],
+        }
     }
 }

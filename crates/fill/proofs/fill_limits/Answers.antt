@@ -2,7 +2,6 @@
 use mathlib.Core.Path.{◌∙◌, ap}
 use native.Mathlib.Nat.{add_comm}
 use native.Mathlib.Omega.{arith}
-use lib.ListN.{length-set}
 use Rattle.base.proofs.Listed.{fill_none, fill_next, fill_end}
 use Rattle.rules.specs.District.{most_resources}
 use Rattle.rules.specs.Table.{limit_in}
@@ -10,21 +9,15 @@ use Rattle.fill.specs.Lists.{limit_list}
 use Rattle.fill.proofs.fill_limits.Goals as goal
 
 pub loop-r-init : goal.loop-r-init
-loop-r-init c = (omega arith, c.requires.1, fill_none _ _ _)
-
-pub limit_in-l-requires : goal.limit_in-l-requires
-limit_in-l-requires c = (c.requires.0, (omega arith, omega arith))
+loop-r-init c = fill_none _ _ _
 
 pub loop-r-preserved : goal.loop-r-preserved
 loop-r-preserved c =
-    let l = c.loop-r in (
-      omega arith,
-      simp length-set l.invariant.1,
-      rw l.invariant.2 (fill_next (limit_in _) l.r 1 _ (omega arith) (c.limit_in-l.ensures ∙ ap (limit_in _) (add_comm l.r 1))),
-    )
+    let l = c.loop-r in
+    rw l.invariant (fill_next (limit_in _) l.r 1 _ (omega arith) (c.limit_in.ensures ∙ ap (limit_in _) (add_comm l.r 1)))
 
 pub returns : goal.returns
 unfolding limit_list
 returns c =
     let l = c.loop-r in
-    l.invariant.2 ∙ fill_end _ l.r most_resources 1 _ (omega arith) (omega arith)
+    l.invariant ∙ fill_end _ l.r most_resources 1 _ (omega arith) (omega arith)

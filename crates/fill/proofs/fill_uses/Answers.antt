@@ -1,12 +1,12 @@
 -- `fill::fill_uses` meets its contract: row n is that of segment n / 12 + 1 and strategy n % 12.
-use mathlib.Core.Path.{◌≡◌, sym, ap, ◌∙◌}
+use mathlib.Core.Path.{◌≡◌, ◌∙◌}
 use mathlib.Core.List.{List, ◌++◌}
 use Prim.Native.Nat.{ℕ, ◌+◌, ◌-◌, ◌*◌, ◌/◌, ◌%◌, ◌<◌}
 use native.Mathlib.Omega.{arith}
-use lib.ListN.{length, drop, length-take, length-drop, length-replicate}
+use lib.ListN.{drop, length-take, length-drop}
 use borrow.Rule.Slice.PartMut.{put_mid}
 use Rattle.base.specs.Over.{listed, listed_from}
-use Rattle.base.proofs.Listed.{fill_none, fill_part, fill_length, listed_cong}
+use Rattle.base.proofs.Listed.{fill_none, fill_part, listed_cong}
 use Rattle.tables.specs.Arrays.{columns, use_entries}
 use Rattle.rules.specs.District.{District, most_resources}
 use Rattle.rules.specs.Table.{usage_in}
@@ -33,34 +33,21 @@ next d table₀ table ys n e y =
     let m : most_resources * (n + 1) ≡ most_resources * n + most_resources = omega arith in
     rw (k, m, e) (fill_part (usage_entry d) (most_resources * n) most_resources 0 table₀ ys (y ∙ row_is d n))
 
-pub overflow_mul-end : goal.overflow_mul-end
-overflow_mul-end c = omega (arith, c.requires.0.segments)
-
 pub loop-n-init : goal.loop-n-init
-loop-n-init c =
-    let p = c.requires in
-    let wide = ap length p.1 ∙ length-replicate {A = ℕ} use_entries 0 in
-    (p.0.segments, wide, omega arith, wide, fill_none _ _ _)
+loop-n-init c = fill_none _ _ _
 
 pub fill_row-requires : goal.fill_row-requires
-fill_row-requires c = (c.requires.0, (omega arith, omega arith), simp (length-take, length-drop) (omega arith))
+fill_row-requires c =
+    let few = c.args.d.in_range.segments in
+    ((omega arith, omega arith), simp (length-take, length-drop) (omega arith))
 
 pub loop-n-preserved : goal.loop-n-preserved
 loop-n-preserved c =
     let l = c.loop-n in
-    let e = next c.args.d.now c.args.table.now l.table c.fill_row.new.row l.n l.invariant.4 c.fill_row.ensures in (
-      l.invariant.0,
-      l.invariant.1,
-      omega arith,
-      rw e (fill_length (usage_entry c.args.d.now) (most_resources * (l.n + 1)) 0 c.args.table.now (omega arith) ∙ l.invariant.1),
-      e,
-    )
-
-pub shape_of-table : goal.shape_of-table
-shape_of-table c = c.loop-n.invariant.3 ∙ sym c.loop-n.invariant.1
+    next c.args.d.district.now c.args.table.now l.table c.fill_row.new.row l.n l.invariant c.fill_row.ensures
 
 pub returns : goal.returns
 unfolding usage_list
 returns c =
     let l = c.loop-n in
-    l.invariant.4 ∙ fill_front (usage_entry _) (most_resources * l.n) use_entries 0 _ c.requires.1 (omega arith) (λ x low high. uses_past _ (0 + x) (omega arith))
+    l.invariant ∙ fill_front (usage_entry _) (most_resources * l.n) use_entries 0 _ c.requires (omega arith) (λ x low high. uses_past _ (0 + x) (omega arith))
