@@ -1,241 +1,214 @@
-// The edits of a district: what refuses each, and the district with the one value altered. Every function is total, for
-// any numbers and any value of the type, so that no call relies on a check made before it.
+// The edits of a district: what refuses each, and the one value that it alters. Every function is total, for any numbers
+// and any value of the type, so that no call relies on a check made before it.
 #![tactic(auto)]
 
-ghost use Rattle.std.specs.Prelude.{◌≡◌, ◌+◌, ◌-◌, ◌<◌, get_or, set};
+ghost use Rattle.std.specs.Prelude.{◌≡◌, ◌+◌, ◌-◌, ◌<◌, get_or, set, Ok, Err};
 ghost use Rattle.base.specs.Bits.{set_bit, clear_bit};
+ghost use Rattle.base.specs.Choice.{pick};
 ghost use Rattle.base.specs.Over.{between};
-ghost use Rattle.rules.specs.Answers.{unless, one_to};
-ghost use Rattle.rules.specs.Calls.{bar_refusal, limit_refusal, rating_refusal, leader_refusal, edit_refusal, edited as Calls·edited};
+ghost use Rattle.rules.specs.Answers.{refusal_in};
+ghost use Rattle.rules.specs.Calls.{bar_refusal, limit_refusal, rating_refusal, leader_refusal, edit_refusal, edited};
 ghost use Rattle.rules.specs.District.{per_segment, segment_place, greatest_of, bars_of, with_limit, with_bar, without_bar, with_rating, with_leader, fresh_district};
 
 use rules::places::*;
-use rules::refusals::*;
-use rules::{District, Edit};
+use rules::{District, Edit, Refusal};
 
 // The place of the `n`-th of a row, where the first is 1.
 fn place(n: usize) -> usize
     ensures { result ≡ n - 1 }
 {
-    if n < 1 { 0 } else { n - 1 }
+    n.saturating_sub(1)
 }
 
 // The number at a place, 0 past the last.
-fn value_at(d: District, at: usize) -> usize
-    ensures { result ≡ get_or d at 0 }
+fn value_at(d: &District, at: usize) -> usize
+    ensures { result ≡ get_or d.now at 0 }
 {
-    if at < DISTRICT_PLACES { d[at] } else { 0 }
+    d.get(at).copied().unwrap_or(0)
 }
 
-// The district with another number at a place; there is none past the last.
-fn with_value(d: District, at: usize, value: usize) -> District
-    ensures { result ≡ set d at value }
+// Another number at a place; there is none past the last.
+#[tactic(auto, using(crate::proofs::Places::past_set))]
+fn set_value(d: &mut District, at: usize, value: usize)
+    ensures { d.new ≡ set d.old at value }
 {
-    if DISTRICT_PLACES <= at {
-        return d;
+    if at < DISTRICT_PLACES {
+        d[at] = value;
     }
-    let mut e = d;
-    e[at] = value;
-    e
 }
 
 // The same at a place of a segment; there is none past the last segment.
-fn with_in_segment(d: District, segment: usize, at: usize, value: usize) -> District
+#[tactic(auto, using(crate::proofs::Places::past_set))]
+fn set_in_segment(d: &mut District, segment: usize, at: usize, value: usize)
     requires { at < per_segment }
-    ensures { result ≡ set d (segment_place segment + at) value }
+    ensures { d.new ≡ set d.old (segment_place segment + at) value }
 {
-    if MOST_SEGMENTS < segment {
-        return d;
+    if segment <= MOST_SEGMENTS {
+        set_value(d, SEGMENTS + PER_SEGMENT * place(segment) + at, value);
     }
-    with_value(d, SEGMENTS + PER_SEGMENT * place(segment) + at, value)
 }
 
-// ---- refusals, in the order of their tests; a refusal is its number, and 0 is none
+// ---- refusals, in the order of their tests
 
-// Refusal `n` where the test fails, else what the later tests say.
-fn refuse_unless(test: bool, n: usize, rest: usize) -> usize
-    ensures { result ≡ unless test n rest }
+fn refuse_unless(test: bool, refusal: Refusal) -> Result<(), Refusal>
+    ensures { result ≡ pick test (Ok tt) (Err refusal) }
 {
-    if test { rest } else { n }
+    if test { Ok(()) } else { Err(refusal) }
 }
 
-// Whether `x` is `low` to `high`.
-fn within(low: usize, high: usize, x: usize) -> bool
-    ensures { result ≡ between low high x }
+// Refused where `x` is not 1 to `count`.
+fn one_to(x: usize, count: usize, refusal: Refusal) -> Result<(), Refusal>
+    ensures { result ≡ pick (between 1 count x) (Ok tt) (Err refusal) }
 {
-    if x < low {
-        return false;
-    }
-    x <= high
-}
-
-// Refusal `n` where `x` is not 1 to `count`, else what the later tests say.
-fn one_to(x: usize, count: usize, n: usize, rest: usize) -> usize
-    ensures { result ≡ one_to x count n rest }
-{
-    refuse_unless(within(1, count, x), n, rest)
+    refuse_unless((1..=count).contains(&x), refusal)
 }
 
 // ---- limits
 
-fn limit_refusal(d: District, resource: usize, limit: usize) -> usize
-    ensures { result ≡ limit_refusal d resource limit }
+fn check_limit(d: &District, resource: usize, limit: usize) -> Result<(), Refusal>
+    ensures { refusal_in result ≡ limit_refusal d.now resource limit }
 {
-    let field = grammar::limit_field(&d, place(resource));
-    let range = refuse_unless(grammar::is_inside(field, limit), NEW_OUT_OF_RANGE, 0);
-    one_to(resource, d[RESOURCE_COUNT], NO_SUCH_NUMBER, range)
+    one_to(resource, d[RESOURCE_COUNT], Refusal::NoSuchNumber)?;
+    let field = grammar::limit_field(d, place(resource));
+    refuse_unless(grammar::is_inside(field, limit), Refusal::NewOutOfRange)
 }
 
-fn with_limit(d: District, resource: usize, limit: usize) -> District
-    ensures { result ≡ with_limit d resource limit }
+#[tactic(auto, using(crate::proofs::Places::past_set))]
+fn set_limit(d: &mut District, resource: usize, limit: usize)
+    ensures { d.new ≡ with_limit d.old resource limit }
 {
-    if DISTRICT_PLACES < resource {
-        return d;
+    if resource <= DISTRICT_PLACES {
+        set_value(d, LIMITS + place(resource), limit);
     }
-    with_value(d, LIMITS + place(resource), limit)
 }
 
 // ---- ratings
 
 // The greatest rating of a distress.
-fn greatest_of(d: District, distress: usize) -> usize
-    ensures { result ≡ greatest_of d distress }
+#[tactic(auto, using(crate::proofs::Places::past), unfolding(rules::specs::District::greatest_of))]
+fn greatest_of(d: &District, distress: usize) -> usize
+    ensures { result ≡ greatest_of d.now distress }
 {
-    if DISTRICT_PLACES < distress {
-        return 0;
+    if distress <= DISTRICT_PLACES {
+        value_at(d, GREATEST + place(distress))
+    } else {
+        0
     }
-    value_at(d, GREATEST + place(distress))
 }
 
-fn rating_refusal(d: District, segment: usize, distress: usize, rating: usize) -> usize
-    ensures { result ≡ rating_refusal d segment distress rating }
+#[tactic(auto, using(crate::proofs::Places::rating_inside))]
+fn check_rating(d: &District, segment: usize, distress: usize, rating: usize) -> Result<(), Refusal>
+    ensures { refusal_in result ≡ rating_refusal d.now segment distress rating }
 {
-    let most = greatest_of(d, distress);
-    let range = refuse_unless(rating <= most, NEW_OUT_OF_RANGE, 0);
-    let number = one_to(distress, d[DISTRESS_COUNT], NO_SUCH_NUMBER, range);
-    one_to(segment, d[SEGMENT_COUNT], NO_SUCH_SEGMENT, number)
+    one_to(segment, d[SEGMENT_COUNT], Refusal::NoSuchSegment)?;
+    one_to(distress, d[DISTRESS_COUNT], Refusal::NoSuchNumber)?;
+    refuse_unless(rating <= greatest_of(d, distress), Refusal::NewOutOfRange)
 }
 
-fn with_rating(d: District, segment: usize, distress: usize, rating: usize) -> District
-    ensures { result ≡ with_rating d segment distress rating }
+#[tactic(auto, using(crate::proofs::Places::past_set))]
+fn set_rating(d: &mut District, segment: usize, distress: usize, rating: usize)
+    ensures { d.new ≡ with_rating d.old segment distress rating }
 {
-    if MOST_SEGMENTS < segment {
-        return d;
+    if segment <= MOST_SEGMENTS && distress <= DISTRICT_PLACES {
+        let ratings = SEGMENTS + PER_SEGMENT * place(segment) + RATINGS;
+        set_value(d, ratings + place(distress), rating);
     }
-    if DISTRICT_PLACES < distress {
-        return d;
-    }
-    with_value(
-        d,
-        SEGMENTS + PER_SEGMENT * place(segment) + RATINGS + place(distress),
-        rating,
-    )
 }
 
 // ---- bars
 
-fn bar_refusal(d: District, segment: usize, strategy: usize) -> usize
-    ensures { result ≡ bar_refusal d segment strategy }
+fn check_bar(d: &District, segment: usize, strategy: usize) -> Result<(), Refusal>
+    ensures { refusal_in result ≡ bar_refusal d.now segment strategy }
 {
-    let rest = one_to(strategy, d[STRATEGY_COUNT], NO_SUCH_NUMBER, 0);
-    one_to(segment, d[SEGMENT_COUNT], NO_SUCH_SEGMENT, rest)
+    one_to(segment, d[SEGMENT_COUNT], Refusal::NoSuchSegment)?;
+    one_to(strategy, d[STRATEGY_COUNT], Refusal::NoSuchNumber)
 }
 
 // The mask with bit `n` set.
+#[tactic(auto, using(base::proofs::Bits::set_by_or, base::proofs::Bits::not_set))]
 fn set_bit(mask: usize, n: usize) -> usize
     ensures { result ≡ set_bit mask n }
 {
-    if n < 16 {
-        return mask | (1 << n);
-    }
-    mask
+    if n < 16 { mask | (1 << n) } else { mask }
 }
 
 // The mask with bit `n` cleared.
+#[tactic(auto, using(base::proofs::Bits::cleared_by_and, base::proofs::Bits::not_cleared))]
 fn clear_bit(mask: usize, n: usize) -> usize
     ensures { result ≡ clear_bit mask n }
 {
-    if n < 16 {
-        return mask & !(1 << n);
-    }
-    mask
+    if n < 16 { mask & !(1 << n) } else { mask }
 }
 
 // The bars of a segment; none where there is no such segment.
-fn bars_of(d: District, segment: usize) -> usize
-    ensures { result ≡ bars_of d segment }
+#[tactic(auto, using(crate::proofs::Places::past), unfolding(rules::specs::District::bars_of))]
+fn bars_of(d: &District, segment: usize) -> usize
+    ensures { result ≡ bars_of d.now segment }
 {
-    if MOST_SEGMENTS < segment {
-        return 0;
+    if segment <= MOST_SEGMENTS {
+        value_at(d, SEGMENTS + PER_SEGMENT * place(segment) + BARS)
+    } else {
+        0
     }
-    value_at(d, SEGMENTS + PER_SEGMENT * place(segment) + BARS)
 }
 
-fn with_bar(d: District, segment: usize, strategy: usize) -> District
-    ensures { result ≡ with_bar d segment strategy }
+fn bar(d: &mut District, segment: usize, strategy: usize)
+    ensures { d.new ≡ with_bar d.old segment strategy }
 {
-    with_in_segment(
-        d,
-        segment,
-        BARS,
-        set_bit(bars_of(d, segment), place(strategy)),
-    )
+    let bars = set_bit(bars_of(d, segment), place(strategy));
+    set_in_segment(d, segment, BARS, bars);
 }
 
-fn without_bar(d: District, segment: usize, strategy: usize) -> District
-    ensures { result ≡ without_bar d segment strategy }
+fn unbar(d: &mut District, segment: usize, strategy: usize)
+    ensures { d.new ≡ without_bar d.old segment strategy }
 {
-    with_in_segment(
-        d,
-        segment,
-        BARS,
-        clear_bit(bars_of(d, segment), place(strategy)),
-    )
+    let bars = clear_bit(bars_of(d, segment), place(strategy));
+    set_in_segment(d, segment, BARS, bars);
 }
 
 // ---- leaders
 
-fn leader_refusal(d: District, segment: usize, leader: usize) -> usize
-    ensures { result ≡ leader_refusal d segment leader }
+fn check_leader(d: &District, segment: usize, leader: usize) -> Result<(), Refusal>
+    ensures { refusal_in result ≡ leader_refusal d.now segment leader }
 {
-    let below = refuse_unless(leader < segment, LEADER_NOT_BELOW, 0);
-    one_to(segment, d[SEGMENT_COUNT], NO_SUCH_SEGMENT, below)
+    one_to(segment, d[SEGMENT_COUNT], Refusal::NoSuchSegment)?;
+    refuse_unless(leader < segment, Refusal::LeaderNotBelow)
 }
 
-fn with_leader(d: District, segment: usize, leader: usize) -> District
-    ensures { result ≡ with_leader d segment leader }
+fn set_leader(d: &mut District, segment: usize, leader: usize)
+    ensures { d.new ≡ with_leader d.old segment leader }
 {
-    with_in_segment(d, segment, LEADER, leader)
+    set_in_segment(d, segment, LEADER, leader);
 }
 
 // ---- any edit
 
-pub fn refusal(d: District, e: Edit) -> usize
-    ensures { result ≡ edit_refusal d e }
+pub fn check(d: &District, e: Edit) -> Result<(), Refusal>
+    ensures { refusal_in result ≡ edit_refusal d.now e }
 {
     match e {
-        Edit::Bar(i, j) => bar_refusal(d, i, j),
-        Edit::Unbar(i, j) => bar_refusal(d, i, j),
-        Edit::SetLimit(r, limit) => limit_refusal(d, r, limit),
-        Edit::SetRating(i, k, rating) => rating_refusal(d, i, k, rating),
-        Edit::SetLeader(i, leader) => leader_refusal(d, i, leader),
+        Edit::Bar(i, j) | Edit::Unbar(i, j) => check_bar(d, i, j),
+        Edit::SetLimit(r, limit) => check_limit(d, r, limit),
+        Edit::SetRating(i, k, rating) => check_rating(d, i, k, rating),
+        Edit::SetLeader(i, leader) => check_leader(d, i, leader),
     }
 }
 
-pub fn edited(d: District, e: Edit) -> District
-    ensures { result ≡ Calls·edited d e }
+pub fn edit(d: &mut District, e: Edit)
+    ensures { d.new ≡ edited d.old e }
 {
     match e {
-        Edit::Bar(i, j) => with_bar(d, i, j),
-        Edit::Unbar(i, j) => without_bar(d, i, j),
-        Edit::SetLimit(r, limit) => with_limit(d, r, limit),
-        Edit::SetRating(i, k, rating) => with_rating(d, i, k, rating),
-        Edit::SetLeader(i, leader) => with_leader(d, i, leader),
+        Edit::Bar(i, j) => bar(d, i, j),
+        Edit::Unbar(i, j) => unbar(d, i, j),
+        Edit::SetLimit(r, limit) => set_limit(d, r, limit),
+        Edit::SetRating(i, k, rating) => set_rating(d, i, k, rating),
+        Edit::SetLeader(i, leader) => set_leader(d, i, leader),
     }
 }
 
 // ---- the fresh unit's district
 
+#[tactic(auto, unfolding(rules::specs::District::fresh_district))]
 pub fn fresh_district() -> District
     ensures { result ≡ fresh_district }
 {
