@@ -1,10 +1,26 @@
 -- `convert::down` meets its contract.
-use mathlib.Core.Path.{◌∙◌}
-use Rattle.convert.proofs.Loads.{down_turned}
-use Rattle.convert.proofs.Turns.{down_and_up}
+use Rattle.std.proofs.Common.{sym, ◌∙◌}
+use Rattle.std.proofs.lemmas.Result.{err_from_is_err_and}
+use Rattle.rules.specs.Answers.{number_of}
+use Rattle.file.proofs.Numbered.{numbered}
+use Rattle.convert.proofs.Loads.{down_refused, down_led, down_turned}
 use Rattle.convert.proofs.down.Goals as goal
 
-pub returns : goal.returns
-returns c =
+pub returns-in_err-d-clause-same : goal.returns-in_err-d-clause-same
+returns-in_err-d-clause-same c =
     let a = c.args in
-    record { same = c.conclude.ensures ∙ down_turned a.file.now a.out.now c.load_as-loaded.result c.down_refusal-refusal.result c.load_as-loaded.ensures c.down_refusal-refusal.ensures; back = down_and_up a.file.now }
+    let g = c.in_err-d in
+    let k = err_from_is_err_and c.from_residual.result c.from_residual.ensures.1 in
+    rw (k.1, k.2) (down_refused a.file.now a.out.now (number_of g.field-0.0) (numbered g.field-0.0) (rw g.was at c.load_as.ensures.refusal))
+
+pub returns-then-not-is_leaderless-clause-same : goal.returns-then-not-is_leaderless-clause-same
+returns-then-not-is_leaderless-clause-same c =
+    let a = c.args in
+    let g = c.in_ok-d in
+    down_led a.file.now a.out.now g.d (rw g.was at c.load_as.ensures.refusal) (rw g.was at c.load_as.ensures.district) (sym c.is_leaderless.ensures ∙ c.if-not-is_leaderless.true)
+
+pub returns-clause-same : goal.returns-clause-same
+returns-clause-same c =
+    let a = c.args in
+    let g = c.in_ok-d in
+    down_turned a.file.now a.out.now g.d _ (rw g.was at c.load_as.ensures.refusal) (rw g.was at c.load_as.ensures.district) (sym c.is_leaderless.ensures ∙ c.if-not-is_leaderless.false) c.export_as.ensures

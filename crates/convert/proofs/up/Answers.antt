@@ -1,10 +1,19 @@
 -- `convert::up` meets its contract.
-use mathlib.Core.Path.{◌∙◌}
-use Rattle.convert.proofs.Loads.{up_turned}
-use Rattle.convert.proofs.Turns.{up_and_down}
+use Rattle.std.proofs.lemmas.Result.{err_from_is_err_and}
+use Rattle.rules.specs.Answers.{number_of}
+use Rattle.file.proofs.Numbered.{numbered}
+use Rattle.convert.proofs.Loads.{up_refused, up_turned}
 use Rattle.convert.proofs.up.Goals as goal
 
-pub returns : goal.returns
-returns c =
+pub returns-in_err-d-clause-same : goal.returns-in_err-d-clause-same
+returns-in_err-d-clause-same c =
     let a = c.args in
-    record { same = c.conclude.ensures ∙ up_turned a.file.now a.out.now c.load_as-loaded.result c.load_as-loaded.ensures; back = up_and_down a.file.now }
+    let g = c.in_err-d in
+    let k = err_from_is_err_and c.from_residual.result c.from_residual.ensures.1 in
+    rw (k.1, k.2) (up_refused a.file.now a.out.now (number_of g.field-0.0) (numbered g.field-0.0) (rw g.was at c.load_as.ensures.refusal))
+
+pub returns-clause-same : goal.returns-clause-same
+returns-clause-same c =
+    let a = c.args in
+    let g = c.in_ok-d in
+    up_turned a.file.now a.out.now g.d _ (rw g.was at c.load_as.ensures.refusal) (rw g.was at c.load_as.ensures.district) c.export_as.ensures

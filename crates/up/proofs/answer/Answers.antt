@@ -5,4 +5,4 @@ use Rattle.up.proofs.answer.Goals as goal
 pub returns : goal.returns
 returns c =
     let told = c.put_answer in
-    up_put c.args.file.now c.args.out.now _ _ c.up-answer.result told.result c.requires told.ensures c.up-answer.ensures.same
+    up_put c.args.file.now c.args.out.now _ _ _ told.result c.requires told.ensures c.up-answer.ensures.same
