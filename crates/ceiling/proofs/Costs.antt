@@ -1,5 +1,5 @@
 -- What a new price does to the costs and to the ceiling, and that no sum of them wraps.
-use Prim.Native.Nat.{ℕ, suc, ◌+◌, ◌-◌, ◌*◌, ◌^◌, ◌≤◌, ◌<◌, max, min}
+use Prim.Native.Nat.{ℕ, zero, suc, ◌+◌, ◌-◌, ◌*◌, ◌^◌, ◌≤◌, ◌<◌, max, min}
 use mathlib.Core.Path.{◌≡◌, refl, ap, sym, ◌∙◌}
 use mathlib.Core.Bool.{Bool, true, false}
 use mathlib.Core.List.{List}
@@ -7,13 +7,16 @@ use native.Mathlib.Nat.{mul-le-mul, le_trans, sub-le, max-eq_left, min-eq_right,
 use native.Mathlib.Omega.{arith}
 use borrow.Author.Tests.{lt-ltb, le-ltb, eqb-true, eqb-false}
 use lib.Dec.{ltb, eqb}
-use lib.ListN.{get_or, length, set, length-set}
+use native.Mathlib.Numerals.{add-one}
+use lib.ListN.{get_or, length, take, set, length-set}
 use lib.Seq.{get_or-set_same, get_or-set_other}
+use Rattle.std.specs.List.{sum as list_sum}
+use Rattle.std.proofs.lemmas.List.Sums.{sum_by_more}
 use Rattle.base.specs.Choice.{pick}
 use Rattle.base.specs.Over.{sum, most}
 use Rattle.base.proofs.Choice.{leb_same}
 use Rattle.base.proofs.Sums.{sum_bound, sum_change, sum_more, most_bound, most_next, sum_next}
-use Rattle.rules.specs.District.{most_segments, most_strategies}
+use Rattle.rules.specs.District.{most_segments, most_strategies, most_resources}
 use Rattle.rules.specs.Table.{Table}
 use Rattle.rules.specs.Ceiling.{price_at, down_share, cost_by, cost, net, margin, ceiling_at}
 use Rattle.laws.proofs.Give.{given, kept}
@@ -43,11 +46,19 @@ module _ (t : Table) (p : List ℕ) (r q : ℕ) (l : 1 ≤ r) (h : r ≤ t.resou
 
 -- ---- sums of prices
 
-pub prices_next : (p : List ℕ) (r : ℕ) {x : ℕ} → x ≡ sum r (price_at p) → x + get_or p r 0 ≡ sum (r + 1) (price_at p)
-prices_next p r e = let at : r + 1 - 1 ≡ r = omega arith in omega (arith, sum_next r (price_at p) e, ap (λ (k : ℕ). get_or p k 0) at)
-
 pub prices_small : {p : List ℕ} → Prices p → (n : ℕ) → sum n (price_at p) ≤ n * 2 ^ 41
 prices_small {p} prices n = sum_bound n (2 ^ 41) (price_at p) (λ k l h. omega (arith, prices.small (k - 1)))
+
+-- the same sum of a list
+pub prices_sum : (p : List ℕ) (n : ℕ) → n ≤ length p → list_sum (take n p) ≡ sum n (price_at p)
+unfolding sum
+prices_sum p zero h = refl
+prices_sum p (suc n) h =
+    let at : suc n - 1 ≡ n = omega arith in
+    rw add-one at (sum_by_more (λ (x : ℕ). x) p n 0 (omega arith)) ∙ rw (prices_sum p n (omega arith), at)
+
+pub list_small : {p : List ℕ} → Prices p → (n : ℕ) → n ≤ most_resources → list_sum (take n p) ≤ n * 2 ^ 41
+list_small {p} prices n few = omega (arith, prices_sum p n (omega (arith, prices.places)), prices_small prices n)
 
 -- ---- over arrays
 
@@ -72,12 +83,18 @@ module _ {z : Size} {b d : List ℕ} (sized : Sized z b d) where
       most_bound z.strategies (2 ^ 40) (net (priced_table z b d) p i)
       (λ j l h. omega (arith, sub-le (get_or b (entry i j) 0) (cost (priced_table z b d) p i j), sized.benefit_small (entry i j)))
 
+  pub margins_small : (p : List ℕ) (n : ℕ) → sum n (margin (priced_table z b d) p) ≤ n * 2 ^ 40
+  margins_small p n = sum_bound n (2 ^ 40) (margin (priced_table z b d) p) (λ k l h. margin_small p k)
+
   pub ceiling_small : {p : List ℕ} → Prices p → ceiling_at (priced_table z b d) p < 2 ^ 62
   unfolding ceiling_at
   ceiling_small {p} prices =
-      omega (arith, prices_small prices z.resources, sum_bound z.segments (2 ^ 40) (margin (priced_table z b d) p) (λ k l h. margin_small p k))
+      omega (arith, prices_small prices z.resources, margins_small p z.segments)
 
 -- ---- in a trial
+
+pub trial_of : {z : Size} {b d p : List ℕ} {r price : ℕ} → Sized z b d → Prices p → (1 ≤ r) × (r ≤ z.resources) × (price < 2 ^ 41) → Trial z b d p r price
+trial_of sized prices new = record { sized = sized; prices = prices; resource_from = new.0; resource_to = new.1; small = new.2 }
 
 -- the ceiling's sum over the first i segments
 abbrev pub Summed : Table → List ℕ → ℕ → ℕ → Type 0

@@ -1,3 +1,3 @@
 pub mod Costs
-pub mod Search
+pub mod Rounds
 pub mod Same

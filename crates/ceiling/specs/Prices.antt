@@ -1,6 +1,6 @@
 -- What the search for the ceiling reads and keeps in arrays: benefits and down-shares, a price for each of 16 resources, and what each
 -- candidate costs at these prices.
-use Rattle.std.specs.Prelude.{ℕ, ◌+◌, ◌^◌, ◌≤◌, ◌<◌, ◌≡◌, List, ltb, get_or, length}
+use Rattle.std.specs.Prelude.{ℕ, ◌+◌, ◌^◌, ◌≤◌, ◌<◌, ◌≡◌, List, ltb, get_or, length, replicate}
 use Rattle.base.specs.Choice.{pick}
 use Rattle.rules.specs.District.{most_segments, most_strategies, most_resources}
 use Rattle.rules.specs.Table.{Table}
@@ -45,6 +45,10 @@ priced_table z b d =
       usage = λ i j r. get_or d (use_entry i j r) 0;
       limit = λ _. 10_000;
     }
+
+-- all prices 0
+abbrev pub free : List ℕ
+free = replicate most_resources 0
 
 -- 16 prices, each below 2 ^ 41
 pub record Prices (p : List ℕ) : Type 0 where

@@ -1,35 +1,30 @@
 -- `ceiling::ceiling_of` meets its contract.
-use mathlib.Core.Path.{◌≡◌, ap, sym, ◌∙◌}
+use mathlib.Core.Path.{◌≡◌, refl, ap, sym, ◌∙◌}
 use native.Mathlib.Omega.{arith}
 use Rattle.rules.specs.Ceiling.{ceiling_at, ceiling}
 use Rattle.ceiling.proofs.Same.{same_ceiling}
-use Rattle.ceiling.proofs.Search.{start_trial, start_costs, start_value, after_none, after_next, after_room, after_places}
+use Rattle.ceiling.proofs.Rounds.{free_prices, free_costs, after_none, after_next, after_room}
 use Rattle.ceiling.proofs.ceiling_of.Goals as goal
 
-pub trial-value-requires : goal.trial-value-requires
-trial-value-requires c = (start_trial c.requires, start_costs c.requires, omega arith)
+pub invariant_of-search : goal.invariant_of-search
+invariant_of-search c = record { fit = free_prices; standing = record { costs = free_costs _ _ _; value = c.free_ceiling.ensures } }
 
 pub loop-k-init : goal.loop-k-init
-loop-k-init c = (omega arith, after_none _, record { costs = start_costs c.requires; value = start_value c.requires c.trial-value.ensures })
+loop-k-init c = (refl, after_none _)
 
-pub slice_bounds-price_all-end : goal.slice_bounds-price_all-end
-slice_bounds-price_all-end c =
-    let l = c.loop-k in
-    sym (after_places _ l.k l.invariant.1 (omega arith))
-
-pub price_all-value-requires : goal.price_all-value-requires
-price_all-value-requires c =
-    let l = c.loop-k in
-    (c.requires, after_room _ l.k l.invariant.1 c.power.ensures (omega arith), l.invariant.2)
+pub price_all-requires : goal.price_all-requires
+price_all-requires c = after_room _ c.loop-k.k c.loop-k.invariant.1 c.power.ensures (omega arith)
 
 pub loop-k-preserved : goal.loop-k-preserved
 loop-k-preserved c =
-    let new = c.price_all-value.ensures in
-    (omega arith, after_next _ c.loop-k.k c.loop-k.invariant.1 c.power.ensures new.prices_after, new.standing)
+    let l = c.loop-k in
+    let new = c.price_all.ensures in
+    (new.same_table ∙ l.invariant.0, after_next _ l.k l.invariant.1 c.power.ensures (rw l.invariant.0 at new.prices_after))
 
 pub returns : goal.returns
 unfolding ceiling
 returns c =
     λ t priced.
-    let e : c.loop-k.k ≡ 41 = omega arith in
-    c.loop-k.invariant.2.value ∙ ap (ceiling_at _) (c.loop-k.invariant.1 ∙ rw e) ∙ same_ceiling priced
+    let l = c.loop-k in
+    let e : l.k ≡ 41 = omega arith in
+    rw l.invariant.0 at l.search.standing.value ∙ ap (ceiling_at _) (l.invariant.1 ∙ rw e) ∙ same_ceiling priced

@@ -1,26 +1,26 @@
 -- Laws of the price search: which price a step takes, and that prices stay below 2 ^ 41.
 use Prim.Native.Nat.{ℕ, zero, suc, ◌+◌, ◌-◌, ◌*◌, ◌^◌, ◌≤◌, ◌<◌, min}
-use mathlib.Core.Path.{◌≡◌, refl, sym, ◌∙◌}
+use mathlib.Core.Path.{◌≡◌, refl, ap, sym, ◌∙◌}
 use mathlib.Core.Bool.{◌&&◌}
 use mathlib.Core.List.{List}
-use native.Mathlib.Nat.{min-eq_left, le_of_lt, zero-mul}
+use native.Mathlib.Nat.{zero-mul}
 use native.Mathlib.Numerals.{add-one}
 use native.Mathlib.Omega.{arith}
 use borrow.Author.Tests.{lt-ltb, le-ltb, le-leb, lt-leb}
 use lib.Dec.{leb}
-use lib.ListN.{get_or, length, set, replicate, length-set, length-replicate}
+use lib.ListN.{get_or, length, set, take, drop, replicate, length-take, length-drop, length-set, length-replicate}
 use lib.Pow.{pow_pos}
-use lib.Seq.{get_or-set_other}
+use lib.Seq.{get_or-set_other, get_or-take, get_or-drop}
 use Rattle.base.proofs.Choice.{pick_all}
-use Rattle.base.proofs.Sums.{sum_cong, sum_zero}
+use Rattle.base.specs.Over.{sum, most}
+use Rattle.base.proofs.Sums.{sum_cong, sum_zero, most_cong}
 use Rattle.rules.specs.District.{most_resources}
 use Rattle.rules.specs.Table.{Table}
-use Rattle.rules.specs.Ceiling.{price_at, down_share, cost_by, cost, raised, lowered, ceiling_at, lowers, priced, priced_all, prices_after}
+use Rattle.rules.specs.Ceiling.{price_at, down_share, cost_by, cost, net, margin, raised, lowered, ceiling_at, lowers, priced, priced_all, prices_after}
 use Rattle.laws.proofs.Give.{set_le}
-use Rattle.tables.specs.Arrays.{entry, entries}
+use Rattle.tables.specs.Arrays.{columns, entry, entries}
 use Rattle.tables.specs.declared.Size.{Size}
-use Rattle.ceiling.specs.Prices.{Sized, priced_table, Prices, Costs, Trial, Headroom}
-use Rattle.ceiling.proofs.Costs.{ceiling_small}
+use Rattle.ceiling.specs.Prices.{Sized, priced_table, free, Prices, Costs, Trial, Headroom}
 
 -- ---- which case a step takes
 
@@ -139,38 +139,57 @@ room_at t {s} {p} {k} h e =
 pub raisable_prices : {s k : ℕ} {p : List ℕ} → Raisable (2 ^ 41 - 1) s k p → Prices p
 raisable_prices h = record { places = h.places; small = λ q. omega (arith, h.small q) }
 
-module _ {z : Size} {b d : List ℕ} where
-  pub raisable_trial : {p : List ℕ} {s r : ℕ} → Sized z b d → Raisable (2 ^ 41 - 1) s r p → r < z.resources → Trial z b d p (r + 1) (price_at p (r + 1) + s)
-  raisable_trial {p} {s} {r} sized h l =
-      record { sized = sized; prices = raisable_prices h; resource_from = omega arith; resource_to = omega arith; small = omega (arith, h.room (r + 1 - 1) (omega arith)) }
+-- at a resource of the round: room for its step
+pub raisable_room : {p : List ℕ} {s r : ℕ} → Raisable (2 ^ 41 - 1) s r p → price_at p (r + 1) + s < 2 ^ 41
+raisable_room {p} {s} {r} h = omega (arith, h.room (r + 1 - 1) (omega arith))
 
-  pub trial_lower : {p : List ℕ} {r q price : ℕ} → Trial z b d p r q → price ≤ q → Trial z b d p r price
-  trial_lower m l =
-      record { sized = m.sized; prices = m.prices; resource_from = m.resource_from; resource_to = m.resource_to; small = omega (arith, m.small) }
+-- ---- the start: all prices are 0, so nothing costs anything
 
-  -- ---- the start: all prices are 0, so nothing costs anything
+-- what a strategy is worth where nothing costs anything
+abbrev pub worth : List ℕ → ℕ → ℕ → ℕ
+worth b i j = get_or b (entry i j) 0
 
-  module _ (sized : Sized z b d) where
-    pub start_trial : Trial z b d (replicate most_resources 0) 1 0
-    start_trial =
-        record {
-          sized = sized;
-          prices = record { places = length-replicate {A = ℕ} most_resources 0; small = λ k. omega (arith, zeros most_resources k) };
-          resource_from = omega arith;
-          resource_to = sized.resources_from;
-          small = omega arith;
-        }
+-- a segment's row of benefits
+module _ {z : Size} {b d : List ℕ} (sized : Sized z b d) (i : ℕ) (low : 1 ≤ i) (high : i ≤ z.segments) where
+  abbrev from : ℕ
+  from = columns * (i - 1) + 1
 
-    pub start_costs : Costs z b d (replicate most_resources 0) (replicate most_resources 0) 0 (replicate entries 0)
-    unfolding cost cost_by
-    start_costs =
-        record {
-          places = length-replicate {A = ℕ} entries 0;
-          costs = λ i j inside worth.
-              let e = le-ltb (entry i j) 0 (omega arith) in
-              zeros entries (entry i j) ∙ sym (rw e (sum_cong z.resources (cost_by (priced_table z b d) (replicate most_resources 0) i j) (λ _. 0) (λ r l h. rw (zeros most_resources (r - 1)) (zero-mul (down_share (priced_table z b d) i j r))) ∙ sum_zero z.resources));
-        }
+  abbrev row : List ℕ
+  row = take (from + z.strategies - from) (drop from b)
 
-    pub start_value : {x : ℕ} → x ≡ min (ceiling_at (priced_table z b d) (set (replicate most_resources 0) 0 0)) (2 ^ 62) → x ≡ ceiling_at (priced_table z b d) (replicate most_resources 0)
-    start_value e =
-        e ∙ min-eq_left (le_of_lt (ceiling_small sized start_trial.prices))
+  pub row_long : length row ≡ z.strategies
+  row_long = simp (length-take, length-drop) (omega (arith, sized.segments, sized.strategies, sized.benefits_length))
+
+  pub row_worth : (k : ℕ) → k < length row → get_or row k 0 ≡ worth b i (k + 1)
+  row_worth k h =
+      let at : from + k ≡ entry i (k + 1) = omega arith in
+      get_or-take (from + z.strategies - from) (drop from b) k 0 (omega (arith, row_long)) ∙ get_or-drop from b k 0 ∙ ap (λ (m : ℕ). get_or b m 0) at
+
+pub free_prices : Prices free
+free_prices = record { places = length-replicate {A = ℕ} most_resources 0; small = λ k. omega (arith, zeros most_resources k) }
+
+module _ (z : Size) (b d : List ℕ) where
+  free_cost : (i j : ℕ) → cost (priced_table z b d) free i j ≡ 0
+  unfolding cost cost_by
+  free_cost i j =
+      sum_cong z.resources (cost_by (priced_table z b d) free i j) (λ _. 0) (λ r l h. rw (zeros most_resources (r - 1)) (zero-mul (down_share (priced_table z b d) i j r)))
+      ∙ sum_zero z.resources
+
+  pub free_costs : Costs z b d free free 0 (replicate entries 0)
+  free_costs =
+      record {
+        places = length-replicate {A = ℕ} entries 0;
+        costs = λ i j inside some.
+            let e = le-ltb (entry i j) 0 (omega arith) in
+            zeros entries (entry i j) ∙ sym (rw e (free_cost i j));
+      }
+
+  pub free_margin_is : (i : ℕ) {x : ℕ} → x ≡ most z.strategies (worth b i) → x ≡ margin (priced_table z b d) free i
+  unfolding margin net
+  free_margin_is i e = e ∙ most_cong z.strategies (worth b i) (net (priced_table z b d) free i) (λ j l h. let none = free_cost i j in omega arith)
+
+  pub free_ceiling_is : {x : ℕ} → x ≡ sum z.segments (margin (priced_table z b d) free) → x ≡ ceiling_at (priced_table z b d) free
+  unfolding ceiling_at
+  free_ceiling_is e =
+      let none = sum_cong z.resources (price_at free) (λ _. 0) (λ r l h. zeros most_resources (r - 1)) ∙ sum_zero z.resources in
+      omega arith
