@@ -1,6 +1,6 @@
 -- What a new price does to the costs and to the ceiling, and that no sum of them wraps.
 use Prim.Native.Nat.{ℕ, zero, suc, ◌+◌, ◌-◌, ◌*◌, ◌^◌, ◌≤◌, ◌<◌, max, min}
-use mathlib.Core.Path.{◌≡◌, refl, ap, sym, ◌∙◌}
+use mathlib.Core.Path.{◌≡◌, refl, sym, ◌∙◌}
 use mathlib.Core.Bool.{Bool, true, false}
 use mathlib.Core.List.{List}
 use native.Mathlib.Nat.{mul-le-mul, le_trans, sub-le, max-eq_left, min-eq_right, mul-div_cancel}
@@ -22,6 +22,8 @@ use Rattle.rules.specs.Ceiling.{price_at, down_share, cost_by, cost, net, margin
 use Rattle.laws.proofs.Give.{given, kept}
 use Rattle.tables.specs.Arrays.{entry, use_entry, columns, entries}
 use Rattle.tables.specs.declared.Size.{Size}
+use Rattle.ceiling.specs.declared.candidates.Candidates.{Candidates}
+use Rattle.ceiling.specs.declared.candidates.NewPrice.{NewPrice}
 use Rattle.ceiling.specs.Prices.{In, Sized, priced_table, Prices, Costs, Trial}
 
 -- ---- resource r gets the price q
@@ -93,8 +95,8 @@ module _ {z : Size} {b d : List ℕ} (sized : Sized z b d) where
 
 -- ---- in a trial
 
-pub trial_of : {z : Size} {b d p : List ℕ} {r price : ℕ} → Sized z b d → Prices p → (1 ≤ r) × (r ≤ z.resources) × (price < 2 ^ 41) → Trial z b d p r price
-trial_of sized prices new = record { sized = sized; prices = prices; resource_from = new.0; resource_to = new.1; small = new.2 }
+pub trial_of : (t : Candidates) (new : NewPrice) {p : List ℕ} → Prices p → new.resource ≤ t.size.resources → Trial t.size t.benefits.now t.downs.now p new.resource new.price
+trial_of t new prices h = record { sized = t.sized; prices = prices; resource_from = new.from_one; resource_to = h; small = new.small }
 
 -- the ceiling's sum over the first i segments
 abbrev pub Summed : Table → List ℕ → ℕ → ℕ → Type 0

@@ -20,7 +20,7 @@ use Rattle.rules.specs.Ceiling.{price_at, down_share, cost_by, cost, net, margin
 use Rattle.laws.proofs.Give.{set_le}
 use Rattle.tables.specs.Arrays.{columns, entry, entries}
 use Rattle.tables.specs.declared.Size.{Size}
-use Rattle.ceiling.specs.Prices.{Sized, priced_table, free, Prices, Costs, Trial, Headroom}
+use Rattle.ceiling.specs.Prices.{Sized, priced_table, free, Prices, Costs, Headroom}
 
 -- ---- which case a step takes
 
@@ -129,15 +129,9 @@ after_room t n e q h =
     let before = after_raisable t n (omega arith) in
     rw e (record { places = before.places; room = λ k. omega (arith, before.room k (omega arith), halved n h, pow_pos (40 - n)) })
 
-pub after_places : (t : Table) (n : ℕ) {p : List ℕ} → p ≡ prices_after t n → n ≤ 41 → length p ≡ most_resources
-after_places t n e h = rw e (after_raisable t n h).places
-
 pub room_at : (t : Table) {s : ℕ} {p : List ℕ} {k : ℕ} {q : List ℕ} → Headroom s p → q ≡ priced_all t s k p → Raisable (2 ^ 41 - 1) s k q
 room_at t {s} {p} {k} h e =
     rw e (all_raisable t (2 ^ 41 - 1) s p (record { places = h.places; small = λ q. omega (arith, h.room q); room = λ q l. omega (arith, h.room q) }) k)
-
-pub raisable_prices : {s k : ℕ} {p : List ℕ} → Raisable (2 ^ 41 - 1) s k p → Prices p
-raisable_prices h = record { places = h.places; small = λ q. omega (arith, h.small q) }
 
 -- at a resource of the round: room for its step
 pub raisable_room : {p : List ℕ} {s r : ℕ} → Raisable (2 ^ 41 - 1) s r p → price_at p (r + 1) + s < 2 ^ 41

@@ -1,8 +1,6 @@
 // What the search reads: the benefits of a table's candidates and their down-shares, each a lent array.
-ghost use Rattle.std.specs.Prelude.{◌≡◌, ◌+◌, ◌*◌, ◌-◌, ◌≤◌, ◌<◌, ◌^◌, set};
-ghost use Rattle.rules.specs.Ceiling.{margin, ceiling_at};
-ghost use Rattle.tables.specs.Arrays.{columns};
-ghost use Rattle.ceiling.specs.Prices.{Sized, priced_table, free, Costs, Trial};
+ghost use Rattle.std.specs.Prelude.{◌≡◌, ◌+◌, ◌*◌, ◌-◌, ◌≤◌, ◌<◌, ◌^◌};
+ghost use Rattle.ceiling.specs.Prices.{Sized};
 
 use rules::places::MOST_RESOURCES;
 use tables::{COLUMNS, Size};
@@ -15,11 +13,25 @@ pub(crate) struct Candidates<'a> {
     pub ghost sized: { Sized size benefits.now downs.now },
 }
 
+// A new price for a resource.
+#[derive(Clone, Copy)]
+pub(crate) struct NewPrice {
+    pub(crate) resource: usize,
+    pub(crate) price: u64,
+    pub ghost from_one: { 1 ≤ resource },
+    pub ghost small: { price < 2 ^ 41 },
+}
+
 impl Candidates<'_> {
+    ghost use Rattle.rules.specs.Ceiling.{margin, ceiling_at};
+    ghost use Rattle.tables.specs.Arrays.{columns};
+    ghost use Rattle.ceiling.specs.Prices.{free, Costs, Prices};
+    ghost use Rattle.ceiling.specs.Views.{priced_in, repriced, CostsAt};
+
     // What segment i has left where all prices are 0: its greatest benefit.
     fn free_margin(self, i: usize) -> u64
         requires { (1 ≤ i) × (i ≤ self.size.segments) }
-        ensures { result ≡ margin (priced_table self.entry.size self.entry.benefits.now self.entry.downs.now) free i }
+        ensures { result ≡ margin (priced_in self.entry) free i }
     {
         let from = COLUMNS * (i - 1) + 1;
         let mut best: u64 = 0;
@@ -31,7 +43,7 @@ impl Candidates<'_> {
 
     // The ceiling where all prices are 0.
     pub(crate) fn free_ceiling(self) -> u64
-        ensures { result ≡ ceiling_at (priced_table self.entry.size self.entry.benefits.now self.entry.downs.now) free }
+        ensures { result ≡ ceiling_at (priced_in self.entry) free }
     {
         let mut total: u64 = 0;
         for i in 0..self.size.segments {
@@ -40,35 +52,32 @@ impl Candidates<'_> {
         total
     }
 
-    // The costs of segment i's candidates, with the price of resource r at `price`.
-    fn reprice_segment(self, prices: &[u64], costs: &mut [u64], r: usize, price: u64, i: usize)
-        requires trial { Trial self.size self.benefits.now self.downs.now prices.now r price }
-        requires costs { Costs self.size self.benefits.now self.downs.now (set prices.now (r - 1) price) prices.now (columns * (i - 1)) costs.old }
+    // The costs of segment i's candidates at the new price.
+    fn reprice_segment(self, prices: &[u64], costs: &mut [u64], new: NewPrice, i: usize)
+        requires prices { Prices prices.now × (new.resource ≤ self.size.resources) }
+        requires costs { CostsAt self (repriced prices.now new) prices.now (columns * (i - 1)) costs.old }
         requires le_i { (1 ≤ i) × (i ≤ self.size.segments) }
-        ensures { Costs self.entry.size self.entry.benefits.now self.entry.downs.now (set prices.now (r - 1) price) prices.now (columns * i) costs.new }
+        ensures { CostsAt self.entry (repriced prices.now new) prices.now (columns * i) costs.new }
     {
+        let r = new.resource;
         let old = prices[r - 1];
         for j in 0..self.size.strategies {
             let at = COLUMNS * (i - 1) + (j + 1);
             if self.benefits[at] > 0 {
-                costs[at] = moved(
-                    costs[at],
-                    self.downs[MOST_RESOURCES * at + (r - 1)],
-                    old,
-                    price,
-                );
+                let share = self.downs[MOST_RESOURCES * at + (r - 1)];
+                costs[at] = moved(costs[at], share, old, new.price);
             }
         }
     }
 
     // The same of all segments.
-    pub(crate) fn reprice(self, prices: &[u64], costs: &mut [u64], r: usize, price: u64)
-        requires trial { Trial self.size self.benefits.now self.downs.now prices.now r price }
-        requires costs { Costs self.size self.benefits.now self.downs.now prices.now prices.now 0 costs.old }
-        ensures { let new = set prices.now (r - 1) price in Costs self.entry.size self.entry.benefits.now self.entry.downs.now new new 0 costs.new }
+    pub(crate) fn reprice(self, prices: &[u64], costs: &mut [u64], new: NewPrice)
+        requires prices { Prices prices.now × (new.resource ≤ self.size.resources) }
+        requires costs { CostsAt self prices.now prices.now 0 costs.old }
+        ensures { CostsAt self.entry (repriced prices.now new) (repriced prices.now new) 0 costs.new }
     {
         for i in 0..self.size.segments {
-            self.reprice_segment(prices, costs, r, price, i + 1);
+            self.reprice_segment(prices, costs, new, i + 1);
         }
     }
 }

@@ -1,14 +1,14 @@
 // The ceiling: the search for prices, with each candidate's cost kept from trial to trial.
 #![tactic(auto)]
 
-ghost use Rattle.std.specs.Prelude.{◌≡◌, ◌+◌, ◌*◌, ◌-◌, ◌≤◌, ◌<◌, ◌^◌, min, set};
+ghost use Rattle.std.specs.Prelude.{◌≡◌, ◌+◌, ◌*◌, ◌-◌, ◌≤◌, ◌<◌, ◌^◌, min};
 ghost use Rattle.base.specs.Over.{sum};
 ghost use Rattle.rules.specs.Table.{Table};
 ghost use Rattle.rules.specs.Ceiling.{price_at, margin, ceiling_at, priced, priced_all, ceiling};
 ghost use Rattle.ceiling.specs.Prices.{Priced, Sized, Prices, Headroom, Standing};
-ghost use Rattle.ceiling.specs.Views.{priced_in};
+ghost use Rattle.ceiling.specs.Views.{priced_in, repriced};
 
-use candidates::{Candidates, moved};
+use candidates::{Candidates, NewPrice, moved};
 use rules::places::MOST_RESOURCES;
 use tables::{COLUMNS, ENTRIES, Size};
 
@@ -33,13 +33,14 @@ impl Search<'_> {
         10_000 * self.prices[..self.table.size.resources].iter().sum::<u64>()
     }
 
-    // The margin of segment i with the price of resource r at `price`. A strategy whose benefit is no more than what the best so
-    // far leaves is passed over, and so is one that is no candidate.
-    fn margin(&self, r: usize, price: u64, i: usize) -> u64
-        requires new_price { (1 ≤ r) × (r ≤ self.now.table.size.resources) × (price < 2 ^ 41) }
+    // The margin of segment i at the new price. A strategy whose benefit is no more than what the best so far leaves is passed
+    // over, and so is one that is no candidate.
+    fn margin(&self, new: NewPrice, i: usize) -> u64
+        requires le_r { new.resource ≤ self.now.table.size.resources }
         requires le_i { (1 ≤ i) × (i ≤ self.now.table.size.segments) }
-        ensures { result ≡ margin (priced_in self.now.table) (set self.now.prices (r - 1) price) i }
+        ensures { result ≡ margin (priced_in self.now.table) (repriced self.now.prices new) i }
     {
+        let r = new.resource;
         let old = self.prices[r - 1];
         let mut best: u64 = 0;
         for j in 0..self.table.size.strategies {
@@ -47,37 +48,38 @@ impl Search<'_> {
             let benefit = self.table.benefits[at];
             if best < benefit {
                 let share = self.table.downs[MOST_RESOURCES * at + (r - 1)];
-                let cost = moved(self.costs[at], share, old, price);
+                let cost = moved(self.costs[at], share, old, new.price);
                 best = best.max(benefit.saturating_sub(cost));
             }
         }
         best
     }
 
-    // The ceiling with the price of resource r at `price`, or the present one where that is lower: the sum ends where it reaches it.
-    fn trial(&self, r: usize, price: u64) -> u64
-        requires { (1 ≤ r) × (r ≤ self.now.table.size.resources) × (price < 2 ^ 41) }
-        ensures { result ≡ min (ceiling_at (priced_in self.now.table) (set self.now.prices (r - 1) price)) self.now.ceiling }
+    // The ceiling at the new price, or the present one where that is lower: the sum ends where it reaches it.
+    fn trial(&self, new: NewPrice) -> u64
+        requires { new.resource ≤ self.now.table.size.resources }
+        ensures { result ≡ min (ceiling_at (priced_in self.now.table) (repriced self.now.prices new)) self.now.ceiling }
     {
-        let mut total = moved(self.whole(), 10_000, self.prices[r - 1], price);
+        let old = self.prices[new.resource - 1];
+        let mut total = moved(self.whole(), 10_000, old, new.price);
         for i in 0..self.table.size.segments {
             if self.ceiling <= total {
                 return self.ceiling;
             }
-            total += self.margin(r, price, i + 1);
+            total += self.margin(new, i + 1);
         }
         total.min(self.ceiling)
     }
 
-    // The price of resource r becomes `price`, and the ceiling what it is then.
-    fn reprice(&mut self, r: usize, price: u64, ceiling: u64)
-        requires new_price { (1 ≤ r) × (r ≤ self.old.table.size.resources) × (price < 2 ^ 41) }
-        requires new_ceiling { ceiling ≡ ceiling_at (priced_in self.old.table) (set self.old.prices (r - 1) price) }
+    // The new price is taken, and with it the ceiling.
+    fn reprice(&mut self, new: NewPrice, ceiling: u64)
+        requires le_r { new.resource ≤ self.old.table.size.resources }
+        requires new_ceiling { ceiling ≡ ceiling_at (priced_in self.old.table) (repriced self.old.prices new) }
         ensures same_table { self.new.table ≡ self.old.table }
-        ensures prices_after { self.new.prices ≡ set self.old.prices (r - 1) price }
+        ensures prices_after { self.new.prices ≡ repriced self.old.prices new }
     {
-        self.table.reprice(&self.prices, &mut self.costs, r, price);
-        self.prices[r - 1] = price;
+        self.table.reprice(&self.prices, &mut self.costs, new);
+        self.prices[new.resource - 1] = new.price;
         self.ceiling = ceiling;
     }
 
@@ -89,19 +91,25 @@ impl Search<'_> {
         ensures prices_after { self.new.prices ≡ priced (priced_in self.old.table) step self.old.prices r }
     {
         let old = self.prices[r - 1];
-        let raised = old + step;
-        let lowered = old.saturating_sub(step);
-        let up = self.trial(r, raised);
+        let raised = NewPrice {
+            resource: r,
+            price: old + step,
+        };
+        let up = self.trial(raised);
         if up < self.ceiling {
-            self.reprice(r, raised, up);
+            self.reprice(raised, up);
             return;
         }
         if old < step {
             return;
         }
-        let down = self.trial(r, lowered);
+        let lowered = NewPrice {
+            resource: r,
+            price: old - step,
+        };
+        let down = self.trial(lowered);
         if down < self.ceiling {
-            self.reprice(r, lowered, down);
+            self.reprice(lowered, down);
         }
     }
 

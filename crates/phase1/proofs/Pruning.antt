@@ -1,17 +1,15 @@
 -- Pruning over arrays: segment by segment, and what a programme keeps in it.
-use Prim.Native.Nat.{ℕ, zero, suc, ◌+◌, ◌-◌, ◌≤◌, ◌<◌}
-use mathlib.Core.Path.{◌≡◌, refl, ap, sym, ◌∙◌}
-use mathlib.Core.Bool.{Bool, true, false, ◌||◌, or-true, true≢false}
+use Prim.Native.Nat.{ℕ, zero, suc, ◌+◌, ◌-◌, ◌≤◌}
+use mathlib.Core.Path.{◌≡◌, refl, sym, ◌∙◌}
+use mathlib.Core.Bool.{Bool, true, false}
 use mathlib.Core.List.{List, []}
 use native.Mathlib.Numerals.{add-one}
 use native.Mathlib.Omega.{arith}
-use borrow.Author.Tests.{eq-eqb, ne_eqb, eqb-true}
-use lib.Dec.{eqb}
+use borrow.Author.Tests.{eq-eqb}
 use lib.ListN.{get_or, set}
 use lib.Seq.{set-get_or}
-use Rattle.base.specs.Choice.{pick}
 use Rattle.rules.specs.Table.{Table}
-use Rattle.rules.specs.Phases.{strategy_at, give, led, heeds, pruned, bests, start}
+use Rattle.rules.specs.Phases.{strategy_at, led, pruned, bests, start}
 use Rattle.laws.proofs.Gives.{Gives, gives_keeps, allowed_number}
 use Rattle.laws.proofs.Leaders.{pruned_gives}
 use Rattle.tables.specs.declared.Size.{Size}

@@ -20,7 +20,7 @@ use Rattle.rules.specs.Table.{Table}
 use Rattle.rules.specs.Phases.{strategy_at, give, chosen_benefit, chosen_usage, used, holds, within, chosen_share, surplus, pull_by, pull, pulls, ratio, lesser_ratio, weakest}
 use Rattle.laws.proofs.Give.{given, sum_give}
 use Rattle.tables.specs.declared.Size.{Size}
-use Rattle.tables.specs.Arrays.{columns, entry, use_entry, limit_at, tables, Uses, Bounded, Chosen, Cell, Running}
+use Rattle.tables.specs.Arrays.{columns, use_entry, limit_at, tables, Uses, Bounded, Chosen, Running}
 use Rattle.tables.proofs.Moves.{all_is}
 use Rattle.tables.proofs.Arrays.{limit_at_lem, usage_at_lem, cell_of}
 use Rattle.phase1.specs.declared.weighed.Weak.{Weak}
@@ -42,9 +42,6 @@ module _ (row over : List ℕ) (r : ℕ) {so_far : ℕ} (is : so_far ≡ sum r (
 -- ---- bounds
 
 module _ {z : Size} {s c : List ℕ} (measured : Measured z s c) where
-  pub chosen_cell : (i : ℕ) → 1 ≤ i → i ≤ z.segments → Cell i (strategy_at c i)
-  chosen_cell i low high = cell_of measured.bounded i (strategy_at c i) low high (measured.chosen.numbers i)
-
   pub shares_le : (r : ℕ) → 1 ≤ r → r ≤ z.resources → (n : ℕ) → n ≤ z.segments → sum n (held_share s c r) ≤ 640_000
   shares_le r lr hr n h =
       omega (arith, sum_bound n 10_000 (held_share s c r) (λ i li hi. measured.small i r li (omega arith) lr hr), measured.bounded.segments)

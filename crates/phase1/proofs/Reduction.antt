@@ -1,13 +1,11 @@
 -- The steps of phase 1 over arrays: from programme c₀ they stand at c after m of them.
 use Prim.Native.Nat.{ℕ, zero, suc, ◌+◌, ◌*◌, ◌≤◌, ◌<◌}
 use mathlib.Core.Path.{◌≡◌, refl, sym, ◌∙◌}
-use mathlib.Core.Bool.{Bool, true, false}
+use mathlib.Core.Bool.{true, false}
 use mathlib.Core.List.{List}
 use Rattle.std.specs.Prelude.{None, Some}
-use native.Mathlib.Nat.{mul-le-mul}
 use native.Mathlib.Omega.{arith}
 use Rattle.base.proofs.Runs.{Reached, reached_start, reached_next, reached_end, reached_spent}
-use Rattle.rules.specs.District.{most_segments, most_strategies}
 use Rattle.rules.specs.Table.{Table}
 use Rattle.rules.specs.Phases.{strategy_at, chosen_share, within, next_candidate, weakest, give, pruned, step_down, step, phase1}
 use Rattle.laws.proofs.Gives.{Gives, give_gives, gives_self, gives_then, gives_candidates}
@@ -17,7 +15,7 @@ use Rattle.laws.proofs.Shares.{chosen_share_le}
 use Rattle.tables.specs.declared.Size.{Size}
 use Rattle.tables.specs.declared.view.TableView.{TableView}
 use Rattle.tables.specs.declared.draft.Draft.{Draft}
-use Rattle.tables.specs.Arrays.{tables, leader_in, Bounded}
+use Rattle.tables.specs.Arrays.{tables, leader_in}
 use Rattle.tables.specs.Views.{table_in, leaders_in, Drafted}
 use Rattle.phase1.specs.Reduce.{Measured, Held, LedWithin, segment_in}
 use Rattle.phase1.specs.Views.{HeldIn}
@@ -27,9 +25,6 @@ stepped_down : (t : Table) (leader : ℕ → ℕ) (c : List ℕ) (i : ℕ) → 1
 unfolding step_down
 stepped_down t leader c zero l = absurd (omega arith)
 stepped_down t leader c (suc i) l = refl
-
-pub bound_le : {z : Size} → Bounded z → z.segments * z.strategies ≤ 704
-bound_le {z} bounded = mul-le-mul {n₁ = z.segments} {m₁ = z.strategies} {n₂ = most_segments} {m₂ = most_strategies} bounded.segments bounded.strategies
 
 -- each candidate fits alone, so no share of a programme of candidates is above the whole limit: neither of the one held, nor of one that gives
 -- segments nothing or other candidates

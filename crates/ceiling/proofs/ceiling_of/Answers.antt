@@ -1,5 +1,5 @@
 -- `ceiling::ceiling_of` meets its contract.
-use mathlib.Core.Path.{◌≡◌, refl, ap, sym, ◌∙◌}
+use mathlib.Core.Path.{◌≡◌, refl, ap, ◌∙◌}
 use native.Mathlib.Omega.{arith}
 use Rattle.rules.specs.Ceiling.{ceiling_at, ceiling}
 use Rattle.ceiling.proofs.Same.{same_ceiling}

@@ -1,7 +1,6 @@
 -- `phase1::prune` meets its contract: the segments passed are pruned.
 use mathlib.Core.Path.{refl, sym, ◌∙◌}
 use mathlib.Core.Bool.{true≢false}
-use native.Mathlib.Omega.{arith}
 use lib.ListN.{length-set}
 use Rattle.phase1.proofs.Pruning.{pruned_none, pruned_nothing, pruned_led, pruned_unled}
 use Rattle.phase1.proofs.prune.Goals as goal

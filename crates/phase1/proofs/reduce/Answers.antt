@@ -3,7 +3,7 @@ use Prim.Native.Nat.{◌*◌}
 use mathlib.Core.Path.{◌≡◌, sym, ◌∙◌}
 use native.Mathlib.Omega.{arith}
 use Rattle.phase1.proofs.Pulls.{measured_summable}
-use Rattle.phase1.proofs.Reduction.{held_measured, down_start, down_within, down_nobody, down_spent, down_next, found, found_nobody}
+use Rattle.phase1.proofs.Reduction.{held_measured, down_within, down_nobody, down_spent, down_next, found, found_nobody}
 use Rattle.phase1.proofs.reduce.Goals as goal
 
 pub sums_of-share_sums-requires : goal.sums_of-share_sums-requires

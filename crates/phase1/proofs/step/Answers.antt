@@ -1,7 +1,6 @@
 -- `phase1::step` meets its contract.
 use mathlib.Core.List.{[]}
 use native.Mathlib.Omega.{arith}
-use Rattle.tables.proofs.Arrays.{cell_of}
 use Rattle.phase1.proofs.Candidates.{next_le}
 use Rattle.phase1.proofs.Pulls.{uses_summable, uses_running, measured_summable, share_moves, shares_moved}
 use Rattle.phase1.proofs.Reduction.{held_measured, next_measured, pruned_measured, steps_down}

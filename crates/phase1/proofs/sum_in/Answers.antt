@@ -1,6 +1,5 @@
 -- `phase1::sum_in` meets its contract: the sum so far is that of the segments passed.
 use Prim.Native.Nat.{◌+◌}
-use mathlib.Core.Path.{◌∙◌}
 use native.Mathlib.Omega.{arith}
 use Rattle.base.proofs.Sums.{sum_none, sum_next, sum_end}
 use Rattle.phase1.specs.Reduce.{held_share}

@@ -18,7 +18,7 @@ pub moved-cost-requires : goal.moved-cost-requires
 moved-cost-requires c =
     let s = c.args.self.now in
     let j = c.loop-j.j in
-    let trial = trial_of s.table.sized s.fit c.requires.new_price in
+    let trial = trial_of s.table c.args.new s.fit c.requires.le_r in
     let inside : In s.table.size c.args.i (j + 1) = record { segment_from = omega arith; segment_to = omega arith; strategy_from = omega arith; strategy_to = omega arith } in
     let some : 0 < get_or s.table.benefits.now (entry c.args.i (j + 1)) 0 = omega arith in
     move_fits trial inside some (costs_held s.standing.costs inside some (omega arith))
@@ -27,7 +27,7 @@ pub loop-j-preserved : goal.loop-j-preserved
 loop-j-preserved c =
     let s = c.args.self.now in
     let j = c.loop-j.j in
-    let trial = trial_of s.table.sized s.fit c.requires.new_price in
+    let trial = trial_of s.table c.args.new s.fit c.requires.le_r in
     let inside : In s.table.size c.args.i (j + 1) = record { segment_from = omega arith; segment_to = omega arith; strategy_from = omega arith; strategy_to = omega arith } in
     elim c.if-best-benefit.branch [
       | then-best-benefit w ↦

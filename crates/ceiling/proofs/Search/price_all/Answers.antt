@@ -1,6 +1,5 @@
 -- `ceiling::Search::price_all` meets its contract.
 use mathlib.Core.Path.{refl, ◌∙◌}
-use native.Mathlib.Omega.{arith}
 use Rattle.ceiling.proofs.Rounds.{all_none, all_next, room_at, raisable_room}
 use Rattle.ceiling.proofs.Search.price_all.Goals as goal
 

@@ -1,9 +1,6 @@
 -- `ceiling::Search::price_one` meets its contract.
-use Prim.Native.Nat.{◌-◌}
-use mathlib.Core.Path.{◌≡◌, ap, sym, ◌∙◌}
+use mathlib.Core.Path.{◌∙◌}
 use native.Mathlib.Omega.{arith}
-use lib.ListN.{set}
-use Rattle.rules.specs.Ceiling.{ceiling_at, lowered}
 use Rattle.ceiling.specs.Views.{priced_in}
 use Rattle.ceiling.proofs.Rounds.{priced_up, priced_low, priced_down, priced_same, min_lower, min_higher}
 use Rattle.ceiling.proofs.Search.price_one.Goals as goal
@@ -24,18 +21,14 @@ pub returns-then-down-self-clause-prices_after : goal.returns-then-down-self-cla
 returns-then-down-self-clause-prices_after c =
     let s = c.args.self.now in
     let t = priced_in s.table in
-    let down : set s.prices (c.args.r - 1) c.saturating_sub-lowered.result ≡ lowered s.prices c.args.r c.args.step = ap (set s.prices (c.args.r - 1)) c.saturating_sub-lowered.ensures in
-    let at-down = ap (ceiling_at t) down in
     let high = min_higher c.trial-up.ensures c.if-up-self.false in
     let low = min_lower c.trial-down.ensures c.if-down-self.true in
-    c.reprice-then-down-self.ensures.prices_after ∙ down ∙ priced_down t c.args.step s.prices c.args.r (omega (arith, s.standing.value)) c.if-old-step.false (omega (arith, low.1, s.standing.value))
+    c.reprice-then-down-self.ensures.prices_after ∙ priced_down t c.args.step s.prices c.args.r (omega (arith, s.standing.value)) c.if-old-step.false (omega (arith, low.1, s.standing.value))
 
 pub returns-else-down-self-clause-prices_after : goal.returns-else-down-self-clause-prices_after
 returns-else-down-self-clause-prices_after c =
     let s = c.args.self.now in
     let t = priced_in s.table in
-    let down : set s.prices (c.args.r - 1) c.saturating_sub-lowered.result ≡ lowered s.prices c.args.r c.args.step = ap (set s.prices (c.args.r - 1)) c.saturating_sub-lowered.ensures in
-    let at-down = ap (ceiling_at t) down in
     let high = min_higher c.trial-up.ensures c.if-up-self.false in
     let higher = min_higher c.trial-down.ensures c.if-down-self.false in
     priced_same t c.args.step s.prices c.args.r (omega (arith, s.standing.value)) c.if-old-step.false (omega (arith, s.standing.value))

@@ -1,5 +1,5 @@
 -- `ceiling::Search::whole` meets its contract.
-use Prim.Native.Nat.{◌^◌, ◌<◌, ◌≤◌, ◌*◌}
+use Prim.Native.Nat.{◌^◌, ◌<◌, ◌≤◌}
 use mathlib.Core.Path.{◌≡◌}
 use native.Mathlib.Omega.{arith}
 use borrow.Author.Rules.{rules}

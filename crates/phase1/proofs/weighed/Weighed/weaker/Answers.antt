@@ -1,5 +1,4 @@
 -- `phase1::Weighed::weaker` meets its contract: it goes by cases as the rules do.
-use native.Mathlib.Omega.{arith}
 use Rattle.rules.specs.Phases.{chosen_benefit}
 use Rattle.phase1.proofs.Pulls.{weak_idle, weak_first, weak_taken, weak_worse}
 use Rattle.phase1.proofs.weighed.Weighed.weaker.Goals as goal
