@@ -1,10 +1,11 @@
 -- `planner::plan` meets its contract.
 use mathlib.Core.Path.{sym, ◌∙◌}
+use Rattle.grammar.proofs.InRanges.{in_ranges}
 use Rattle.planner.proofs.Plans.{planned, unplanned}
 use Rattle.planner.proofs.plan.Goals as goal
 
-pub programme_of-requires : goal.programme_of-requires
-programme_of-requires c = sym c.in_range.ensures ∙ c.if-in_range.true
+pub invariant_of-programme_of : goal.invariant_of-programme_of
+invariant_of-programme_of c = record { in_range = in_ranges _ (sym c.in_range.ensures ∙ c.if-in_range.true) }
 
 pub returns-then-in_range : goal.returns-then-in_range
 returns-then-in_range c =
