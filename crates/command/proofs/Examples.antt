@@ -9,7 +9,7 @@ use Rattle.rules.specs.declared.Sent.TheVariants.{Index, Marker, Lost}
 use Rattle.command.specs.declared.Command.{Command}
 use Rattle.command.specs.declared.Command.TheVariants.{Nothing, Unknown, Load, Export, Alter, Show, Points, Page, Why, Send, Roughness, Office, Queue, Step}
 use Rattle.base.specs.Same.{same}
-use Rattle.command.specs.Reading.{is_space, is_of, every, number_in, first_number, after_number, with_number, arguments, placed, path_of, is_path, row, rows, taken, meant, called, edit_in, queued_as, queued_in, is_comment, command_in}
+use Rattle.command.specs.Reading.{is_space, number_in, first_number, after_number, with_number, arguments, placed, path_of, is_path, row, rows, taken, meant, called, edit_in, queued_as, queued_in, is_comment, command_in}
 
 pub lines : List (List ℕ)
 unfolding text
@@ -52,7 +52,7 @@ readings =
     ∷ Load ∷ Unknown ∷ Unknown ∷ Unknown ∷ []
 
 pub lines_read : map command_in lines ≡ readings
-unfolding lines readings text up_to on_from value_from held same is_space is_of every number_in first_number after_number with_number arguments placed path_of is_path row rows taken meant called edit_in queued_as queued_in is_comment command_in
+unfolding lines readings text up_to on_from value_from held same is_space number_in first_number after_number with_number arguments placed path_of is_path row rows taken meant called edit_in queued_as queued_in is_comment command_in
 lines_read = refl
 
 -- the path is all that follows the blank

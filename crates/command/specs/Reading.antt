@@ -1,5 +1,6 @@
 -- A line of the panel as a command, for any bytes at all.
-use Rattle.std.specs.Prelude.{ℕ, zero, suc, ◌^◌, Bool, true, not, ◌&&◌, ◌||◌, List, [], ◌∷◌, ◌++◌, ltb, eqb, length, get_or, take, drop, replicate}
+use Rattle.std.specs.Prelude.{ℕ, zero, suc, ◌^◌, Bool, not, ◌&&◌, ◌||◌, List, [], ◌∷◌, ltb, eqb, length, get_or, drop, map}
+use Rattle.std.specs.List.{list_all}
 use Prim.Native.String.{String}
 use Rattle.std.specs.Prelude.{Option, None, Some}
 use Rattle.base.specs.Choice.{pick, only}
@@ -10,12 +11,8 @@ use Rattle.rules.specs.declared.Edit.{Edit}
 use Rattle.rules.specs.declared.Edit.TheVariants.{Bar, Unbar, SetLimit, SetRating, SetLeader}
 use Rattle.rules.specs.declared.Sent.{Sent}
 use Rattle.rules.specs.declared.Sent.TheVariants.{Index, Marker, Lost}
-use Rattle.command.specs.declared.Arguments.{Arguments}
 use Rattle.command.specs.declared.Command.{Command}
-use Rattle.command.specs.declared.Kind.{Kind}
-use Rattle.command.specs.declared.Kind.TheVariants.{Space, Named}
 use Rattle.command.specs.declared.Name.{Name}
-use Rattle.command.specs.declared.Row.{Row}
 use Rattle.command.specs.declared.Takes.{Takes}
 use Rattle.command.specs.declared.Takes.TheVariants.{Numbers, Path, Queued}
 
@@ -24,15 +21,6 @@ use Rattle.command.specs.declared.Takes.TheVariants.{Numbers, Path, Queued}
 -- a blank, a tab or a carriage return
 unfoldable pub is_space : ℕ → Bool
 is_space b = eqb b 32 || (eqb b 9 || eqb b 13)
-
--- one of these, or a byte that a path may have
-unfoldable pub is_of : Kind → ℕ → Bool
-is_of Space b = is_space b
-is_of Named b = not (eqb b 0)
-
-unfoldable pub every : Kind → List ℕ → Bool
-every kind [] = true
-every kind (b ∷ bs) = is_of kind b && every kind bs
 
 -- the bytes before the next blank, and those from it on
 abbrev pub word_of : List ℕ → List ℕ
@@ -82,36 +70,65 @@ path_of line = drop 1 (rest_of line)
 
 -- a path is 1 to 255 bytes without a 0
 unfoldable pub is_path : List ℕ → Bool
-is_path path = between 1 255 (length path) && every Named path
+is_path path = between 1 255 (length path) && list_all (λ b. not (eqb b 0)) path
 
 -- ---- commands
 
--- a row of the table: a word, with blanks behind it up to 9 bytes; what it names; and what it takes, which stands behind it
+-- a row of the table: a word, what it names, and what it takes, which stands behind it
+pub record Row : Type 0 where
+  pub word : List ℕ
+  pub name : Name
+  pub takes : Takes
+
 unfoldable pub row : String → Name → Takes → Row
-row word name takes = record { 0 = take 9 (text word ++ replicate 9 32); 1 = name; 2 = takes }
+row word name takes = record { word = text word; name = name; takes = takes }
+
+-- of each name
+abbrev pub row_of : Name → Row
+row_of Name.Load = row "load" Name.Load Path
+row_of Name.Export = row "export" Name.Export Path
+row_of Name.Bar = row "bar" Name.Bar (Numbers 2)
+row_of Name.Unbar = row "unbar" Name.Unbar (Numbers 2)
+row_of Name.Limit = row "limit" Name.Limit (Numbers 2)
+row_of Name.Rating = row "rating" Name.Rating (Numbers 3)
+row_of Name.Show = row "show" Name.Show (Numbers 0)
+row_of Name.Points = row "points" Name.Points (Numbers 4)
+row_of Name.Page = row "page" Name.Page (Numbers 0)
+row_of Name.Why = row "why" Name.Why (Numbers 2)
+row_of Name.Index = row "index" Name.Index (Numbers 1)
+row_of Name.Marker = row "marker" Name.Marker (Numbers 1)
+row_of Name.Lost = row "lost" Name.Lost (Numbers 0)
+row_of Name.Roughness = row "roughness" Name.Roughness (Numbers 0)
+row_of Name.Leader = row "leader" Name.Leader (Numbers 2)
+row_of Name.Office = row "office" Name.Office (Numbers 1)
+row_of Name.Queue = row "queue" Name.Queue Queued
+row_of Name.Step = row "step" Name.Step (Numbers 0)
+
+abbrev pub names : List Name
+names =
+    Name.Load
+    ∷ Name.Export
+    ∷ Name.Bar
+    ∷ Name.Unbar
+    ∷ Name.Limit
+    ∷ Name.Rating
+    ∷ Name.Show
+    ∷ Name.Points
+    ∷ Name.Page
+    ∷ Name.Why
+    ∷ Name.Index
+    ∷ Name.Marker
+    ∷ Name.Lost
+    ∷ Name.Roughness
+    ∷ Name.Leader
+    ∷ Name.Office
+    ∷ Name.Queue
+    ∷ Name.Step
+    ∷ []
 
 -- every word that there is
 unfoldable pub rows : List Row
-rows =
-    row "load" Name.Load Path
-    ∷ row "export" Name.Export Path
-    ∷ row "bar" Name.Bar (Numbers 2)
-    ∷ row "unbar" Name.Unbar (Numbers 2)
-    ∷ row "limit" Name.Limit (Numbers 2)
-    ∷ row "rating" Name.Rating (Numbers 3)
-    ∷ row "show" Name.Show (Numbers 0)
-    ∷ row "points" Name.Points (Numbers 4)
-    ∷ row "page" Name.Page (Numbers 0)
-    ∷ row "why" Name.Why (Numbers 2)
-    ∷ row "index" Name.Index (Numbers 1)
-    ∷ row "marker" Name.Marker (Numbers 1)
-    ∷ row "lost" Name.Lost (Numbers 0)
-    ∷ row "roughness" Name.Roughness (Numbers 0)
-    ∷ row "leader" Name.Leader (Numbers 2)
-    ∷ row "office" Name.Office (Numbers 1)
-    ∷ row "queue" Name.Queue Queued
-    ∷ row "step" Name.Step (Numbers 0)
-    ∷ []
+rows = map row_of names
 
 -- a record of the meter with these bits; a float has 32, and a number that has more is no command
 abbrev pub send_of : ℕ → Sent → Command
@@ -141,7 +158,7 @@ made Name.Step v = Command.Step
 -- the command of the first of some rows, where there is one
 unfoldable pub first_made : List Row → (ℕ → ℕ) → Command
 first_made [] v = Command.Unknown
-first_made (r ∷ rs) v = made r.1 v
+first_made (r ∷ rs) v = made r.name v
 
 -- the command of a row, counted from 0; past the last there is none
 unfoldable pub numbered : ℕ → (ℕ → ℕ) → Command
@@ -163,7 +180,7 @@ meant name (Some v) = made name v
 unfoldable pub called : List Row → List ℕ → Command
 called [] line = Command.Unknown
 called (r ∷ rs) line =
-    pick (same (word_of line) (word_of r.0)) (meant r.1 (taken r.2 line)) (called rs line)
+    pick (same (word_of line) r.word) (meant r.name (taken r.takes line)) (called rs line)
 
 -- the edit that a command is, where it is one
 unfoldable pub edit_in : Command → Option Edit
@@ -203,14 +220,9 @@ unfoldable pub command_in : List ℕ → Command
 command_in line =
     pick (is_comment line) Command.Nothing
     (pick (ltb longest_line (length line)) Command.Unknown
-    (pick (every Space line) Command.Nothing
+    (pick (list_all is_space line) Command.Nothing
     (pick (same (word_of line) (text "queue")) (queued_in line)
     (called rows line))))
-
--- ---- what the answers of the code stand for
-
-unfoldable pub numbers_of : Arguments → Option (ℕ → ℕ)
-numbers_of a = only a.fit (at a.numbers)
 
 -- how many numbers a word takes
 abbrev pub count_of : Takes → ℕ

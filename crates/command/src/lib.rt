@@ -1,20 +1,17 @@
 // A line of the panel as a command, for any bytes at all and any number of them.
 #![tactic(auto)]
 
-ghost use Rattle.std.specs.Prelude.{◌≡◌, ◌∷◌, ◌+◌, ◌≤◌, ◌<◌, length, drop};
-ghost use Rattle.std.specs.Prelude.{Some};
-ghost use Rattle.base.specs.Same.{same as Same·same};
-ghost use Rattle.command.specs.Reading.{every as Reading·every, is_space, is_of, word_of, number_in, first_number, after_number, arguments, at, placed, path_of, is_path, rows, send_of, made, numbered as Reading·numbered, taken, meant, called as Reading·called, is_comment, edit_in, queued_as, queued_in, command_in, numbers_of, count_of};
-ghost use Rattle.text.specs.Numbers.{value_of};
+ghost use Rattle.std.specs.Prelude.{◌≡◌, ◌≤◌, Some, MatchOption};
+ghost use Rattle.base.specs.Same.{same};
+ghost use Rattle.command.specs.Reading.{is_space, number_in, first_number, after_number, arguments, at, placed, path_of, is_path, made, numbered as Reading·numbered, taken, meant, rows, row_of, called as Reading·called, is_comment, queued_in, command_in, count_of};
 
 use rules::{Edit, Sent};
-use text::Number;
 
 // A longer line is no command, unless it is to be passed over.
 pub const LONGEST_LINE: usize = 512;
 
 // It ends a word.
-const BLANK: u8 = 32;
+const BLANK: u8 = b' ';
 
 #[derive(Clone, Copy)]
 pub enum Command {
@@ -68,230 +65,142 @@ pub enum Takes {
     Queued,
 }
 
-// A word, with blanks behind it up to 9 bytes; what it names; and what it takes.
-#[derive(Clone, Copy)]
-pub struct Row(pub [u8; 9], pub Name, pub Takes);
+impl Name {
+    const ALL: [Name; 18] = [
+        Name::Load,
+        Name::Export,
+        Name::Bar,
+        Name::Unbar,
+        Name::Limit,
+        Name::Rating,
+        Name::Show,
+        Name::Points,
+        Name::Page,
+        Name::Why,
+        Name::Index,
+        Name::Marker,
+        Name::Lost,
+        Name::Roughness,
+        Name::Leader,
+        Name::Office,
+        Name::Queue,
+        Name::Step,
+    ];
 
-const WORDS: usize = 18;
-
-const ROWS: [Row; WORDS] = [
-    Row(*b"load     ", Name::Load, Takes::Path),
-    Row(*b"export   ", Name::Export, Takes::Path),
-    Row(*b"bar      ", Name::Bar, Takes::Numbers(2)),
-    Row(*b"unbar    ", Name::Unbar, Takes::Numbers(2)),
-    Row(*b"limit    ", Name::Limit, Takes::Numbers(2)),
-    Row(*b"rating   ", Name::Rating, Takes::Numbers(3)),
-    Row(*b"show     ", Name::Show, Takes::Numbers(0)),
-    Row(*b"points   ", Name::Points, Takes::Numbers(4)),
-    Row(*b"page     ", Name::Page, Takes::Numbers(0)),
-    Row(*b"why      ", Name::Why, Takes::Numbers(2)),
-    Row(*b"index    ", Name::Index, Takes::Numbers(1)),
-    Row(*b"marker   ", Name::Marker, Takes::Numbers(1)),
-    Row(*b"lost     ", Name::Lost, Takes::Numbers(0)),
-    Row(*b"roughness", Name::Roughness, Takes::Numbers(0)),
-    Row(*b"leader   ", Name::Leader, Takes::Numbers(2)),
-    Row(*b"office   ", Name::Office, Takes::Numbers(1)),
-    Row(*b"queue    ", Name::Queue, Takes::Queued),
-    Row(*b"step     ", Name::Step, Takes::Numbers(0)),
-];
-
-#[derive(Clone, Copy)]
-pub enum Kind {
-    Space,
-    Named,
-}
-
-// The numbers, where there are as many as the word takes; 0 behind them.
-#[derive(Clone, Copy)]
-pub struct Arguments {
-    pub fit: bool,
-    pub numbers: [usize; 4],
-}
-
-// ---- bytes
-
-fn same(a: &[u8], b: &[u8]) -> bool
-    ensures { result ≡ Same·same a.now b.now }
-{
-    if a.len() != b.len() {
-        return false;
-    }
-    let mut i = 0;
-    while i < a.len() {
-        if a[i] != b[i] {
-            return false;
+    // The word that says it.
+    #[tactic(auto, unfolding(crate::specs::Reading::row, base::specs::Text::text))]
+    fn word(self) -> &'static [u8]
+        ensures { result.now ≡ (row_of self).word }
+    {
+        match self {
+            Name::Load => b"load",
+            Name::Export => b"export",
+            Name::Bar => b"bar",
+            Name::Unbar => b"unbar",
+            Name::Limit => b"limit",
+            Name::Rating => b"rating",
+            Name::Show => b"show",
+            Name::Points => b"points",
+            Name::Page => b"page",
+            Name::Why => b"why",
+            Name::Index => b"index",
+            Name::Marker => b"marker",
+            Name::Lost => b"lost",
+            Name::Roughness => b"roughness",
+            Name::Leader => b"leader",
+            Name::Office => b"office",
+            Name::Queue => b"queue",
+            Name::Step => b"step",
         }
-        i += 1;
     }
-    true
-}
 
-fn is_space(byte: u8) -> bool
-    ensures { result ≡ is_space byte }
-{
-    if byte == 32 {
-        return true;
+    // Whether it is said by this word.
+    #[tactic(auto, using(crate::proofs::Rows::same_is))]
+    fn is_said(self, word: &[u8]) -> bool
+        ensures { result ≡ same word.now (row_of self).word }
+    {
+        word == self.word()
     }
-    if byte == 9 {
-        return true;
-    }
-    byte == 13
-}
 
-fn is_of(kind: Kind, byte: u8) -> bool
-    ensures { result ≡ is_of kind byte }
-{
-    match kind {
-        Kind::Space => is_space(byte),
-        Kind::Named => byte != 0,
-    }
-}
-
-fn every(kind: Kind, bytes: &[u8]) -> bool
-    ensures { result ≡ Reading·every kind bytes.now }
-{
-    let mut i = 0;
-    while i < bytes.len() {
-        if !is_of(kind, bytes[i]) {
-            return false;
+    // What stands behind the word.
+    #[tactic(auto, unfolding(crate::specs::Reading::row))]
+    fn takes(self) -> Takes
+        ensures { result ≡ (row_of self).takes }
+    {
+        match self {
+            Name::Load | Name::Export => Takes::Path,
+            Name::Show | Name::Page | Name::Lost | Name::Roughness | Name::Step => {
+                Takes::Numbers(0)
+            }
+            Name::Index | Name::Marker | Name::Office => Takes::Numbers(1),
+            Name::Bar | Name::Unbar | Name::Limit | Name::Why | Name::Leader => Takes::Numbers(2),
+            Name::Rating => Takes::Numbers(3),
+            Name::Points => Takes::Numbers(4),
+            Name::Queue => Takes::Queued,
         }
-        i += 1;
     }
-    true
 }
 
 // ---- numbers
 
-fn read_number(word: &[u8]) -> Number
-    ensures { value_of result ≡ number_in word.now }
+#[tactic(auto, using(std::proofs::lemmas::Bool::Decides::nat_tests), unfolding(crate::specs::Reading::number_in))]
+fn read_number(word: &[u8]) -> Option<usize>
+    ensures { result ≡ number_in word.now }
 {
-    if word.len() < 1 {
-        return Number::Not;
-    }
-    if 20 < word.len() {
-        return Number::Not;
+    if !(1..=20).contains(&word.len()) {
+        return None;
     }
     text::digits_after(0, word)
 }
 
-// The number after one blank.
-fn first_number(bytes: &[u8]) -> Number
-    ensures { value_of result ≡ first_number bytes.now }
+// The number after one blank, and the bytes behind it.
+#[tactic(auto, using(std::proofs::lemmas::Bool::Decides::nat_tests), unfolding(crate::specs::Reading::first_number, crate::specs::Reading::after_number))]
+fn first_number(bytes: &[u8]) -> Option<(usize, &[u8])>
+    ensures { MatchOption result (first_number bytes.now ≡ None) (λ r. (first_number bytes.now ≡ Some r.0) × (r.1.now ≡ after_number bytes.now)) }
 {
-    if bytes.len() < 1 {
-        return Number::Not;
-    }
-    if bytes[0] != 32 {
-        return Number::Not;
-    }
-    let rest = &bytes[1..];
-    let end = text::find(rest, BLANK);
-    read_number(&rest[..end])
+    let [BLANK, rest @ ..] = bytes else {
+        return None;
+    };
+    let number = read_number(text::up_to(rest, BLANK))?;
+    Some((number, text::on_from(rest, BLANK)))
 }
 
-// How many bytes it takes, with the blank.
-fn first_length(bytes: &[u8]) -> usize
-    ensures upper_bound { result ≤ length bytes.now }
-    ensures bytes_value { drop result bytes.now ≡ after_number bytes.now }
+// So many numbers and then the end; 0 behind them.
+fn read_arguments(bytes: &[u8], n: usize) -> Option<[usize; 4]>
+    requires { n ≤ 4 }
+    ensures { placed result ≡ placed (arguments n bytes.now) }
 {
-    if bytes.len() < 1 {
-        return 0;
+    let mut numbers = [0; 4];
+    let mut rest = bytes;
+    for number in &mut numbers[..n] {
+        (*number, rest) = first_number(rest)?;
     }
-    1 + text::find(&bytes[1..], BLANK)
-}
-
-// The numbers from byte `from` to the end, where there are `n`.
-fn read_arguments(line: &[u8], from: usize, n: usize) -> Arguments
-    requires { (from ≤ length line.now) × (n ≤ 4) }
-    ensures { numbers_of result ≡ placed (arguments n (drop from line.now)) }
-{
-    let mut numbers = [0usize; 4];
-    let mut at = from;
-    let mut i = 0;
-    while i < n {
-        let first = first_number(&line[at..]);
-        match first {
-            Number::Is(value) => {
-                numbers[i] = value;
-                at += first_length(&line[at..]);
-                i += 1;
-            }
-            Number::Not => {
-                return Arguments {
-                    fit: false,
-                    numbers,
-                };
-            }
-        }
-    }
-    Arguments {
-        fit: line.len() <= at,
-        numbers,
-    }
+    rest.is_empty().then_some(numbers)
 }
 
 // ---- paths
 
 // What follows the first word and its blank.
+#[tactic(auto, unfolding(crate::specs::Reading::path_of))]
 pub fn path(line: &[u8]) -> &[u8]
     ensures { result.now ≡ path_of line.now }
 {
-    let end = text::find(line, BLANK);
-    if line.len() <= end {
-        return &line[end..];
-    }
-    let start = end + 1;
-    &line[start..]
+    text::drop(text::on_from(line, BLANK), 1)
 }
 
+#[tactic(auto, using(std::proofs::lemmas::Bool::Decides::nat_tests), unfolding(crate::specs::Reading::is_path))]
 fn is_path(path: &[u8]) -> bool
     ensures { result ≡ is_path path.now }
 {
-    if path.len() < 1 {
-        return false;
-    }
-    if 255 < path.len() {
-        return false;
-    }
-    every(Kind::Named, path)
+    (1..=255).contains(&path.len()) && path.iter().all(|byte| *byte != 0)
 }
 
 // ---- commands
 
-// A row of the table, counted from 0.
-fn nth(n: usize) -> Row
-    requires { n < length rows }
-    ensures { drop n rows ≡ result ∷ drop (n + 1) rows }
-{
-    ROWS[n]
-}
-
-fn same_word(a: &[u8], b: &[u8]) -> bool
-    ensures { result ≡ Same·same (word_of a.now) (word_of b.now) }
-{
-    let m = text::find(a, BLANK);
-    let n = text::find(b, BLANK);
-    same(&a[..m], &b[..n])
-}
-
-// A record with these bits; a float has 32, and a number that has more is no command.
-fn send(bits: usize, sent: Sent) -> Command
-    ensures { result ≡ send_of bits sent }
-{
-    if bits < 4294967296 {
-        Command::Send(sent)
-    } else {
-        Command::Unknown
-    }
-}
-
 fn make(name: Name, numbers: [usize; 4]) -> Command
     ensures { result ≡ made name (at numbers) }
 {
-    let a = numbers[0];
-    let b = numbers[1];
-    let c = numbers[2];
-    let d = numbers[3];
+    let [a, b, c, d] = numbers;
     match name {
         Name::Load => Command::Load,
         Name::Export => Command::Export,
@@ -303,8 +212,15 @@ fn make(name: Name, numbers: [usize; 4]) -> Command
         Name::Points => Command::Points(a, b, c, d),
         Name::Page => Command::Page,
         Name::Why => Command::Why(a, b),
-        Name::Index => send(a, Sent::Index((a % 4294967296) as u32)),
-        Name::Marker => send(a, Sent::Marker((a % 4294967296) as u32)),
+        // The bits of a float are 32, and a number that has more is no command.
+        Name::Index => match u32::try_from(a) {
+            Ok(bits) => Command::Send(Sent::Index(bits)),
+            Err(_) => Command::Unknown,
+        },
+        Name::Marker => match u32::try_from(a) {
+            Ok(bits) => Command::Send(Sent::Marker(bits)),
+            Err(_) => Command::Unknown,
+        },
         Name::Lost => Command::Send(Sent::Lost),
         Name::Roughness => Command::Roughness,
         Name::Leader => Command::Alter(Edit::SetLeader(a, b)),
@@ -318,40 +234,33 @@ fn make(name: Name, numbers: [usize; 4]) -> Command
 pub fn numbered(row: usize, numbers: [usize; 4]) -> Command
     ensures { result ≡ Reading·numbered row (at numbers) }
 {
-    if WORDS <= row {
-        return Command::Unknown;
+    match Name::ALL.get(row) {
+        Some(name) => make(*name, numbers),
+        None => Command::Unknown,
     }
-    let name = nth(row).1;
-    make(name, numbers)
 }
 
 // The numbers behind the first word; a path has none, and an edit has them behind a word of its own.
-fn take(takes: Takes, line: &[u8]) -> Arguments
+#[tactic(auto, using(crate::proofs::Reading::no_numbers), unfolding(crate::specs::Reading::taken))]
+fn take(takes: Takes, line: &[u8]) -> Option<[usize; 4]>
     requires { count_of takes ≤ 4 }
-    ensures { numbers_of result ≡ taken takes line.now }
+    ensures { placed result ≡ taken takes line.now }
 {
     match takes {
-        Takes::Numbers(n) => read_arguments(line, text::find(line, BLANK), n),
-        Takes::Path => Arguments {
-            fit: is_path(path(line)),
-            numbers: [0; 4],
-        },
-        Takes::Queued => Arguments {
-            fit: false,
-            numbers: [0; 4],
-        },
+        Takes::Numbers(n) => read_arguments(text::on_from(line, BLANK), n),
+        Takes::Path => is_path(path(line)).then_some([0; 4]),
+        Takes::Queued => None,
     }
 }
 
 // A word without what it takes is no command.
-fn mean(name: Name, a: Arguments) -> Command
-    ensures { result ≡ meant name (numbers_of a) }
+#[tactic(auto, unfolding(crate::specs::Reading::meant, crate::specs::Reading::placed))]
+fn mean(name: Name, numbers: Option<[usize; 4]>) -> Command
+    ensures { result ≡ meant name (placed numbers) }
 {
-    let numbers = a.numbers;
-    if a.fit {
-        make(name, numbers)
-    } else {
-        Command::Unknown
+    match numbers {
+        Some(numbers) => make(name, numbers),
+        None => Command::Unknown,
     }
 }
 
@@ -359,50 +268,40 @@ fn mean(name: Name, a: Arguments) -> Command
 fn called(line: &[u8]) -> Command
     ensures { result ≡ Reading·called rows line.now }
 {
-    let mut i = 0;
-    while i < WORDS {
-        let row = nth(i);
-        let word = row.0;
-        if same_word(line, &word) {
-            let name = row.1;
-            let takes = row.2;
-            return mean(name, take(takes, line));
-        }
-        i += 1;
+    let word = text::up_to(line, BLANK);
+    match Name::ALL.iter().find(|name| name.is_said(word)) {
+        Some(name) => mean(*name, take(name.takes(), line)),
+        None => Command::Unknown,
     }
-    Command::Unknown
-}
-
-// The edit that a command is, for the queue of console n.
-fn queue_edit(n: usize, command: Command) -> Command
-    ensures { result ≡ queued_as (Some n) (edit_in command) }
-{
-    if let Command::Alter(e) = command {
-        return Command::Queue(n, e);
-    }
-    Command::Unknown
 }
 
 // Behind the word a console's number, and behind that an edit.
+#[tactic(auto, using(crate::proofs::Reading::queued_none, crate::proofs::Reading::queued_edit), unfolding(crate::specs::Reading::queued_in))]
 fn queue(line: &[u8]) -> Command
     ensures { result ≡ queued_in line.now }
 {
     let rest = path(line);
-    let end = text::find(rest, BLANK);
-    let number = read_number(&rest[..end]);
-    match number {
-        Number::Is(n) => queue_edit(n, called(path(rest))),
-        Number::Not => Command::Unknown,
+    let Some(console) = read_number(text::up_to(rest, BLANK)) else {
+        return Command::Unknown;
+    };
+    match called(path(rest)) {
+        Command::Alter(edit) => Command::Queue(console, edit),
+        _ => Command::Unknown,
     }
 }
 
+#[tactic(auto, using(std::proofs::lemmas::Bool::Decides::nat_tests), unfolding(crate::specs::Reading::is_space))]
+fn is_space(byte: u8) -> bool
+    ensures { result ≡ is_space byte }
+{
+    matches!(byte, b' ' | b'\t' | b'\r')
+}
+
+#[tactic(auto, using(std::proofs::lemmas::Bool::Decides::nat_tests), unfolding(crate::specs::Reading::is_comment))]
 fn is_comment(line: &[u8]) -> bool
     ensures { result ≡ is_comment line.now }
 {
-    if line.len() < 1 {
-        return false;
-    }
-    line[0] == 35
+    line.starts_with(b"#")
 }
 
 pub fn parse(line: &[u8]) -> Command
@@ -414,10 +313,10 @@ pub fn parse(line: &[u8]) -> Command
     if LONGEST_LINE < line.len() {
         return Command::Unknown;
     }
-    if every(Kind::Space, line) {
+    if line.iter().all(|byte| is_space(*byte)) {
         return Command::Nothing;
     }
-    if same_word(line, b"queue") {
+    if Name::Queue.is_said(text::up_to(line, BLANK)) {
         return queue(line);
     }
     called(line)

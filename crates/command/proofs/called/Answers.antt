@@ -1,49 +1,25 @@
--- `command::called` meets its contract: what the rows still to come say is what all say.
-use Rattle.std.proofs.Common.{ℕ, ◌≡◌, ◌+◌, ◌<◌, Bool, List, ◌∷◌, length, drop, refl, sym, ap, ◌∙◌, arith, drop_of_length-le}
-use Rattle.base.specs.Choice.{pick}
-use Rattle.base.specs.Same.{same}
-use Rattle.command.specs.Reading.{row, rows, word_of, taken, meant, called}
-use Rattle.command.specs.declared.Row.{Row}
-use Rattle.command.proofs.Reading.{few, few_next}
+-- `command::called` meets its contract.
+use Rattle.std.proofs.Common.{◌∙◌, Some, None, option_map, sym, ap, rules}
+use borrow.Author.Tests.{tests}
+use Rattle.std.proofs.lemmas.Iterator.{YieldsList-from_slice}
+use Rattle.std.proofs.lemmas.Iterator.Search.{find_from_yields_List}
+use Rattle.command.specs.Reading.{names, meant, taken}
+use Rattle.command.proofs.Rows.{says, called_by, few_taken}
 use Rattle.command.proofs.called.Goals as goal
 
-in_rows : (i : ℕ) → i < 18 → i < length rows
-unfolding rows
-in_rows i h = h
-
--- the next row, and those behind it
-step :
-    (line : List ℕ) (i : ℕ) (r : Row) (t : Bool) → called rows line ≡ called (drop i rows) line → drop i rows ≡ r ∷ drop (i + 1) rows
-    → t ≡ same (word_of line) (word_of r.0)
-    → called rows line ≡ pick t (meant r.1 (taken r.2 line)) (called (drop (i + 1) rows) line)
-unfolding called
--- by this row, or by those behind it
-step line i r t h e s = h ∙ ap (λ (rs : List Row). called rs line) e ∙ rw s
-
-pub loop-i-init : goal.loop-i-init
-unfolding row rows few
-loop-i-init c = (omega arith, refl, refl)
-
-pub nth-row-requires : goal.nth-row-requires
-nth-row-requires c = in_rows c.loop-i.i c.loop-i-test.true
-
 pub take-requires : goal.take-requires
-take-requires c = (few_next c.nth-row.ensures c.loop-i.invariant.2).0
+take-requires c = rw c.takes.ensures (few_taken c.in-Some.name.now)
 
-pub returns-then-same_word : goal.returns-then-same_word
-returns-then-same_word c =
-    c.mean.ensures ∙ ap (meant _) c.take.ensures
-    ∙ sym (step c.args.line.now c.loop-i.i c.nth-row.result _ c.loop-i.invariant.1 c.nth-row.ensures c.same_word.ensures ∙ rw c.if-same_word.true)
+pub returns-in-Some : goal.returns-in-Some
+returns-in-Some c =
+    let n = c.in-Some.name.now in
+    let line = c.args.line.now in
+    let found = find_from_yields_List (says c.up_to-word.result.now) _ _ c.find.result c.find.ensures.ran (YieldsList-from_slice names cc) (λ x b q k. search (rules, tests)) in
+    c.mean.ensures
+    ∙ ap (meant n) (c.take.ensures ∙ ap (λ t. taken t line) c.takes.ensures)
+    ∙ sym (called_by line c.up_to-word.result.now (Some n) c.up_to-word.ensures (ap (option_map (λ x. x.now)) (sym c.in-Some.is) ∙ found))
 
-pub loop-i-preserved : goal.loop-i-preserved
-loop-i-preserved c =
-    let l = c.loop-i in
-    let more = in_rows l.i c.loop-i-test.true in (
-      omega arith,
-      step c.args.line.now l.i c.nth-row.result _ l.invariant.1 c.nth-row.ensures c.same_word.ensures ∙ rw c.if-same_word.false,
-      (few_next c.nth-row.ensures l.invariant.2).1,
-    )
-
-pub returns : goal.returns
-unfolding rows called
-returns c = sym (c.loop-i.invariant.1 ∙ rw (drop_of_length-le rows {i = c.loop-i.i} c.loop-i-test.false))
+pub returns-in-None : goal.returns-in-None
+returns-in-None c =
+    let found = find_from_yields_List (says c.up_to-word.result.now) _ _ c.find.result c.find.ensures.ran (YieldsList-from_slice names cc) (λ x b q k. search (rules, tests)) in
+    sym (called_by c.args.line.now c.up_to-word.result.now None c.up_to-word.ensures (ap (option_map (λ x. x.now)) (sym c.in-None.is) ∙ found))

@@ -1,21 +1,15 @@
 -- `command::is_path` meets its contract.
-use lib.ListN.{length}
-use borrow.Author.Tests.{le-leb, lt-leb}
+use Rattle.std.proofs.Common.{nat_eq, not, rules, arith}
+use borrow.Author.Tests.{tests}
+use Rattle.std.proofs.lemmas.Bool.Decides.{nat_tests}
+use Rattle.std.proofs.lemmas.Iterator.{YieldsList-from_slice}
+use Rattle.std.proofs.lemmas.Iterator.Search.{all_from_yields_List}
 use Rattle.command.specs.Reading.{is_path}
 use Rattle.command.proofs.is_path.Goals as goal
 
-pub returns-then-path-lt1 : goal.returns-then-path-lt1
+pub returns-then-contains : goal.returns-then-contains
 unfolding is_path
-returns-then-path-lt1 c = rw (lt-leb 1 (length c.args.path.now) c.if-path-lt1.true)
-
-pub returns-then-path-gt255 : goal.returns-then-path-gt255
-unfolding is_path
-returns-then-path-gt255 c =
-    let n = length c.args.path.now in
-    rw (le-leb 1 n c.if-path-lt1.false, lt-leb n 255 c.if-path-gt255.true)
-
-pub returns : goal.returns
-unfolding is_path
-returns c =
-    let n = length c.args.path.now in
-    rw (le-leb 1 n c.if-path-lt1.false, le-leb n 255 c.if-path-gt255.false) c.every.ensures
+returns-then-contains c =
+    let a = c.args in
+    let all = all_from_yields_List (λ b. not (nat_eq b 0)) _ _ c.all.result c.all.ensures.ran (YieldsList-from_slice a.path.now cc) (λ x b q k. search (rules, tests)) in
+    grind (arith, nat_tests, all)

@@ -1,21 +1,15 @@
 -- `command::numbered` meets its contract.
-use mathlib.Core.List.{List}
-use mathlib.Core.Path.{sym, ap, ◌∙◌}
-use lib.ListN.{drop_of_length-le}
-use Rattle.command.specs.Reading.{rows, at, first_made, numbered}
-use Rattle.command.specs.declared.Row.{Row}
+use Rattle.std.proofs.Common.{get_or, ◌≡◌, ◌<◌, ◌≤◌, ◌∙◌, sym, rules}
+use Rattle.command.specs.Reading.{names, at}
+use Rattle.command.proofs.Rows.{numbered_at, numbered_past}
 use Rattle.command.proofs.numbered.Goals as goal
 
-pub returns-then-row-ge-WORDS : goal.returns-then-row-ge-WORDS
-unfolding rows first_made numbered
-returns-then-row-ge-WORDS c = rw (drop_of_length-le rows {i = c.args.row} c.if-row-ge-WORDS.true)
+pub returns-in-Some : goal.returns-in-Some
+returns-in-Some c =
+    let n = c.in-Some.name.now in
+    let h : c.args.row < 18 = search rules in
+    let e : n ≡ get_or names c.args.row n = search rules in
+    c.make.ensures ∙ sym (numbered_at c.args.row n (at c.args.numbers) h e)
 
-pub nth-name-requires : goal.nth-name-requires
-unfolding rows
-nth-name-requires c = c.if-row-ge-WORDS.false
-
-pub returns : goal.returns
-unfolding first_made numbered
-returns c =
-    let numbers = c.args.numbers in
-    c.make.ensures ∙ sym (ap (λ (rs : List Row). first_made rs (at numbers)) c.nth-name.ensures)
+pub returns-in-None : goal.returns-in-None
+returns-in-None c = let h : 18 ≤ c.args.row = search rules in sym (numbered_past c.args.row (at c.args.numbers) h)
