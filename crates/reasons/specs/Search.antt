@@ -1,17 +1,10 @@
 -- What a search for a reason comes to, as the rules have it.
-use Rattle.std.specs.Prelude.{ℕ, List}
-use Rattle.std.specs.Prelude.{Option, None, Some}
+use Rattle.std.specs.Prelude.{ℕ, List, Option}
 use Rattle.base.specs.Search.{or_else, first}
 use Rattle.rules.specs.District.{District, resources_of}
 use Rattle.rules.specs.Reasons.{given}
 use Rattle.rules.specs.declared.Reason.{Reason}
 use Rattle.rules.specs.declared.Reason.TheVariants.{LeaderHasNothing, OverAlone, OverBeside}
-use Rattle.reasons.specs.declared.Found.{Found}
-use Rattle.reasons.specs.declared.Found.TheVariants.{One, Nothing}
-
-unfoldable pub option_of : Found → Option Reason
-option_of (One reason) = Some reason
-option_of Nothing = None
 
 -- the search for a reason from the leader on
 abbrev pub late_hindrance : District → List ℕ → ℕ → ℕ → Option Reason

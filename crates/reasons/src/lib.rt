@@ -1,204 +1,138 @@
-// Document 02, request 4: why a segment has, or has not, a strategy. Each search goes through all that it is over, and
-// what it finds first stays.
+// Document 02, request 4: why a segment has, or has not, a strategy.
 #![tactic(auto)]
 
-ghost use Rattle.std.specs.Prelude.{List, ◌≡◌, ℕ, ◌≤◌};
-ghost use Rattle.base.specs.Choice.{only};
-ghost use Rattle.base.specs.Search.{or_else, first};
-ghost use Rattle.grammar.specs.Ranges.{Ranges};
-ghost use Rattle.rating.specs.Numbers.{SegmentOf, Strategy, Distress};
+ghost use Rattle.std.specs.Prelude.{◌≡◌, ◌≤◌, Option};
+ghost use Rattle.base.specs.Search.{first};
+ghost use Rattle.rating.specs.Numbers.{Distress};
+ghost use Rattle.rules.specs.Answers.{answer_in};
 ghost use Rattle.rules.specs.Calls.{bar_refusal, explained};
-ghost use Rattle.rules.specs.District.{years_of, distresses_of, resources_of, leader_of};
+ghost use Rattle.rules.specs.District.{segments_of, years_of, distresses_of, resources_of, leader_of};
 ghost use Rattle.rules.specs.Phases.{strategy_at, give, led};
-ghost use Rattle.rules.specs.Reasons.{or_last, given as Reasons·given, hindrance as Reasons·hindrance, reason_for};
+ghost use Rattle.rules.specs.Reasons.{given, hindrance, reason_for};
 ghost use Rattle.rules.specs.declared.Reason.TheVariants.{MinimumMissed, OverAlone, OverBeside};
-ghost use Rattle.reasons.specs.Search.{option_of, late_hindrance};
+ghost use Rattle.reasons.specs.Search.{late_hindrance};
 
+use rating::{Ranged, Treatment};
 use rules::places::*;
-use rules::{District, Edit, Reason, Why};
+use rules::{District, Edit, Reason, Refusal};
 
-// What a search for a reason comes to.
+// A treatment of a segment that the district has, under a programme of any numbers: why is it, or is it not, in it?
 #[derive(Clone, Copy)]
-pub enum Found {
-    One(Reason),
-    Nothing,
+struct Question<'a> {
+    treatment: Treatment<'a>,
+    programme: &'a [usize; MOST_SEGMENTS],
+    ghost own_segment: { treatment.segment ≤ segments_of treatment.district.now },
 }
 
-// The reason, where it holds.
-fn given(holds: bool, reason: Reason) -> Found
-    ensures { option_of result ≡ only holds reason }
-{
-    if holds {
-        Found::One(reason)
-    } else {
-        Found::Nothing
+impl Question<'_> {
+    fn district(&self) -> Ranged<'_>
+        ensures { result.district.now ≡ self.now.treatment.district.now }
+    {
+        Ranged {
+            district: self.treatment.district,
+        }
     }
-}
 
-// What is found first, else what is found next.
-fn or_else(a: Found, b: Found) -> Found
-    ensures { option_of result ≡ or_else (option_of a) (option_of b) }
-{
-    match a {
-        Found::One(reason) => Found::One(reason),
-        Found::Nothing => b,
+    // ---- a minimum rating missed
+
+    // The first year in which that of distress k is.
+    fn missed_year(&self, k: usize) -> Option<Reason>
+        requires { Distress k }
+        ensures { let t = self.now.treatment in result ≡ first (years_of t.district.now) (λ y. given t.district.now self.now.programme.now t.segment t.strategy (MinimumMissed k y)) }
+    {
+        let gain = self.treatment.gain(k);
+        for t in 1..=self.treatment.district[YEAR_COUNT] {
+            if !self.treatment.minimum_reached(k, t, gain) {
+                return Some(Reason::MinimumMissed(k, t));
+            }
+        }
+        None
     }
-}
 
-// What is found, else the last reason.
-fn or_last(a: Found) -> Reason
-    ensures { result ≡ or_last (option_of a) }
-{
-    match a {
-        Found::One(reason) => reason,
-        Found::Nothing => Reason::NoGreaterTotal,
+    // The first distress type with such a year.
+    fn missed_minimum(&self) -> Option<Reason>
+        ensures { let t = self.now.treatment in result ≡ first (distresses_of t.district.now) (λ k. first (years_of t.district.now) (λ y. given t.district.now self.now.programme.now t.segment t.strategy (MinimumMissed k y))) }
+    {
+        for k in 1..=self.treatment.district[DISTRESS_COUNT] {
+            if let Some(missed) = self.missed_year(k) {
+                return Some(missed);
+            }
+        }
+        None
     }
-}
 
-// ---- a minimum rating missed
+    // ---- over a limit
 
-// The first year in which that of distress k is.
-fn missed_year(d: &District, i: usize, j: usize, k: usize) -> Found
-    requires { Ranges d.now × SegmentOf d.now i × Strategy j × Distress k }
-    ensures { (c : List ℕ) → option_of result ≡ first (years_of d.now) (λ t. Reasons·given d.now c i j (MinimumMissed k t)) }
-{
-    let years = d[YEAR_COUNT];
-    let gain = rating::gain(d, i, j, k);
-    let mut found = Found::Nothing;
-    let mut t: usize = 0;
-    while t < years {
-        let reached = rating::minimum_reached(d, i, j, k, t + 1, gain);
-        let next = or_else(found, given(!reached, Reason::MinimumMissed(k, t + 1)));
-        found = next;
-        t += 1;
+    // The first resource of which the strategy alone uses more than the limit.
+    fn over_alone(&self) -> Option<Reason>
+        ensures { let t = self.now.treatment in result ≡ first (resources_of t.district.now) (λ r. given t.district.now self.now.programme.now t.segment t.strategy (OverAlone r)) }
+    {
+        let district = self.district();
+        for r in 1..=self.treatment.district[RESOURCE_COUNT] {
+            if district.scaled_limit(r) < self.treatment.usage(r) {
+                return Some(Reason::OverAlone(r));
+            }
+        }
+        None
     }
-    found
-}
 
-// The first distress type with such a year.
-fn missed_minimum(d: &District, i: usize, j: usize) -> Found
-    requires { Ranges d.now × SegmentOf d.now i × Strategy j }
-    ensures { (c : List ℕ) → option_of result ≡ first (distresses_of d.now) (λ k. first (years_of d.now) (λ t. Reasons·given d.now c i j (MinimumMissed k t))) }
-{
-    let distresses = d[DISTRESS_COUNT];
-    let mut found = Found::Nothing;
-    let mut k: usize = 0;
-    while k < distresses {
-        let next = or_else(found, missed_year(d, i, j, k + 1));
-        found = next;
-        k += 1;
+    // The programme with the strategy on the segment.
+    fn asked(&self) -> [usize; MOST_SEGMENTS]
+        ensures { result ≡ give self.now.programme.now self.now.treatment.segment self.now.treatment.strategy }
+    {
+        let mut asked = *self.programme;
+        asked[self.treatment.segment - 1] = self.treatment.strategy;
+        asked
     }
-    found
-}
 
-// ---- over a limit
-
-// The first resource of which the strategy alone uses more than the limit.
-fn over_alone(d: &District, i: usize, j: usize) -> Found
-    requires { Ranges d.now × SegmentOf d.now i × Strategy j }
-    ensures { (c : List ℕ) → option_of result ≡ first (resources_of d.now) (λ r. Reasons·given d.now c i j (OverAlone r)) }
-{
-    let resources = d[RESOURCE_COUNT];
-    let mut found = Found::Nothing;
-    let mut r: usize = 0;
-    while r < resources {
-        let over = rating::scaled_limit(d, r + 1) < rating::usage(d, i, j, r + 1);
-        let next = or_else(found, given(over, Reason::OverAlone(r + 1)));
-        found = next;
-        r += 1;
+    // The first resource of which that programme uses more than the limit.
+    fn over_beside(&self) -> Option<Reason>
+        ensures { let t = self.now.treatment in result ≡ first (resources_of t.district.now) (λ r. given t.district.now self.now.programme.now t.segment t.strategy (OverBeside r)) }
+    {
+        let district = self.district();
+        let asked = self.asked();
+        for r in 1..=district.district[RESOURCE_COUNT] {
+            if district.scaled_limit(r) < district.used(asked, r) {
+                return Some(Reason::OverBeside(r));
+            }
+        }
+        None
     }
-    found
-}
 
-// The programme with strategy j on segment i.
-fn asked(c: [usize; MOST_SEGMENTS], i: usize, j: usize) -> [usize; MOST_SEGMENTS]
-    requires { (1 ≤ i) × (i ≤ 64) }
-    ensures { result ≡ give c i j }
-{
-    let mut e = c;
-    e[i - 1] = j;
-    e
-}
+    // ---- leaders
 
-// The first resource of which that programme uses more than the limit.
-fn over_beside(d: &District, c: [usize; MOST_SEGMENTS], i: usize, j: usize) -> Found
-    requires { Ranges d.now × SegmentOf d.now i }
-    ensures { option_of result ≡ first (resources_of d.now) (λ r. Reasons·given d.now c i j (OverBeside r)) }
-{
-    let resources = d[RESOURCE_COUNT];
-    let e = asked(c, i, j);
-    let mut found = Found::Nothing;
-    let mut r: usize = 0;
-    while r < resources {
-        let over = rating::scaled_limit(d, r + 1) < rating::used(d, e, r + 1);
-        let next = or_else(found, given(over, Reason::OverBeside(r + 1)));
-        found = next;
-        r += 1;
+    // Whether the segment has no leader, or one that has something.
+    fn is_led(&self) -> bool
+        ensures { let t = self.now.treatment in result ≡ led (leader_of t.district.now) (strategy_at self.now.programme.now) t.segment }
+    {
+        let t = self.treatment;
+        let leader = t.district[SEGMENTS + PER_SEGMENT * (t.segment - 1) + LEADER];
+        leader == 0 || 0 < self.programme[leader - 1]
     }
-    found
-}
 
-// ---- leaders
+    // ---- all of them, the first before the next
 
-// Whether segment i has no leader, or one that has something.
-fn is_led(d: &District, c: [usize; MOST_SEGMENTS], i: usize) -> bool
-    requires { Ranges d.now × SegmentOf d.now i }
-    ensures { result ≡ led (leader_of d.now) (strategy_at c) i }
-{
-    let leader = d[SEGMENTS + PER_SEGMENT * (i - 1) + LEADER];
-    if leader == 0 {
-        return true;
+    // From the leader on: it has nothing, or a limit is passed.
+    fn late_hindrance(&self) -> Option<Reason>
+        ensures { let t = self.now.treatment in result ≡ late_hindrance t.district.now self.now.programme.now t.segment t.strategy }
+    {
+        (!self.is_led())
+            .then_some(Reason::LeaderHasNothing)
+            .or_else(|| self.over_alone())
+            .or_else(|| self.over_beside())
     }
-    0 < c[leader - 1]
-}
 
-// ---- all of them, the first before the next
-
-// From the leader on: it has nothing, or a limit is passed.
-fn late_hindrance(d: &District, c: [usize; MOST_SEGMENTS], i: usize, j: usize) -> Found
-    requires { Ranges d.now × SegmentOf d.now i × Strategy j }
-    ensures { option_of result ≡ late_hindrance d.now c i j }
-{
-    let beside = over_beside(d, c, i, j);
-    let alone = or_else(over_alone(d, i, j), beside);
-    let unled = !is_led(d, c, i);
-    or_else(given(unled, Reason::LeaderHasNothing), alone)
-}
-
-fn hindrance(d: &District, c: [usize; MOST_SEGMENTS], i: usize, j: usize) -> Found
-    requires { Ranges d.now × SegmentOf d.now i × Strategy j }
-    ensures { option_of result ≡ Reasons·hindrance d.now c i j }
-{
-    let held = c[i - 1] == j;
-    let late = late_hindrance(d, c, i, j);
-    let worthless = rating::benefit(d, i, j) <= 0;
-    let benefit = or_else(given(worthless, Reason::NoBenefit), late);
-    let short = !rating::overall_reached(d, i, j);
-    let overall = or_else(given(short, Reason::OverallMissed), benefit);
-    let minimum = or_else(missed_minimum(d, i, j), overall);
-    let barred = or_else(given(rating::barred(d, i, j), Reason::Barred), minimum);
-    or_else(given(held, Reason::InProgramme), barred)
-}
-
-// The reason for segment i and strategy j, under a programme of any numbers.
-fn reason_for(d: &District, c: [usize; MOST_SEGMENTS], i: usize, j: usize) -> Reason
-    requires { Ranges d.now × SegmentOf d.now i × Strategy j }
-    ensures { result ≡ or_last (Reasons·hindrance d.now c i j) }
-{
-    or_last(hindrance(d, c, i, j))
-}
-
-// The answer for any numbers, any value of the type and any programme: refused as a bar is, else the reason.
-pub fn why(d: District, c: [usize; MOST_SEGMENTS], i: usize, j: usize) -> Why
-    ensures { result ≡ explained (bar_refusal d i j) (reason_for d c i j) }
-{
-    let refusal = edits::refusal(d, Edit::Bar(i, j));
-    if refusal != 0 {
-        return Why::Refused(refusal);
+    fn hindrance(&self) -> Option<Reason>
+        ensures { let t = self.now.treatment in result ≡ hindrance t.district.now self.now.programme.now t.segment t.strategy }
+    {
+        let t = self.treatment;
+        let barred = rating::barred(t.district, t.segment, t.strategy);
+        (self.programme[t.segment - 1] == t.strategy)
+            .then_some(Reason::InProgramme)
+            .or(barred.then_some(Reason::Barred))
+            .or_else(|| self.missed_minimum())
+            .or_else(|| (!t.overall_reached()).then_some(Reason::OverallMissed))
+            .or_else(|| (t.benefit() <= 0).then_some(Reason::NoBenefit))
+            .or_else(|| self.late_hindrance())
     }
-    if !file::in_range(d) {
-        return Why::Because(Reason::NoGreaterTotal);
-    }
-    let reason = reason_for(&d, c, i, j);
-    Why::Because(reason)
 }
