@@ -18,21 +18,13 @@ use rules::{District, Edit, Reason, Refusal};
 
 // A treatment of a segment that the district has, under a programme of any numbers: why is it, or is it not, in it?
 #[derive(Clone, Copy)]
-struct Question<'a> {
-    treatment: Treatment<'a>,
-    programme: &'a [usize; MOST_SEGMENTS],
+struct Question<'d, 'c> {
+    treatment: Treatment<'d>,
+    programme: &'c [usize; MOST_SEGMENTS],
     ghost own_segment: { treatment.segment ≤ segments_of treatment.district.now },
 }
 
-impl Question<'_> {
-    fn district(&self) -> Ranged<'_>
-        ensures { result.district.now ≡ self.now.treatment.district.now }
-    {
-        Ranged {
-            district: self.treatment.district,
-        }
-    }
-
+impl Question<'_, '_> {
     // ---- a minimum rating missed
 
     // The first year in which that of distress k is.
@@ -67,9 +59,11 @@ impl Question<'_> {
     fn over_alone(&self) -> Option<Reason>
         ensures { let t = self.now.treatment in result ≡ first (resources_of t.district.now) (λ r. given t.district.now self.now.programme.now t.segment t.strategy (OverAlone r)) }
     {
-        let district = self.district();
+        let ranged = Ranged {
+            district: self.treatment.district,
+        };
         for r in 1..=self.treatment.district[RESOURCE_COUNT] {
-            if district.scaled_limit(r) < self.treatment.usage(r) {
+            if ranged.scaled_limit(r) < self.treatment.usage(r) {
                 return Some(Reason::OverAlone(r));
             }
         }
@@ -89,10 +83,12 @@ impl Question<'_> {
     fn over_beside(&self) -> Option<Reason>
         ensures { let t = self.now.treatment in result ≡ first (resources_of t.district.now) (λ r. given t.district.now self.now.programme.now t.segment t.strategy (OverBeside r)) }
     {
-        let district = self.district();
+        let ranged = Ranged {
+            district: self.treatment.district,
+        };
         let asked = self.asked();
-        for r in 1..=district.district[RESOURCE_COUNT] {
-            if district.scaled_limit(r) < district.used(asked, r) {
+        for r in 1..=ranged.district[RESOURCE_COUNT] {
+            if ranged.scaled_limit(r) < ranged.used(asked, r) {
                 return Some(Reason::OverBeside(r));
             }
         }
@@ -110,29 +106,57 @@ impl Question<'_> {
         leader == 0 || 0 < self.programme[leader - 1]
     }
 
-    // ---- all of them, the first before the next
+    // ---- all of them, the first before the next. By `or`: of what a closure handed to `or_else` returned, the proof knows
+    // nothing, since it captures the question.
 
     // From the leader on: it has nothing, or a limit is passed.
     fn late_hindrance(&self) -> Option<Reason>
         ensures { let t = self.now.treatment in result ≡ late_hindrance t.district.now self.now.programme.now t.segment t.strategy }
     {
-        (!self.is_led())
+        let unled = !self.is_led();
+        unled
             .then_some(Reason::LeaderHasNothing)
-            .or_else(|| self.over_alone())
-            .or_else(|| self.over_beside())
+            .or(self.over_alone())
+            .or(self.over_beside())
     }
 
     fn hindrance(&self) -> Option<Reason>
         ensures { let t = self.now.treatment in result ≡ hindrance t.district.now self.now.programme.now t.segment t.strategy }
     {
         let t = self.treatment;
+        let held = self.programme[t.segment - 1] == t.strategy;
         let barred = rating::barred(t.district, t.segment, t.strategy);
-        (self.programme[t.segment - 1] == t.strategy)
-            .then_some(Reason::InProgramme)
+        let short = !t.overall_reached();
+        let worthless = t.benefit() <= 0;
+        held.then_some(Reason::InProgramme)
             .or(barred.then_some(Reason::Barred))
-            .or_else(|| self.missed_minimum())
-            .or_else(|| (!t.overall_reached()).then_some(Reason::OverallMissed))
-            .or_else(|| (t.benefit() <= 0).then_some(Reason::NoBenefit))
-            .or_else(|| self.late_hindrance())
+            .or(self.missed_minimum())
+            .or(short.then_some(Reason::OverallMissed))
+            .or(worthless.then_some(Reason::NoBenefit))
+            .or(self.late_hindrance())
     }
+}
+
+// The answer for any numbers, any value of the type and any programme: refused as a bar is, else the reason.
+pub fn why(
+    d: &District,
+    c: &[usize; MOST_SEGMENTS],
+    i: usize,
+    j: usize,
+) -> Result<Reason, Refusal>
+    ensures { answer_in result ≡ explained (bar_refusal d.now i j) (reason_for d.now c.now i j) }
+{
+    edits::check(d, Edit::Bar(i, j))?;
+    if !file::in_range(d) {
+        return Ok(Reason::NoGreaterTotal);
+    }
+    let question = Question {
+        treatment: Treatment {
+            district: d,
+            segment: i,
+            strategy: j,
+        },
+        programme: c,
+    };
+    Ok(question.hindrance().unwrap_or(Reason::NoGreaterTotal))
 }
