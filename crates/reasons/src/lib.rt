@@ -114,10 +114,8 @@ impl Question<'_, '_> {
         ensures { let t = self.now.treatment in result ≡ late_hindrance t.district.now self.now.programme.now t.segment t.strategy }
     {
         let unled = !self.is_led();
-        unled
-            .then_some(Reason::LeaderHasNothing)
-            .or(self.over_alone())
-            .or(self.over_beside())
+        let leader = unled.then_some(Reason::LeaderHasNothing);
+        leader.or(self.over_alone()).or(self.over_beside())
     }
 
     fn hindrance(&self) -> Option<Reason>
@@ -138,12 +136,7 @@ impl Question<'_, '_> {
 }
 
 // The answer for any numbers, any value of the type and any programme: refused as a bar is, else the reason.
-pub fn why(
-    d: &District,
-    c: &[usize; MOST_SEGMENTS],
-    i: usize,
-    j: usize,
-) -> Result<Reason, Refusal>
+pub fn why(d: &District, c: &[usize; MOST_SEGMENTS], i: usize, j: usize) -> Result<Reason, Refusal>
     ensures { answer_in result ≡ explained (bar_refusal d.now i j) (reason_for d.now c.now i j) }
 {
     edits::check(d, Edit::Bar(i, j))?;

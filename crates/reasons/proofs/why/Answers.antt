@@ -1,13 +1,44 @@
+-- `reasons::why` meets its contract.
+use mathlib.Core.Path.{◌≡◌, refl, sym, ◌∙◌, ap}
+use mathlib.Core.Bool.{true}
+use native.Mathlib.Omega.{arith}
+use Rattle.std.proofs.lemmas.Result.{err_from_is_err_and}
+use Rattle.std.specs.Prelude.{Option, None, Some}
+use Rattle.std.specs.Option.{unwrap_or}
+use Rattle.grammar.proofs.Edits.{bar_numbers}
+use Rattle.grammar.proofs.InRanges.{in_ranges}
+use Rattle.rules.specs.File.{in_range}
+use Rattle.rules.specs.Reasons.{or_last}
+use Rattle.rules.specs.declared.Reason.{Reason}
+use Rattle.rules.specs.declared.Reason.TheVariants.{NoGreaterTotal}
+use Rattle.reasons.proofs.Answers.{refused_as, because, out_of_range, in_its_range}
 use Rattle.reasons.proofs.why.Goals as goal
+use Rattle.reasons.proofs.why.Goals.{Else-not-in_range}
+
+-- past the two tests
+ranged : (c : Else-not-in_range) → in_range c.args.d.now ≡ true
+ranged c = sym c.in_range.ensures ∙ c.if-not-in_range.false
+
+last : (found : Option Reason) → unwrap_or found NoGreaterTotal ≡ or_last found
+last None = refl
+last (Some reason) = refl
 
 pub returns-in_err-check : goal.returns-in_err-check
-returns-in_err-check c = ?
+returns-in_err-check c = let p = err_from_is_err_and c.from_residual.result c.from_residual.ensures.1 in rw (p.1, p.2) (refused_as _ _ c.in_err-check.ensures)
 
 pub returns-then-not-in_range : goal.returns-then-not-in_range
-returns-then-not-in_range c = ?
+returns-then-not-in_range c = because c.in_ok-check.ensures (out_of_range _ _ _ _ (sym c.in_range.ensures ∙ c.if-not-in_range.true))
 
 pub invariant_of-question : goal.invariant_of-question
-invariant_of-question c = ?
+invariant_of-question c =
+    let a = c.args in
+    let ranges = in_ranges _ (ranged c) in
+    let few = ranges.strategies in
+    let segments = ranges.segments in
+    let w = bar_numbers a.d.now a.i a.j (sym c.in_ok-check.ensures) in
+    record { in_range = ranges; segment_in = (w.0, omega arith); strategy_in = (w.2, omega arith) }
 
 pub returns : goal.returns
-returns c = ?
+returns c =
+    because c.in_ok-check.ensures
+    (in_its_range _ _ _ _ (ranged (goal.at.returns c).Else-not-in_range) (c.unwrap_or.ensures ∙ last c.hindrance.result ∙ ap or_last c.hindrance.ensures))

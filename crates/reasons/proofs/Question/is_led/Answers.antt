@@ -1,5 +1,4 @@
 -- `reasons::Question::is_led` meets its contract.
-use Prim.Native.Nat.{◌<◌}
 use native.Mathlib.Omega.{arith}
 use Rattle.base.proofs.Choice.{picks}
 use Rattle.rules.specs.District.{leader_of}

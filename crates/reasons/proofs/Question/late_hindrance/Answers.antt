@@ -10,5 +10,5 @@ use Rattle.reasons.proofs.Question.late_hindrance.Goals as goal
 pub returns : goal.returns
 unfolding holds
 returns c =
-    or_is c.or-2.ensures (or_is c.or.ensures (given_by LeaderHasNothing c.then_some.ensures (ap not c.is_led-unled.ensures)) c.over_alone.ensures) c.over_beside.ensures
+    or_is c.or-2.ensures (or_is c.or.ensures (given_by LeaderHasNothing c.then_some-leader.ensures (ap not c.is_led-unled.ensures)) c.over_alone.ensures) c.over_beside.ensures
     ∙ simp or_else_assoc

@@ -1,8 +1,6 @@
 -- `reasons::Question::missed_year` meets its contract.
 use mathlib.Core.Path.{sym, ◌∙◌}
 use native.Mathlib.Omega.{arith}
-use mir.Syntax.{w64}
-use Rattle.base.proofs.Integers.{told}
 use Rattle.reasons.proofs.Searches.{none_yet, found_now, none_passed, none_last, none_at_all, missed, not_missed}
 use Rattle.reasons.proofs.Question.missed_year.Goals as goal
 

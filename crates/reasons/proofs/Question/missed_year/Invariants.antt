@@ -2,7 +2,6 @@ use mathlib.Core.Path.{◌≡◌}
 use Prim.Native.Nat.{◌-◌}
 use Rattle.std.specs.Prelude.{None}
 use Rattle.base.specs.Search.{first}
-
 use Rattle.rules.specs.Reasons.{given}
 use Rattle.rules.specs.declared.Reason.TheVariants.{MinimumMissed}
 use Rattle.reasons.proofs.Question.missed_year.Given as goal
