@@ -63,8 +63,8 @@ module _ (f : ℕ → List (List ℕ)) (n : ℕ) where
 
   -- line n is written into its own part
   pub lines_next : (old out ys : List ℕ) → out ≡ lines (listed_from n 0 f) ++ drop (line_bytes * n) old → ys ≡ line widths (f n)
-      → put_mid (line_bytes * n) (line_bytes * n + line_bytes - line_bytes * n) out ys ≡ lines (listed_from (n + 1) 0 f) ++ drop (line_bytes * (n + 1)) old
+      → put_mid (line_bytes * n) (line_bytes * (n + 1) - line_bytes * n) out ys ≡ lines (listed_from (n + 1) 0 f) ++ drop (line_bytes * (n + 1)) old
   lines_next old out ys e y =
-      let k : line_bytes * n + line_bytes - line_bytes * n ≡ line_bytes = omega arith in
+      let k : line_bytes * (n + 1) - line_bytes * n ≡ line_bytes = omega arith in
       let m : line_bytes * (n + 1) ≡ line_bytes * n + line_bytes = omega arith in
       rw (k, m, e, y) (part_next (lines (listed_from n 0 f)) (line widths (f n)) old (line_bytes * n) line_bytes first_length ∙ ap (λ (l : List ℕ). l ++ drop (line_bytes * n + line_bytes) old) one_more)

@@ -22,17 +22,18 @@ const LONGEST_TEXT: usize = 23;
 
 // ---- the text of a cell
 
+#[tactic(auto, using(base::proofs::Text::decimal_few, base::proofs::Text::front_fits, listing::proofs::Pieces::second_fits, listing::proofs::Pieces::put_two), unfolding(rules::specs::Page::miles, base::specs::Text::text))]
 fn put_miles(out: &mut [u8], hundredths: usize) -> usize
     requires { longest_text ≤ length out.old }
     ensures { Put (miles hundredths) out.old out.new result }
 {
     let at = listing::put_number(out, hundredths / 100);
-    out[at] = b'.';
-    out[at + 1] = 48 + (hundredths / 10 % 10) as u8;
-    out[at + 2] = 48 + (hundredths % 10) as u8;
-    at + 3
+    let tenths = b'0' + (hundredths / 10 % 10) as u8;
+    let last = b'0' + (hundredths % 10) as u8;
+    at + listing::put(&mut out[at..], &[b'.', tenths, last])
 }
 
+#[tactic(auto, using(base::proofs::Text::decimal_few), unfolding(crate::specs::Cells::text_of))]
 fn put_text(out: &mut [u8], cell: Cell) -> usize
     requires { longest_text ≤ length out.old }
     ensures { Put (text_of cell) out.old out.new result }
@@ -47,16 +48,12 @@ fn put_text(out: &mut [u8], cell: Cell) -> usize
 // ---- a column
 
 // The same byte n times.
-fn put_run(out: &mut [u8], n: usize, b: u8) -> usize
+fn put_run(out: &mut [u8], n: usize, byte: u8) -> usize
     requires { n ≤ length out.old }
-    ensures { Put (replicate n b) out.old out.new result }
+    ensures { Put (replicate n byte) out.old out.new result }
 {
-    let mut i: usize = 0;
-    while i < n {
-        out[i] = b;
-        i += 1;
-    }
-    i
+    out[..n].fill(byte);
+    n
 }
 
 // To the right in `width` characters; asterisks where it has no room.
@@ -79,18 +76,17 @@ fn put_cell(out: &mut [u8], width: usize, cell: Cell) -> usize
     let mut bytes = [0u8; LONGEST_TEXT];
     let n = put_text(&mut bytes, cell);
     let at = put_aligned(out, width, &bytes[..n]);
-    out[at] = b' ';
-    at + 1
+    at + listing::put(&mut out[at..], b" ")
 }
 
 // ---- a line
 
+#[tactic(auto, unfolding(rules::specs::Page::right_aligned, rules::specs::Page::line, rules::specs::Page::heading, base::specs::Text::text))]
 pub fn put_heading(out: &mut [u8])
     requires { length out.old ≡ line_bytes }
     ensures { out.new ≡ line widths heading }
 {
-    listing::put(
-        out,
+    out.copy_from_slice(
         b"NO MILES  FT ST        BENEFIT        R1        R2        R3        R4          \n",
     );
 }
@@ -99,13 +95,9 @@ pub fn put_row(row: [Cell; COLUMNS], out: &mut [u8])
     requires { length out.old ≡ line_bytes }
     ensures { out.new ≡ line widths (texts row) }
 {
-    let mut at: usize = 0;
-    let mut k: usize = 0;
-    while k < COLUMNS {
-        let cell = row[k];
-        let width = WIDTHS[k];
-        at += put_cell(&mut out[at..], width, cell);
-        k += 1;
+    let mut at = 0;
+    for (width, cell) in WIDTHS.iter().zip(row.iter()) {
+        at += put_cell(&mut out[at..], *width, *cell);
     }
     listing::put(&mut out[at..], b"         \n");
 }

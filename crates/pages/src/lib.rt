@@ -6,16 +6,17 @@ mod rows;
 
 ghost use Rattle.std.specs.Prelude.{◌++◌, ◌≡◌, ◌+◌, ◌*◌, ◌≤◌, length, drop};
 ghost use Rattle.base.specs.Text.{Put};
-ghost use Rattle.grammar.specs.Ranges.{Ranges};
+ghost use Rattle.rules.specs.Answers.{answer_in};
 ghost use Rattle.rules.specs.Calls.{exported, page_refusal};
 ghost use Rattle.rules.specs.District.{segments_of};
 ghost use Rattle.rules.specs.Page.{widths, line, rows as Page·rows, lines, page as Page·page};
 ghost use Rattle.pages.specs.Numbered.{row_at};
 ghost use Rattle.pages.specs.Printed.{page_held, paged, line_bytes, longest_page};
 
+use rating::Ranged;
+use rows::Sheet;
 use rules::places::{MOST_SEGMENTS, SEGMENT_COUNT};
-use rules::refusals::NO_ROOM_FOR_PAGE;
-use rules::{Answer, District, Programme, Unit};
+use rules::{Answer, District, Programme, Refusal, Unit};
 
 // 80 characters and a line feed.
 pub const LINE_BYTES: usize = 81;
@@ -27,75 +28,65 @@ const OTHER_LINES: usize = 3;
 pub const LONGEST_PAGE: usize = LINE_BYTES * (MOST_SEGMENTS + OTHER_LINES);
 
 // Line n, the heading being line 0.
-fn put_line(d: &District, p: Programme, n: usize, out: &mut [u8])
-    requires { Ranges d.now × (length out.old ≡ line_bytes) }
-    ensures { out.new ≡ line widths (row_at d.now p n) }
+#[tactic(auto, using(std::proofs::lemmas::Bool::Decides::nat_tests), unfolding(crate::specs::Numbered::row_at))]
+fn put_line(sheet: &Sheet, n: usize, out: &mut [u8])
+    requires { length out.old ≡ line_bytes }
+    ensures { out.new ≡ line widths (row_at sheet.now.ranged.district.now sheet.now.programme.now n) }
 {
     if n == 0 {
         cells::put_heading(out);
-        return;
+    } else {
+        cells::put_row(sheet.row_under(n), out);
     }
-    let row = rows::row_under(d, p, n);
-    cells::put_row(row, out);
 }
 
 // Each line into its own part of the buffer.
-fn put_lines(d: &District, p: Programme, out: &mut [u8])
-    requires { Ranges d.now × ((segments_of d.now + 3) * line_bytes ≤ length out.old) }
-    ensures { out.new ≡ lines (Page·rows d.now p) ++ drop (length (lines (Page·rows d.now p))) out.old }
+fn put_lines(sheet: &Sheet, out: &mut [u8])
+    requires { (segments_of sheet.now.ranged.district.now + 3) * line_bytes ≤ length out.old }
+    ensures { let page = lines (Page·rows sheet.now.ranged.district.now sheet.now.programme.now) in out.new ≡ page ++ drop (length page) out.old }
 {
-    let count = d[SEGMENT_COUNT] + OTHER_LINES;
-    let mut n: usize = 0;
-    while n < count {
-        put_line(
-            d,
-            p,
-            n,
-            &mut out[LINE_BYTES * n..LINE_BYTES * n + LINE_BYTES],
-        );
-        n += 1;
+    for n in 0..sheet.ranged.district[SEGMENT_COUNT] + OTHER_LINES {
+        put_line(sheet, n, &mut out[LINE_BYTES * n..LINE_BYTES * (n + 1)]);
     }
 }
 
 // The page of a district and a programme to the front of the buffer, where the buffer has room for it.
-pub fn page(d: District, p: Programme, buffer: &mut [u8]) -> Answer
-    ensures { record { answer = result; buffer = buffer.new } ≡ exported (page_refusal d buffer.old) (Page·page d p) buffer.old }
+pub fn page(d: &District, p: &Programme, buffer: &mut [u8]) -> Answer
+    ensures { record { answer = answer_in result; buffer = buffer.new } ≡ exported (page_refusal d.now buffer.old) (Page·page d.now p.now) buffer.old }
 {
     if !file::in_range(d) {
-        return Answer::Accepted(0);
+        return Ok(0);
     }
     let length = LINE_BYTES * (d[SEGMENT_COUNT] + OTHER_LINES);
     if buffer.len() < length {
-        return Answer::Refused(NO_ROOM_FOR_PAGE);
+        return Err(Refusal::NoRoomForPage);
     }
-    put_lines(&d, p, buffer);
-    Answer::Accepted(length)
+    let sheet = Sheet {
+        ranged: Ranged { district: d },
+        programme: p,
+    };
+    put_lines(&sheet, buffer);
+    Ok(length)
 }
 
 // ---- for the programs
 
 // The unit's own: where any page has room it is never refused.
-pub fn put_page(out: &mut [u8], u: Unit) -> usize
+pub fn put_page(out: &mut [u8], u: &Unit) -> usize
     requires { longest_page ≤ length out.old }
-    ensures { Put (page_held u) out.old out.new result }
+    ensures { Put (page_held u.now) out.old out.new result }
 {
-    let d = u.district;
-    let p = u.programme;
-    let answer = page(d, p, out);
-    match answer {
-        Answer::Accepted(length) => length,
-        Answer::Refused(_) => 0,
-    }
+    page(&u.district, &u.programme, out).unwrap()
 }
 
-// The answer to a load, with the page.
+// The answer to a load, with the page of the unit then.
 #[tactic(auto, unfolding(crate::specs::Printed::paged))]
-pub fn put_paged(out: &mut [u8], answer: Answer, u: Unit) -> usize
+pub fn put_paged(out: &mut [u8], answer: Answer, u: &Unit) -> usize
     requires { longest_page ≤ length out.old }
-    ensures { Put (paged answer u) out.old out.new result }
+    ensures { Put (paged (answer_in answer) u.now) out.old out.new result }
 {
     match answer {
-        Answer::Accepted(_) => put_page(out, u),
-        Answer::Refused(number) => listing::put_refusal(out, number),
+        Ok(_) => put_page(out, u),
+        Err(refusal) => listing::put_refusal(out, refusal),
     }
 }

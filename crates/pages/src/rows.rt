@@ -1,6 +1,5 @@
 // What stands in the columns of each line under the heading.
 ghost use Rattle.std.specs.Prelude.{◌≡◌, ◌^◌, ◌≤◌, ◌<◌};
-ghost use Rattle.grammar.specs.Ranges.{Ranges};
 ghost use Rattle.rating.specs.Numbers.{Segment, Resource};
 ghost use Rattle.rules.specs.District.{limit_of};
 ghost use Rattle.rules.specs.Page.{whole_units, segment_row, total_row, limits_row};
@@ -10,118 +9,134 @@ ghost use Rattle.pages.specs.Cells.{texts, Shows};
 ghost use Rattle.pages.specs.Numbered.{row_under};
 
 use crate::cells::{COLUMNS, Cell};
-use rules::places::{LENGTH, MOST_SEGMENTS, RESOURCE_COUNT, SEGMENT_COUNT, WIDTH};
-use rules::{District, Programme};
-
-// ---- uses
+use rating::Ranged;
+use rules::Programme;
+use rules::places::{LENGTH, RESOURCE_COUNT, SEGMENT_COUNT, WIDTH};
 
 // A use in whole units, rounded up.
 fn whole_units(x: u64) -> usize
     requires { x < 2 ^ 48 }
     ensures { result ≡ whole_units x }
 {
-    ((x + 99999) / 100000) as usize
+    x.div_ceil(100_000) as usize
 }
 
-// ---- cells of a resource: blank where the district does not have it
+// What a page shows: a district in range, and a programme.
+#[derive(Clone, Copy)]
+pub struct Sheet<'d, 'p> {
+    pub ranged: Ranged<'d>,
+    pub programme: &'p Programme,
+}
 
-fn cell_of(d: &District, r: usize, n: usize) -> Cell
-    ensures { Shows d.now (λ _. n) r result }
-{
-    if r <= d[RESOURCE_COUNT] {
-        return Cell::Number(n);
+impl Sheet<'_, '_> {
+    // ---- cells of a resource: blank where the district does not have it
+
+    #[tactic(auto, using(std::proofs::lemmas::Bool::Decides::nat_tests), unfolding(crate::specs::Cells::text_of))]
+    fn resource_cell(&self, r: usize, n: usize) -> Cell
+        ensures { Shows self.now.ranged.district.now (λ _. n) r result }
+    {
+        if r <= self.ranged.district[RESOURCE_COUNT] {
+            Cell::Number(n)
+        } else {
+            Cell::Blank
+        }
     }
-    Cell::Blank
-}
 
-fn use_cell(d: &District, c: [usize; MOST_SEGMENTS], i: usize, r: usize) -> Cell
-    requires { Ranges d.now × Resource r × Segment i }
-    ensures { Shows d.now (λ r. whole_units (chosen_usage (table_of d.now) c r i)) r result }
-{
-    cell_of(d, r, whole_units(rating::chosen_usage(d, c, r, i)))
-}
-
-fn sum_cell(d: &District, c: [usize; MOST_SEGMENTS], r: usize) -> Cell
-    requires { Ranges d.now × Resource r }
-    ensures { Shows d.now (λ r. whole_units (Phases·used (table_of d.now) c r)) r result }
-{
-    cell_of(d, r, whole_units(rating::used(d, c, r)))
-}
-
-fn limit_cell(d: &District, r: usize) -> Cell
-    requires { Resource r }
-    ensures { Shows d.now (limit_of d.now) r result }
-{
-    cell_of(d, r, rating::limit_at(d, r))
-}
-
-// ---- rows
-
-fn segment_row(d: &District, c: [usize; MOST_SEGMENTS], i: usize) -> [Cell; COLUMNS]
-    requires { Ranges d.now × Segment i }
-    ensures { texts result ≡ segment_row d.now c i }
-{
-    let j = c[i - 1];
-    let benefit = rating::candidate_benefit(d, i, j);
-    [
-        Cell::Number(i),
-        Cell::Miles(rating::segment_at(d, i, LENGTH)),
-        Cell::Number(rating::segment_at(d, i, WIDTH)),
-        Cell::Number(j),
-        Cell::Number(benefit as usize),
-        use_cell(d, c, i, 1),
-        use_cell(d, c, i, 2),
-        use_cell(d, c, i, 3),
-        use_cell(d, c, i, 4),
-    ]
-}
-
-fn total_row(d: &District, p: Programme) -> [Cell; COLUMNS]
-    requires { Ranges d.now }
-    ensures { texts result ≡ total_row d.now p }
-{
-    let c = p.strategies;
-    [
-        Cell::Blank,
-        Cell::Blank,
-        Cell::Blank,
-        Cell::Blank,
-        Cell::Number(p.total as usize),
-        sum_cell(d, c, 1),
-        sum_cell(d, c, 2),
-        sum_cell(d, c, 3),
-        sum_cell(d, c, 4),
-    ]
-}
-
-fn limits_row(d: &District) -> [Cell; COLUMNS]
-    ensures { texts result ≡ limits_row d.now }
-{
-    [
-        Cell::Blank,
-        Cell::Blank,
-        Cell::Blank,
-        Cell::Blank,
-        Cell::Blank,
-        limit_cell(d, 1),
-        limit_cell(d, 2),
-        limit_cell(d, 3),
-        limit_cell(d, 4),
-    ]
-}
-
-// Row n, counted from 1: a segment's, the total's or the limits'.
-pub fn row_under(d: &District, p: Programme, n: usize) -> [Cell; COLUMNS]
-    requires { Ranges d.now × (1 ≤ n) }
-    ensures { texts result ≡ row_under d.now p n }
-{
-    let segments = d[SEGMENT_COUNT];
-    if n <= segments {
-        let c = p.strategies;
-        return segment_row(d, c, n);
+    #[tactic(auto, using(rating::proofs::Uses::chosen_le))]
+    fn use_cell(&self, i: usize, r: usize) -> Cell
+        requires { Resource r × Segment i }
+        ensures { Shows self.now.ranged.district.now (λ r. whole_units (chosen_usage (table_of self.now.ranged.district.now) self.now.programme.now.strategies r i)) r result }
+    {
+        let used = self.ranged.chosen_usage(self.programme.strategies, r, i);
+        self.resource_cell(r, whole_units(used))
     }
-    if n == segments + 1 {
-        return total_row(d, p);
+
+    #[tactic(auto, using(rating::proofs::Uses::used_le))]
+    fn sum_cell(&self, r: usize) -> Cell
+        requires { Resource r }
+        ensures { Shows self.now.ranged.district.now (λ r. whole_units (Phases·used (table_of self.now.ranged.district.now) self.now.programme.now.strategies r)) r result }
+    {
+        let used = self.ranged.used(self.programme.strategies, r);
+        self.resource_cell(r, whole_units(used))
     }
-    limits_row(d)
+
+    #[tactic(auto, unfolding(rules::specs::District::limit_of))]
+    fn limit_cell(&self, r: usize) -> Cell
+        requires { Resource r }
+        ensures { Shows self.now.ranged.district.now (limit_of self.now.ranged.district.now) r result }
+    {
+        self.resource_cell(r, rating::limit_at(self.ranged.district, r))
+    }
+
+    // ---- rows
+
+    #[tactic(auto, unfolding(rules::specs::Page::segment_row, rules::specs::Page::by_resource, base::specs::Over::listed_from, crate::specs::Cells::text_of, crate::specs::Cells::texts, rules::specs::District::length_of, rules::specs::District::width_of, rules::specs::Phases::chosen_benefit, rules::specs::Table::table_of))]
+    fn segment_row(&self, i: usize) -> [Cell; COLUMNS]
+        requires { Segment i }
+        ensures { texts result ≡ segment_row self.now.ranged.district.now self.now.programme.now.strategies i }
+    {
+        let j = self.programme.strategies[i - 1];
+        let benefit = self.ranged.candidate_benefit(i, j);
+        [
+            Cell::Number(i),
+            Cell::Miles(rating::segment_at(self.ranged.district, i, LENGTH)),
+            Cell::Number(rating::segment_at(self.ranged.district, i, WIDTH)),
+            Cell::Number(j),
+            Cell::Number(benefit as usize),
+            self.use_cell(i, 1),
+            self.use_cell(i, 2),
+            self.use_cell(i, 3),
+            self.use_cell(i, 4),
+        ]
+    }
+
+    #[tactic(auto, unfolding(rules::specs::Page::total_row, rules::specs::Page::by_resource, base::specs::Over::listed_from, crate::specs::Cells::text_of, crate::specs::Cells::texts))]
+    fn total_row(&self) -> [Cell; COLUMNS]
+        ensures { texts result ≡ total_row self.now.ranged.district.now self.now.programme.now }
+    {
+        [
+            Cell::Blank,
+            Cell::Blank,
+            Cell::Blank,
+            Cell::Blank,
+            Cell::Number(self.programme.total as usize),
+            self.sum_cell(1),
+            self.sum_cell(2),
+            self.sum_cell(3),
+            self.sum_cell(4),
+        ]
+    }
+
+    #[tactic(auto, unfolding(rules::specs::Page::limits_row, rules::specs::Page::by_resource, base::specs::Over::listed_from, crate::specs::Cells::text_of, crate::specs::Cells::texts))]
+    fn limits_row(&self) -> [Cell; COLUMNS]
+        ensures { texts result ≡ limits_row self.now.ranged.district.now }
+    {
+        [
+            Cell::Blank,
+            Cell::Blank,
+            Cell::Blank,
+            Cell::Blank,
+            Cell::Blank,
+            self.limit_cell(1),
+            self.limit_cell(2),
+            self.limit_cell(3),
+            self.limit_cell(4),
+        ]
+    }
+
+    // Row n, counted from 1: a segment's, the total's or the limits'.
+    #[tactic(auto, using(std::proofs::lemmas::Bool::Decides::nat_tests), unfolding(crate::specs::Numbered::row_under))]
+    pub fn row_under(&self, n: usize) -> [Cell; COLUMNS]
+        requires { 1 ≤ n }
+        ensures { texts result ≡ row_under self.now.ranged.district.now self.now.programme.now n }
+    {
+        let segments = self.ranged.district[SEGMENT_COUNT];
+        if n <= segments {
+            self.segment_row(n)
+        } else if n == segments + 1 {
+            self.total_row()
+        } else {
+            self.limits_row()
+        }
+    }
 }

@@ -18,16 +18,16 @@ pub returns-then-not-in_range : goal.returns-then-not-in_range
 returns-then-not-in_range c = page_none _ _ _ (sym c.in_range.ensures ∙ c.if-not-in_range.true)
 
 pub overflow_add-length : goal.overflow_add-length
-overflow_add-length c = omega (arith, (ranges c.args.d c.in_range.ensures c.if-not-in_range.false).segments)
+overflow_add-length c = omega (arith, (ranges c.args.d.now c.in_range.ensures c.if-not-in_range.false).segments)
 
 pub overflow_mul-length : goal.overflow_mul-length
-overflow_mul-length c = omega (arith, (ranges c.args.d c.in_range.ensures c.if-not-in_range.false).segments)
+overflow_mul-length c = omega (arith, (ranges c.args.d.now c.in_range.ensures c.if-not-in_range.false).segments)
 
 pub returns-then-buffer-length : goal.returns-then-buffer-length
-returns-then-buffer-length c = page_short _ _ _ (ranged c.args.d c.in_range.ensures c.if-not-in_range.false) c.if-buffer-length.true
+returns-then-buffer-length c = page_short _ _ _ (ranged c.args.d.now c.in_range.ensures c.if-not-in_range.false) c.if-buffer-length.true
 
-pub put_lines-requires : goal.put_lines-requires
-put_lines-requires c = (ranges c.args.d c.in_range.ensures c.if-not-in_range.false, omega (arith, c.if-buffer-length.false))
+pub invariant_of-sheet : goal.invariant_of-sheet
+invariant_of-sheet c = record { in_range = ranges c.args.d.now c.in_range.ensures c.if-not-in_range.false }
 
 pub returns : goal.returns
-returns c = rw c.put_lines.ensures (page_fits _ _ _ (ranged c.args.d c.in_range.ensures c.if-not-in_range.false) c.if-buffer-length.false)
+returns c = rw c.put_lines.ensures (page_fits _ _ _ (ranged c.args.d.now c.in_range.ensures c.if-not-in_range.false) c.if-buffer-length.false)

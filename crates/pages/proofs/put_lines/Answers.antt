@@ -2,7 +2,6 @@
 use Prim.Native.Nat.{◌+◌}
 use mathlib.Core.Path.{◌≡◌, refl}
 use native.Mathlib.Omega.{arith}
-use lib.ListN.{length-append, length-take, length-drop}
 use Rattle.base.specs.Over.{listed_from}
 use Rattle.rules.specs.District.{segments_of}
 use Rattle.rules.specs.Page.{lines}
@@ -12,26 +11,18 @@ use Rattle.pages.proofs.put_lines.Goals as goal
 
 pub loop-n-init : goal.loop-n-init
 unfolding lines listed_from
-loop-n-init c = (omega arith, refl, refl)
-
-pub put_line-requires : goal.put_line-requires
-put_line-requires c = (c.requires.0, simp (length-take, length-drop) (omega arith))
+loop-n-init c = refl
 
 pub loop-n-preserved : goal.loop-n-preserved
 loop-n-preserved c =
     let l = c.loop-n in
-    let a = c.args in
-    let rows = row_at a.d.now a.p in
-    let e = lines_next rows l.n a.out.now l.out c.put_line.new.out l.invariant.2 c.put_line.ensures in (
-      omega arith,
-      rw (e, length-append, length-drop, first_length rows (l.n + 1)) (omega arith),
-      e,
-    )
+    let sheet = c.args.sheet.now in
+    lines_next (row_at sheet.ranged.district.now sheet.programme.now) l.n c.args.out.now l.out c.put_line.new.out l.invariant c.put_line.ensures
 
 pub returns : goal.returns
 returns c =
     let l = c.loop-n in
-    let a = c.args in
-    let d = a.d.now in
-    let all : l.n ≡ segments_of d + 3 = omega arith in
-    rw (rows_numbered d a.p, first_length (row_at d a.p) (segments_of d + 3)) (rw all at l.invariant.2)
+    let sheet = c.args.sheet.now in
+    let d = sheet.ranged.district.now in
+    let all : l.n ≡ segments_of d + 3 = omega (arith, l.auto.n-end) in
+    rw (rows_numbered d sheet.programme.now, first_length (row_at d sheet.programme.now) (segments_of d + 3)) (rw all at l.invariant)

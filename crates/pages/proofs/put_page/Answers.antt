@@ -1,27 +1,27 @@
 -- `pages::put_page` meets its contract: a buffer for any page has room for this one.
-use Prim.Native.Nat.{ℕ}
-use mathlib.Core.Path.{◌≡◌}
-use native.Mathlib.Omega.{arith}
-use Rattle.rules.specs.Answers.{Answer, Accepted, Refused}
+use Rattle.std.proofs.Common.{ℕ, ◌≡◌, refl, Result, Ok, Err, arith}
+use Rattle.std.specs.Result.{IsOk}
+use Rattle.rules.specs.Answers.{Accepted, answer_in}
+use Rattle.rules.specs.declared.refusals.Refusal.{Refusal}
 use Rattle.pages.specs.Printed.{page_held}
 use Rattle.pages.proofs.Given.{page_given}
 use Rattle.pages.proofs.put_page.Goals as goal
 
-value : {a : Answer} {n m : ℕ} → a ≡ Accepted n → a ≡ Accepted m → n ≡ m
-value e f = cc
+accepted : (r : Result ℕ Refusal) (n : ℕ) → answer_in r ≡ Accepted n → IsOk r
+accepted (Ok m) n e = refl
+accepted (Err refusal) n e = absurd (let z : ◌≡◌ {A = ℕ} 0 1 = cc in omega arith)
 
-not-both : {a : Answer} {n m : ℕ} → a ≡ Accepted n → a ≡ Refused m → ⊥
-not-both e f = let z : ◌≡◌ {A = ℕ} 0 1 = cc in omega arith
+value : (r : Result ℕ Refusal) (m n : ℕ) → r ≡ Ok m → answer_in r ≡ Accepted n → m ≡ n
+value r m n f e = let g = rw f at e in cc
 
-pub returns-in-Accepted : goal.returns-in-Accepted
+pub unwrap-requires : goal.unwrap-requires
+unwrap-requires c =
+    let u = c.args.u.now in
+    accepted _ _ (page_given u.district u.programme c.args.out.now c.page.ensures c.requires).0
+
+pub returns : goal.returns
 unfolding page_held
-returns-in-Accepted c =
-    let u = c.args.u in
-    let given = page_given u.district u.programme c.args.out.now c.page-answer.ensures c.requires in
-    record { count = value c.in-Accepted.is given.0; bytes = given.1 }
-
-pub returns-in-Refused : goal.returns-in-Refused
-returns-in-Refused c =
-    let u = c.args.u in
-    let given = page_given u.district u.programme c.args.out.now c.page-answer.ensures c.requires in
-    absurd (not-both given.0 c.in-Refused.is)
+returns c =
+    let u = c.args.u.now in
+    let given = page_given u.district u.programme c.args.out.now c.page.ensures c.requires in
+    record { count = value _ _ _ c.unwrap.ensures given.0; bytes = given.1 }

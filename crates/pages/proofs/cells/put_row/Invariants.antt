@@ -1,12 +1,17 @@
-use Prim.Native.Nat.{◌-◌, ◌≤◌}
-use lib.ListN.{length, drop}
+use Rattle.std.proofs.Common.{◌≡◌, length}
+use Rattle.std.specs.Iterator.Adapters.{zip_first, zip_second}
+use Rattle.std.specs.Slice.Iter.{iter_rest}
 use Rattle.base.proofs.Buffers.{Written}
 use Rattle.rules.specs.Page.{widths, line}
 use Rattle.pages.specs.Cells.{texts}
 use Rattle.pages.proofs.cells.put_row.Given as goal
 
-abbrev pub invariant-loop-k : goal.invariant-loop-k
-invariant-loop-k l = (l.k ≤ length widths) × Written l.initial.out (line widths (texts l.row)) (line (drop l.k widths) (texts (drop l.k l.row))) l.at l.out
-
-abbrev pub decreases-loop-k : goal.decreases-loop-k
-decreases-loop-k l = length widths - l.k
+-- what is still to come are the columns that are left
+abbrev pub invariant-loop-width : goal.invariant-loop-width
+invariant-loop-width l =
+    let columns = iter_rest (zip_first l.width-iterator) in
+    let cells = iter_rest (zip_second l.width-iterator) in
+    record {
+      same : length columns ≡ length cells;
+      written : Written l.initial.out (line widths (texts l.fn.row)) (line columns (texts cells)) l.at l.out;
+    }
