@@ -9,6 +9,7 @@ use rules::places::MOST_SEGMENTS;
 use tables::{BenefitTable, Size};
 
 // The greatest of segment i's benefits.
+#[tactic(auto, unfolding(base::specs::Over::most))]
 fn top_of(strategies: usize, benefits: BenefitTable<'_>, i: usize) -> u64
     requires { (1 ≤ i) × (i ≤ most_segments) × (strategies ≤ most_strategies) }
     ensures { result ≡ most strategies (benefit_at benefits.entry.entries.now i) }
