@@ -1,9 +1,10 @@
 -- What the programs print of a page.
-use Rattle.std.specs.Prelude.{ℕ, ◌+◌, ◌*◌, List}
+use Rattle.std.specs.Prelude.{ℕ, ◌+◌, ◌*◌, List, Result, Ok, Err}
 use Rattle.listing.specs.Listing.{refusal}
 use Rattle.rules.specs.District.{most_segments}
 use Rattle.rules.specs.Page.{page}
-use Rattle.rules.specs.Answers.{Answer, Accepted, Refused}
+use Rattle.rules.specs.Answers.{Answer, Accepted, Refused, number_of}
+use Rattle.rules.specs.declared.refusals.Refusal.{Refusal}
 use Rattle.rules.specs.declared.Unit.{Unit}
 
 -- the unit's own
@@ -14,6 +15,11 @@ page_held u = page u.district u.programme
 unfoldable pub paged : Answer → Unit → List ℕ
 paged (Accepted value) u = page_held u
 paged (Refused n) u = refusal n
+
+-- the same of the code's result, which has no unit where it is refused
+abbrev pub loaded_page : Result Unit Refusal → List ℕ
+loaded_page (Ok u) = page_held u
+loaded_page (Err r) = refusal (number_of r)
 
 -- 80 characters and a line feed
 abbrev pub line_bytes : ℕ

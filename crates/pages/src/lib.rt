@@ -11,7 +11,7 @@ ghost use Rattle.rules.specs.Calls.{exported, page_refusal};
 ghost use Rattle.rules.specs.District.{segments_of};
 ghost use Rattle.rules.specs.Page.{widths, line, rows as Page·rows, lines, page as Page·page};
 ghost use Rattle.pages.specs.Numbered.{row_at};
-ghost use Rattle.pages.specs.Printed.{page_held, paged, line_bytes, longest_page};
+ghost use Rattle.pages.specs.Printed.{page_held, loaded_page, line_bytes, longest_page};
 
 use rating::Ranged;
 use rows::Sheet;
@@ -79,14 +79,13 @@ pub fn put_page(out: &mut [u8], u: &Unit) -> usize
     page(&u.district, &u.programme, out).unwrap()
 }
 
-// The answer to a load, with the page of the unit then.
-#[tactic(auto, unfolding(crate::specs::Printed::paged))]
-pub fn put_paged(out: &mut [u8], answer: Answer, u: &Unit) -> usize
+// What a load comes to: the page of the unit, or the refusal.
+pub fn put_paged(out: &mut [u8], loaded: &Result<Unit, Refusal>) -> usize
     requires { longest_page ≤ length out.old }
-    ensures { Put (paged (answer_in answer) u.now) out.old out.new result }
+    ensures { Put (loaded_page loaded.now) out.old out.new result }
 {
-    match answer {
-        Ok(_) => put_page(out, u),
-        Err(refusal) => listing::put_refusal(out, refusal),
+    match loaded {
+        Ok(u) => put_page(out, u),
+        Err(refusal) => listing::put_refusal(out, *refusal),
     }
 }
