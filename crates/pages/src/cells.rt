@@ -57,6 +57,7 @@ fn put_run(out: &mut [u8], n: usize, byte: u8) -> usize
 }
 
 // To the right in `width` characters; asterisks where it has no room.
+#[tactic(auto, using(crate::proofs::Texts::aligned_wide))]
 fn put_aligned(out: &mut [u8], width: usize, bytes: &[u8]) -> usize
     requires { width ≤ length out.old }
     ensures { Put (right_aligned width bytes.now) out.old out.new result }

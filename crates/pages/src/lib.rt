@@ -51,6 +51,7 @@ fn put_lines(sheet: &Sheet, out: &mut [u8])
 }
 
 // The page of a district and a programme to the front of the buffer, where the buffer has room for it.
+#[tactic(auto, using(grammar::proofs::InRanges::in_ranges, crate::proofs::Given::page_none, crate::proofs::Given::page_short, crate::proofs::Given::page_fits))]
 pub fn page(d: &District, p: &Programme, buffer: &mut [u8]) -> Answer
     ensures { record { answer = answer_in result; buffer = buffer.new } ≡ exported (page_refusal d.now buffer.old) (Page·page d.now p.now) buffer.old }
 {
