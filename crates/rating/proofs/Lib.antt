@@ -1,4 +1,5 @@
 pub mod Loops
+pub mod Chains
 pub mod Least
 pub mod Bounds
 pub mod Entries

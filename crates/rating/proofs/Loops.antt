@@ -1,13 +1,11 @@
 -- What a loop over the numbers 1 to n has come to: before number t, the t - 1 first ones are passed.
 use Prim.Native.Nat.{ℕ, ◌+◌, ◌-◌, ◌*◌, ◌^◌, ◌≤◌, ◌<◌}
 use mathlib.Core.Path.{◌≡◌, subst}
-use mathlib.Core.Bool.{true, Bool}
 use native.Mathlib.Omega.{arith}
 use lib.IntN.{ℤ, nat_abs, ◌+ℤ◌}
 use mir.Syntax.{w64}
 use mir.Val.{SFits}
-use Rattle.base.specs.Over.{sum, sum_z, all}
-use Rattle.base.proofs.All.{all_next, all_end}
+use Rattle.base.specs.Over.{sum, sum_z}
 use Rattle.base.proofs.Integers.{sum_z_next, sum_z_end, sum_z_fits}
 use Rattle.base.proofs.Sums.{sum_next, sum_end}
 
@@ -24,11 +22,6 @@ sum_passed t f {s} h e = step (λ k n. s + f k ≡ sum n f) t h (sum_next (t - 1
 pub sum_z_passed : (t : ℕ) (f : ℕ → ℤ) {s : ℤ} → 1 ≤ t → s ≡ sum_z (t - 1) f → s +ℤ f t ≡ sum_z (t + 1 - 1) f
 sum_z_passed t f {s} h e = step (λ k n. s +ℤ f k ≡ sum_z n f) t h (sum_z_next (t - 1) f e)
 
-pub all_passed : (t : ℕ) (f : ℕ → Bool) → 1 ≤ t → all (t - 1) f ≡ true → f t ≡ true → all (t + 1 - 1) f ≡ true
-all_passed t f h e g =
-    let now : t ≡ t - 1 + 1 = omega arith in
-    step (λ k n. all n f ≡ true) t h (all_next (t - 1) f e (subst (λ (k : ℕ). f k ≡ true) now g))
-
 -- ---- at the last number
 
 pub sum_last : (n t : ℕ) (f : ℕ → ℕ) {s : ℕ} → 1 ≤ t → s ≡ sum (t - 1) f → t ≤ n → n ≤ t → s + f t ≡ sum n f
@@ -36,9 +29,6 @@ sum_last n t f {s} h e l u = sum_end n (t + 1 - 1) f (sum_passed t f h e) (omega
 
 pub sum_z_last : (n t : ℕ) (f : ℕ → ℤ) {s : ℤ} → 1 ≤ t → s ≡ sum_z (t - 1) f → t ≤ n → n ≤ t → s +ℤ f t ≡ sum_z n f
 sum_z_last n t f {s} h e l u = sum_z_end n (t + 1 - 1) f (sum_z_passed t f h e) (omega arith) (omega arith)
-
-pub all_last : (n t : ℕ) (f : ℕ → Bool) → 1 ≤ t → all (t - 1) f ≡ true → f t ≡ true → t ≤ n → n ≤ t → all n f ≡ true
-all_last n t f h e g l u = all_end n (t + 1 - 1) f (all_passed t f h e g) (omega arith) (omega arith)
 
 -- a sum with one more term is in range
 pub sum_z_grows : (t m : ℕ) (f : ℕ → ℤ) {s : ℤ} → 1 ≤ t → s ≡ sum_z (t - 1) f → ((k : ℕ) → 1 ≤ k → k ≤ t → nat_abs (f k) ≤ m) → t * m < 2 ^ 63 → SFits w64 (s +ℤ f t)

@@ -191,7 +191,7 @@ impl<'a> Treatment<'a> {
         self.gain(k) * (self.survivals(k) as i64)
     }
 
-    // The credits of all distress types, summed.
+    // The credits of all distress types, summed. A loop, as below: the library says of a signed `sum` nothing about its bound.
     fn total_credits(&self) -> i64
         ensures { result ≡ sum_z (distresses_of self.now.district.now) (credits self.now.district.now self.now.segment self.now.strategy) }
     {
@@ -257,24 +257,14 @@ impl<'a> Treatment<'a> {
         ensures { result ≡ years_reached self.now.district.now self.now.segment self.now.strategy k }
     {
         let g = self.gain(k);
-        for t in 1..=self.district[YEAR_COUNT] {
-            if !self.minimum_reached(k, t, g) {
-                return false;
-            }
-        }
-        true
+        (1..=self.district[YEAR_COUNT]).all(|t| self.minimum_reached(k, t, g))
     }
 
     fn minima_reached(&self) -> bool
         requires { self.now.segment ≤ segments_of self.now.district.now }
         ensures { result ≡ minima_reached self.now.district.now self.now.segment self.now.strategy }
     {
-        for k in 1..=self.district[DISTRESS_COUNT] {
-            if !self.years_reached(k) {
-                return false;
-            }
-        }
-        true
+        (1..=self.district[DISTRESS_COUNT]).all(|k| self.years_reached(k))
     }
 
     // The ratings of year 1, summed.
@@ -313,15 +303,10 @@ impl<'a> Treatment<'a> {
     fn fits_alone(&self) -> bool
         ensures { result ≡ fits_alone self.now.district.now self.now.segment self.now.strategy }
     {
-        let district = Ranged {
+        let ranged = Ranged {
             district: self.district,
         };
-        for r in 1..=self.district[RESOURCE_COUNT] {
-            if district.scaled_limit(r) < self.usage(r) {
-                return false;
-            }
-        }
-        true
+        (1..=self.district[RESOURCE_COUNT]).all(|r| self.usage(r) <= ranged.scaled_limit(r))
     }
 
     // The benefit of a candidate; 0 for any other strategy. What is cheap to test is tested first.

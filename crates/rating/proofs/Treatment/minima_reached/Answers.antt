@@ -1,25 +1,16 @@
 -- `rating::Treatment::minima_reached` meets its contract.
-use mathlib.Core.Path.{sym, ◌∙◌}
-use native.Mathlib.Omega.{arith}
-use Rattle.base.proofs.All.{all_none, all_end, all_fails}
-use Rattle.rating.proofs.Loops.{all_passed, all_last}
-use Rattle.rules.specs.Rating.{minima_reached}
+use mathlib.Core.Path.{◌∙◌}
+use borrow.Author.Rules.{rules}
+use borrow.Author.Tests.{tests}
+use Rattle.std.proofs.lemmas.Iterator.Search.{all_from_yields_List}
+use Rattle.rules.specs.Rating.{years_reached, minima_reached}
+use Rattle.rating.proofs.Chains.{from_1, all_listed}
 use Rattle.rating.proofs.Treatment.minima_reached.Goals as goal
-
-pub loop-k-init : goal.loop-k-init
-loop-k-init c = all_none _
-
-pub returns-then-not-years_reached : goal.returns-then-not-years_reached
-unfolding minima_reached
-returns-then-not-years_reached c = sym (all_fails _ _ c.loop-k.k (omega arith) (omega arith) (sym c.years_reached.ensures ∙ c.if-not-years_reached.true))
-
-pub loop-k-preserved : goal.loop-k-preserved
-loop-k-preserved c = all_passed _ _ c.loop-k.auto.k c.loop-k.invariant (sym c.years_reached.ensures ∙ c.if-not-years_reached.false)
 
 pub returns : goal.returns
 unfolding minima_reached
-returns c = sym (all_end _ _ _ c.loop-k.invariant (omega arith) (omega arith))
-
-pub returns-else-not-years_reached : goal.returns-else-not-years_reached
-unfolding minima_reached
-returns-else-not-years_reached c = sym (all_last _ _ _ c.loop-k.auto.k c.loop-k.invariant (sym c.years_reached.ensures ∙ c.if-not-years_reached.false) (omega arith) (omega arith))
+returns c =
+    let s = c.args.self.now in
+    let test = years_reached s.district.now s.segment s.strategy in
+    let range = c.new.ensures in
+    all_from_yields_List test _ _ _ c.all.ensures.ran (from_1 range.start range.end range.exhausted) (λ x b q e. search (rules, tests)) ∙ all_listed _ test

@@ -1,0 +1,63 @@
+-- Chains over the numbers 1 to n: what `(1..=n)` yields, and what `all` over it says.
+use Prim.Native.Nat.{ℕ, zero, suc, ◌+◌, ◌-◌}
+use mathlib.Core.Path.{◌≡◌, refl, sym, ap, ◌∙◌}
+use mathlib.Core.Bool.{Bool, true, false, ◌&&◌, and-true, and_assoc}
+use native.Mathlib.Numerals.{add-one}
+use native.Mathlib.Omega.{arith}
+use Rattle.std.proofs.iter.runs.Sources.{nat_range_inclusive_steps}
+use Rattle.std.proofs.lemmas.Iterator.{YieldsList}
+use Rattle.std.specs.Iterator.{AlwaysYields}
+use Rattle.std.specs.List.{list_all, range_with_len}
+use Rattle.std.specs.Range.{range_inclusive_start, range_inclusive_end, range_inclusive_exhausted, range_inclusive_len}
+use Rattle.std.specs.declared.ops.RangeInclusive.{RangeInclusive}
+use Rattle.base.specs.Over.{all}
+
+-- ---- what the range yields
+
+-- how many numbers it has left
+left : RangeInclusive ℕ → ℕ
+left s = range_inclusive_len (λ x y. y - x) (range_inclusive_start s) (range_inclusive_end s) (range_inclusive_exhausted s)
+
+spent : (s : RangeInclusive ℕ) → range_inclusive_exhausted s ≡ true → left s ≡ 0
+unfolding left
+spent s e = ap (range_inclusive_len (λ x y. y - x) (range_inclusive_start s) (range_inclusive_end s)) e
+
+going : (s : RangeInclusive ℕ) (n : ℕ) → left s ≡ suc n → range_inclusive_exhausted s ≡ false
+going s n l = by (range_inclusive_exhausted s) refl
+  where
+    by : (t : Bool) → range_inclusive_exhausted s ≡ t → range_inclusive_exhausted s ≡ false
+    by true e = absurd (omega (arith, spent s e))
+    by false e = e
+
+yields : (n a : ℕ) (s : RangeInclusive ℕ) → left s ≡ n → (range_inclusive_exhausted s ≡ false → range_inclusive_start s ≡ a) → AlwaysYields nat_range_inclusive_steps (λ x. x) s (range_with_len a n)
+unfolding left
+yields zero a s l here = λ x j p. absurd (omega (arith, p.1.1))
+yields (suc n) a s l here =
+    let first = here (going s n l) in (
+      (λ j p. absurd (omega (arith, p.1.0))),
+      λ x j p. (p.1.0 ∙ first, yields n (a + 1) j (omega (arith, p.1.1)) (λ e. p.1.2 e ∙ ap (λ (k : ℕ). k + 1) first)),
+    )
+
+module _ {s : RangeInclusive ℕ} {n : ℕ} (from : range_inclusive_start s ≡ 1) (to : range_inclusive_end s ≡ n) (whole : range_inclusive_exhausted s ≡ false) where
+  pub from_1 : YieldsList nat_range_inclusive_steps (λ x. x) s (range_with_len 1 n)
+  unfolding left
+  from_1 = record { runs = yields n 1 s (rw (whole, from, to) (omega arith)) (λ e. from) }
+
+-- ---- all of them pass
+
+grown : (m : ℕ) (f : ℕ → Bool) → (all m f && f (m + 1)) ≡ all (m + 1) f
+unfolding all
+grown m f = rw add-one
+
+from_front : (n m : ℕ) (f : ℕ → Bool) → (all m f && list_all f (range_with_len (m + 1) n)) ≡ all (m + n) f
+from_front zero m f = let e : m + 0 ≡ m = omega arith in rw (and-true, e)
+from_front (suc n) m f =
+    let e : m + suc n ≡ m + 1 + n = omega arith in
+    rw e
+    (sym (and_assoc (all m f) (f (m + 1)) (list_all f (range_with_len (m + 1 + 1) n)))
+    ∙ ap (λ (t : Bool). t && list_all f (range_with_len (m + 1 + 1) n)) (grown m f)
+    ∙ from_front n (m + 1) f)
+
+pub all_listed : (n : ℕ) (f : ℕ → Bool) → list_all f (range_with_len 1 n) ≡ all n f
+unfolding all
+all_listed n f = let e : 0 + n ≡ n = omega arith in rw e at (from_front n 0 f)
