@@ -20,6 +20,7 @@ pub struct Queues {
 }
 
 // Before the first arrival; console 1 is first.
+#[tactic(auto, unfolding(rules::specs::Desks::fresh_queues))]
 pub fn fresh() -> Queues
     ensures { queues_in result ≡ fresh_queues }
 {
