@@ -23,14 +23,11 @@ fn answer(file: &[u8], out: &mut [u8]) -> usize
 }
 
 // What is printed for the first bytes of the input goes to the output.
+#[tactic(auto, using(base::proofs::Text::put_within))]
 fn run<R: Read, W: Write>(input: &mut R, output: &mut W) -> io::Result<()>
     ensures { OnOk result (Prints down_printed most_read (R.remaining input.old) (W.contents output.old) (W.contents output.new)) }
 {
-    let mut file = [0u8; MOST_READ];
-    let n = input::read_full(input, &mut file)?;
-    let mut out = [0u8; LONGEST_FILE];
-    let length = answer(&file[..n], &mut out);
-    output.write_all(&out[..length])
+    input::answered::<MOST_READ, LONGEST_FILE, _, _, _>(input, output, answer)
 }
 
 fn main(rt: HostRuntime) -> io::Result<()> {

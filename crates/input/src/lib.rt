@@ -1,12 +1,14 @@
-// Reading until there is no room left, or the input ends.
+// Reading until there is no room left, or the input ends, and a program that answers what it read.
 #![tactic(auto)]
 
-ghost use Rattle.std.specs.Prelude.{◌≡◌, ◌<◌, IfOk, IfSome, length, take};
+ghost use Rattle.std.specs.Prelude.{◌≡◌, ℕ, ◌<◌, ◌≤◌, ◌^◌, List, IfOk, OnOk, IfSome, length, take};
 ghost use Rattle.std.specs.Io.KnownBytes.{Consumes, IsAtEnd};
 ghost use Rattle.std.specs.Io.{ReadsAtMost};
+ghost use Rattle.base.specs.Text.{Put};
+ghost use Rattle.input.specs.Reading.{Prints};
 
 use std::io;
-use std::io::Read;
+use std::io::{Read, Write};
 
 // No more is read of a file.
 pub const MOST_READ: usize = 4096;
@@ -31,9 +33,29 @@ pub fn read_full<R: Read>(input: &mut R, space: &mut [u8]) -> io::Result<usize>
     Ok(done)
 }
 
+// What `answer` puts to the front of its buffer for the first bytes of the input goes to the output.
+pub fn answered<
+    const READ: usize,
+    const SPACE: usize,
+    R: Read,
+    W: Write,
+    F: Fn(&[u8], &mut [u8]) -> usize,
+>(input: &mut R, output: &mut W, answer: F) -> io::Result<()>
+    requires sizes { (READ < 2 ^ 63) × (SPACE < 2 ^ 63) }
+    requires callable { (file : _) (out : _) → length out.now ≡ SPACE → F.pre answer file out }
+    requires within { (file : _) (out : _) (n : ℕ) (after : _) → length after.now ≡ SPACE → F.post answer file out n after → n ≤ SPACE }
+    ensures { (print : List ℕ → List ℕ) → ((file : _) (out : _) (n : ℕ) (after : _) → length out.now ≡ SPACE → F.post answer file out n after → Put (print file.now) out.now after.now n) → OnOk result (Prints print READ (R.remaining input.old) (W.contents output.old) (W.contents output.new)) }
+{
+    let mut file = [0u8; READ];
+    let n = read_full(input, &mut file)?;
+    let mut out = [0u8; SPACE];
+    let length = answer(&file[..n], &mut out);
+    output.write_all(&out[..length])
+}
+
 #[cfg(test)]
 mod tests {
-    use super::read_full;
+    use super::{answered, read_full};
     use std::io;
     use std::io::{ErrorKind, Read};
     use std::test::Fail;
@@ -47,6 +69,27 @@ mod tests {
         assert_eq!(rt; read_full(&mut input, &mut space)?, 3);
         assert_eq!(rt; space, *b"efgd");
         assert_eq!(rt; read_full(&mut input, &mut space)?, 0);
+        Ok(())
+    }
+
+    // The first byte, or a dash.
+    fn first(file: &[u8], out: &mut [u8]) -> usize
+        requires { 1 ≤ length out.old }
+        ensures { result ≡ 1 }
+    {
+        out[0] = file.first().copied().unwrap_or(b'-');
+        1
+    }
+
+    #[test]
+    fn answers_what_it_read(rt: HostRuntime) -> Result<(), Fail> {
+        let mut input: &[u8] = b"abcdefg";
+        let mut space = [0u8; 4];
+        let mut output: &mut [u8] = &mut space;
+        answered::<4, 1, _, _, _>(&mut input, &mut output, first)?;
+        answered::<4, 1, _, _, _>(&mut input, &mut output, first)?;
+        answered::<4, 1, _, _, _>(&mut input, &mut output, first)?;
+        assert_eq!(rt; space, *b"ae-\0");
         Ok(())
     }
 

@@ -4,7 +4,6 @@ use Rattle.base.specs.Bytes.{bytes_of}
 use Rattle.rules.specs.Calls.{load_refusal, district_in}
 use Rattle.rules.specs.District.{District}
 use Rattle.rules.specs.File.{encode, longest_file}
-use Rattle.rules.specs.Answers.{Answer, Accepted, Refused}
 
 -- what stands before an exported file: 0, and its length in 4 bytes
 abbrev pub head_of : ℕ → List ℕ
@@ -18,11 +17,6 @@ framed file = head_of (length file) ++ file
 
 abbrev pub longest_framed : ℕ
 longest_framed = head_bytes + longest_file
-
--- the length that an export answers with
-unfoldable pub length_in : Answer → ℕ
-length_in (Accepted n) = n
-length_in (Refused n) = 0
 
 -- a refusal's number, or the file that the district is exported as
 unfoldable pub transcoded_as : ℕ → District → List ℕ

@@ -7,22 +7,22 @@ use Rattle.base.proofs.Text.{put_within, put_part}
 use Rattle.base.proofs.Text.{put_taken}
 use Rattle.transcode.proofs.Framed.{file_put}
 use Rattle.transcode.proofs.put_district.Goals as goal
-use Rattle.transcode.proofs.put_district.Goals.{After-length_in-n}
+use Rattle.transcode.proofs.put_district.Goals.{After-unwrap_or-n}
 
 -- the export has room, and puts the file
-filed : (c : After-length_in-n) → Put (encode c.args.d) (replicate longest_file 0) c.export.new.buffer c.length_in-n.result
+filed : (c : After-unwrap_or-n) → Put (encode c.args.d.now) (replicate longest_file 0) c.export.new.buffer c.unwrap_or-n.result
 filed c =
     let e = c.export in
-    file_put c.args.d (replicate longest_file 0) e.new.buffer e.result c.length_in-n.result (rw (length-replicate) c.requires.1) e.ensures c.length_in-n.ensures
+    rw c.unwrap_or-n.ensures (file_put c.args.d.now (replicate longest_file 0) e.new.buffer e.result (rw (length-replicate) c.requires.1) e.ensures)
 
 pub slice_bounds-file-end : goal.slice_bounds-file-end
-slice_bounds-file-end c = put_within (filed (goal.at.slice_bounds-file-end c).After-length_in-n)
+slice_bounds-file-end c = put_within (filed (goal.at.slice_bounds-file-end c).After-unwrap_or-n)
 
 pub slice_bounds-put_framed-end : goal.slice_bounds-put_framed-end
-slice_bounds-put_framed-end c = put_part (filed (goal.at.slice_bounds-put_framed-end c).After-length_in-n)
+slice_bounds-put_framed-end c = put_part (filed (goal.at.slice_bounds-put_framed-end c).After-unwrap_or-n)
 
 pub put_framed-requires : goal.put_framed-requires
-put_framed-requires c = rw (put_taken (filed (goal.at.put_framed-requires c).After-length_in-n)) (search rules)
+put_framed-requires c = rw (put_taken (filed (goal.at.put_framed-requires c).After-unwrap_or-n)) (search rules)
 
 pub returns : goal.returns
-returns c = rw (← put_taken (filed (goal.at.returns c).After-length_in-n)) c.put_framed.ensures
+returns c = rw (← put_taken (filed (goal.at.returns c).After-unwrap_or-n)) c.put_framed.ensures
