@@ -129,7 +129,7 @@ pub struct Treatment<'a> {
 impl<'a> Treatment<'a> {
     // ---- gain and survival
 
-    // The gain that the strategy has for distress k.
+    // The gain that the strategy has for distress k. Not by a cast to `i8`: the ranges do not say that the number fits a byte.
     fn own_gain(&self, k: usize) -> i64
         requires { Distress k }
         ensures { result ≡ gain_of self.now.district.now self.now.strategy k }

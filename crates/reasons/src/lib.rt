@@ -106,8 +106,9 @@ impl Question<'_, '_> {
         leader == 0 || 0 < self.programme[leader - 1]
     }
 
-    // ---- all of them, the first before the next. By `or`: of what a closure handed to `or_else` returned, the proof knows
-    // nothing, since it captures the question.
+    // ---- all of them, the first before the next
+
+    // By `or`, here and below: tried with `or_else`, of whose closures' results the proof was told nothing.
 
     // From the leader on: it has nothing, or a limit is passed.
     fn late_hindrance(&self) -> Option<Reason>
