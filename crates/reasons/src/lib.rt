@@ -25,7 +25,7 @@ struct Question<'d, 'c> {
 }
 
 impl Question<'_, '_> {
-    // ---- a minimum rating missed
+    // ---- a minimum rating missed. The searches are loops: tried with `find_map`, whose proof did not close.
 
     // The first year in which that of distress k is.
     fn missed_year(&self, k: usize) -> Option<Reason>
