@@ -1,10 +1,10 @@
 -- A load of office w: by its file's refusal, and where there is none by the tables that it brings.
-use Prim.Native.Nat.{ℕ, zero, suc}
-use mathlib.Core.Path.{◌≡◌, refl, ap, ◌∙◌}
+use Prim.Native.Nat.{ℕ, suc, ◌-◌}
+use mathlib.Core.Path.{◌≡◌, refl, sym, ap, ◌∙◌}
 use mathlib.Core.Bool.{true, false}
 use mathlib.Core.List.{List}
 use Rattle.rules.specs.District.{District, segments_of, shared_tables, same_tables}
-use Rattle.rules.specs.Answers.{tables_in_use, Accepted, Refused}
+use Rattle.rules.specs.Answers.{tables_in_use, number_of as refusal_number, Accepted, Refused}
 use Rattle.rules.specs.Calls.{load_refusal, district_in, unit_of}
 use Rattle.rules.specs.Lists.{Load, refusal_of}
 use Rattle.rules.specs.Offices.{OfficeCall, Plan, office_refusal, OfficeOutcome}
@@ -19,17 +19,21 @@ use Rattle.station.specs.declared.Station.{Station}
 use Rattle.station.proofs.Replies.{named_refused, plans}
 use Rattle.station.proofs.Units.{parts, unit_in}
 use Rattle.rules.specs.declared.Which.{Which}
+use Rattle.rules.specs.declared.refusals.Refusal.{Refusal}
+use Rattle.unit.proofs.Settled.{not_none}
 
 module _ (s : Station) (n : ℕ) (w : Which) (named : n ≡ number_of w) (file : List ℕ) where
   abbrev load : OfficeCall
   load = Plan (Load file)
 
   -- the file is refused
-  pub file_refused : (m : ℕ) → load_refusal file ≡ m → ¬ (m ≡ 0) → PlansBoth s n (Load file) (record { answer = Refused m; station = s })
+  pub file_refused :
+      (e : Refusal) → refusal_number e ≡ load_refusal file → PlansBoth s n (Load file) (record { answer = Refused (refusal_number e); station = s })
   unfolding refusal_beside office_refusal refusal_of
-  file_refused zero e some = absurd (some refl)
-  file_refused (suc m) e some =
-      named_refused s n w named (Load file) (suc m) ((every_station_answer (units_in s) load).refused w m (refusal_by w (units_in s) load ∙ rw e))
+  file_refused e is =
+      let some : load_refusal file ≡ suc (refusal_number e - 1) = sym is ∙ not_none e in
+      rw (not_none e)
+      (named_refused s n w named (Load file) _ ((every_station_answer (units_in s) load).refused w _ (refusal_by w (units_in s) load ∙ rw some)))
 
   module _ (d : District) (loads : load_refusal file ≡ 0) (back : district_in file ≡ d) where
     abbrev held : District

@@ -1,31 +1,29 @@
--- How a reply of an office, put back beside the other, is the station's, and how a call is refused.
+-- How a reply of an office, beside the other, is the station's, and how a call is refused.
 use Prim.Native.Nat.{ℕ, zero, suc}
 use mathlib.Core.Path.{◌≡◌, refl, sym, ap, ap₂, subst, ◌∙◌}
 use mathlib.Core.Bool.{false, true≢false}
 use mathlib.Core.List.{List}
-use native.Mathlib.Omega.{arith}
 use Rattle.rules.specs.District.{District}
 use Rattle.rules.specs.Answers.{no_such_office, answer_of, Answer, Accepted, Refused}
 use Rattle.rules.specs.Lists.{Call, outcome_of}
 use Rattle.rules.specs.Meter.{sent_refusal}
 use Rattle.rules.specs.Offices.{Held, OfficeCall, Plan, Send, lent_bytes, OfficeOutcome, office_outcome}
-use Rattle.rules.specs.Stations.{other, Both, own, together, number_of, StationCall, call_of, call_by, brings_tables, StationOutcome, beside, refused_all, station_outcome}
+use Rattle.rules.specs.Stations.{other, Both, own, together, number_of, office_of, StationCall, call_of, call_by, brings_tables, StationOutcome, beside, refused_all, station_outcome}
 use Rattle.rules.specs.declared.Sent.{Sent}
 use Rattle.rules.specs.declared.Unit.{Unit}
 use Rattle.meter.specs.declared.Window.{Window}
-use Rattle.office.specs.Kept.{Keeps, Sends}
+use Rattle.office.specs.Kept.{Keeps, OfficeReply, Plans, Sends}
 use Rattle.office.specs.declared.Office.{Office}
-use Rattle.office.specs.declared.OfficeReply.{OfficeReply}
 use Rattle.stations.proofs.Calls.{own_part, other_part, outcome_nobody}
 use Rattle.stations.proofs.EveryStationAnswer.{as_alone}
 use Rattle.stations.proofs.Lists.{each}
-use Rattle.station.specs.Kept.{is_office, office_in, KeepsBoth, RepliesTo, units_in, PlansBoth, Lends, SendsBoth}
+use Rattle.station.specs.Kept.{office_in, with_office, StationReply, KeepsBoth, RepliesTo, units_in, PlansBoth, Lends, SendsBoth}
 use Rattle.station.specs.declared.Station.{Station}
-use Rattle.station.specs.declared.StationReply.{StationReply}
-use Rattle.station.proofs.Numbers.{nobody_named, named_office, for_named}
+use Rattle.station.proofs.Numbers.{named_some, named_office, for_named}
 use Rattle.station.proofs.Units.{with_heard, outcome_heard, parts, unit_in, units_kept, planned_kept}
 use Rattle.rules.specs.declared.Which.{Which}
 use Rattle.rules.specs.declared.Which.TheVariants.{First, Second}
+use Rattle.std.specs.Prelude.{None}
 
 -- ---- from a station in any state to what both hold
 
@@ -60,20 +58,16 @@ module _ (s : Station) (n : ℕ) (c : Call) (answer : Answer) (bytes : List ℕ)
 
 -- ---- refusals
 
--- a refusal is no answer with a value
-pub refused_not : {A : Type 0} {n m : ℕ} → Refused n ≡ Accepted m → A
-refused_not e = let z : ◌≡◌ {A = ℕ} 0 1 = cc in absurd (omega arith)
-
 -- where the answer is a refusal, there was one
-refusal_in : {A : Type 0} (n value : ℕ) {m : ℕ} → answer_of n value ≡ Refused m → ((k : ℕ) → n ≡ suc k → A) → A
+if_refused : {A : Type 0} (n value : ℕ) {m : ℕ} → answer_of n value ≡ Refused m → ((k : ℕ) → n ≡ suc k → A) → A
 unfolding answer_of
-refusal_in zero value e f = refused_not (sym e)
-refusal_in (suc n) value e f = f n refl
+if_refused zero value e f = cc
+if_refused (suc n) value e f = f n refl
 
 -- a record of the meter: where it is refused the office stays
 sent_refused : (o : Office) (s : Sent) (r : OfficeReply) → Sends o s r → (m : ℕ) → r.answer ≡ Refused m → r.office ≡ o
 sent_refused o s r sends m refused =
-    refusal_in (sent_refusal s) 0 (sym sends.window.answer ∙ refused)
+    if_refused (sent_refusal s) 0 (sym sends.window.answer ∙ refused)
     (λ k f. ap₂ (λ (u : Unit) (w : Window). record { unit = u; window = w }) sends.unit (sends.window.refused k f))
 
 module _ (s : Station) (n : ℕ) (c : Call) where
@@ -88,21 +82,36 @@ module _ (s : Station) (n : ℕ) (c : Call) where
       }
 
   -- no office has the number
-  pub nobody_plans : is_office n ≡ false → PlansBoth s n c (record { answer = Refused no_such_office; station = s })
-  nobody_plans e = refused_plans no_such_office (outcome_nobody (units_in s) (call_of n (Plan c)) (nobody_named n e))
+  pub nobody_plans : office_of n ≡ None → PlansBoth s n c (record { answer = Refused no_such_office; station = s })
+  nobody_plans e = refused_plans no_such_office (outcome_nobody (units_in s) (call_of n (Plan c)) e)
 
 pub nobody_sends :
-    (s : Station) (n : ℕ) (sent : Sent) → is_office n ≡ false → SendsBoth s n sent (record { answer = Refused no_such_office; station = s })
+    (s : Station) (n : ℕ) (sent : Sent) → office_of n ≡ None → SendsBoth s n sent (record { answer = Refused no_such_office; station = s })
 nobody_sends s n sent nobody =
     record {
       reports =
           stays_replies s (call_of n (Send sent)) (Refused no_such_office) (lent_bytes (Send sent))
-          (λ b keeps. outcome_nobody b (call_of n (Send sent)) (nobody_named n nobody));
+          (λ b keeps. outcome_nobody b (call_of n (Send sent)) nobody);
       refused = λ m e. refl;
-      named = λ w e. absurd (true≢false (sym (named_office n w e) ∙ nobody));
+      named = λ w e. let some = named_some n w e in cc;
       untouched = λ w e. refl;
       nobody = λ e. refl;
     }
+
+-- ---- a station with another office
+
+pub own_office : (w : Which) (s : Station) (o : Office) → office_in w (with_office w s o) ≡ o
+own_office First s o = refl
+own_office Second s o = refl
+
+-- the office that is not changed
+pub other_office : (w : Which) (s : Station) (o : Office) → office_in (other w) (with_office w s o) ≡ office_in (other w) s
+other_office First s o = refl
+other_office Second s o = refl
+
+pub kept_office : (w : Which) (s : Station) (o : Office) → office_in w (with_office (other w) s o) ≡ office_in w s
+kept_office First s o = refl
+kept_office Second s o = refl
 
 -- a station is its two offices
 same_station : (w : Which) (s t : Station) → office_in w s ≡ office_in w t → office_in (other w) s ≡ office_in (other w) t → s ≡ t
@@ -139,41 +148,45 @@ module _ (s : Station) (n : ℕ) (w : Which) (named : n ≡ number_of w) where
 
     -- one that brings no other tables
     pub put_plans :
-        ((d : District) → brings_tables d (Plan c) ≡ false) → (r : StationReply) → r.answer ≡ (outcome_of (office_in w s).unit c).answer
-        → office_in w r.station ≡ record { unit = (outcome_of (office_in w s).unit c).unit; window = (office_in w s).window }
-        → office_in (other w) r.station ≡ office_in (other w) s → PlansBoth s n c r
+        (answer : Answer) (o : Office) → brings_tables (office_in w s).unit.district (Plan c) ≡ false
+        → Plans (office_in w s) c (record { answer = answer; office = o }) → PlansBoth s n c (record { answer = answer; station = with_office w s o })
     unfolding office_outcome
-    put_plans brings r a f g =
+    put_plans answer o brings p =
         let u = units_in s in
-        plans r (office_outcome (own w u) (Plan c)) (own (other w) u) (as_alone w u (Plan c) (brings (own w u).unit.district))
-        (a ∙ ap (λ (x : Unit). (outcome_of x c).answer) (unit_in w s))
-        (f ∙ ap (λ (x : Unit). record { unit = (outcome_of x c).unit; window = (office_in w s).window }) (unit_in w s))
-        (g ∙ parts (other w) s)
+        let same = unit_in w s in
+        plans (record { answer = answer; station = with_office w s o }) (office_outcome (own w u) (Plan c)) (own (other w) u)
+        (as_alone w u (Plan c) (rw same at brings))
+        (p.answer ∙ ap (λ (x : Unit). (outcome_of x c).answer) same)
+        (own_office w s o
+        ∙ ap₂ (λ (x : Unit) (y : Window). record { unit = x; window = y }) (p.unit ∙ ap (λ (x : Unit). (outcome_of x c).unit) same) p.window)
+        (other_office w s o ∙ parts (other w) s)
 
   -- a record of its meter
-  module _ (sent : Sent) (o : OfficeReply) (r : StationReply) (sends : Sends (office_in w s) sent o) (a : r.answer ≡ o.answer) where
-    reported : office_in w r.station ≡ o.office → office_in (other w) r.station ≡ office_in (other w) s → RepliesTo s (call_of n (Send sent)) r
+  module _ (sent : Sent) (answer : Answer) (o : Office) (sends : Sends (office_in w s) sent (record { answer = answer; office = o })) where
+    abbrev t : Station
+    t = with_office w s o
+
+    reported : RepliesTo s (call_of n (Send sent)) (record { answer = answer; station = t })
     unfolding brings_tables
-    reported f g b keeps =
+    reported b keeps =
         let h = sends.makes (own w b) (keeps w) in
         let x = office_outcome (own w b) (Send sent) in
         let p = own (other w) b in
         let out = by_name b (Send sent) (beside w p x) (as_alone w b (Send sent) refl) in
-        let kept : KeepsBoth r.station (together w x.held p) =
-        each (λ v. Keeps (office_in v r.station) (own v (together w x.held p))) w (rw (own_part, f) h.office) (rw (other_part, g) (keeps (other w))) in
+        let kept : KeepsBoth t (together w x.held p) =
+        each (λ v. Keeps (office_in v t) (own v (together w x.held p))) w (rw (own_part, own_office) h.office) (rw (other_part, other_office) (keeps (other w))) in
         record {
-          answer = a ∙ h.answer ∙ sym (ap (λ (y : StationOutcome). y.answer) out);
-          station = subst (λ (y : StationOutcome). KeepsBoth r.station y.held) (sym out) kept;
+          answer = h.answer ∙ sym (ap (λ (y : StationOutcome). y.answer) out);
+          station = subst (λ (y : StationOutcome). KeepsBoth t y.held) (sym out) kept;
         }
 
-    pub put_sends : office_in w r.station ≡ o.office → office_in (other w) r.station ≡ office_in (other w) s → SendsBoth s n sent r
-    put_sends f g =
+    pub put_sends : SendsBoth s n sent (record { answer = answer; station = t })
+    put_sends =
         record {
-          reports = reported f g;
-          refused = λ m e. same_station w r.station s (f ∙ sent_refused (office_in w s) sent o sends m (sym a ∙ e)) g;
-          named =
-              for_named (λ v. Sends (office_in v s) sent (record { answer = r.answer; office = office_in v r.station })) n w named
-              (rw (a, f) sends);
-          untouched = for_named (λ v. office_in (other v) r.station ≡ office_in (other v) s) n w named g;
+          reports = reported;
+          refused =
+              λ m e. same_station w t s (own_office w s o ∙ sent_refused (office_in w s) sent (record { answer = answer; office = o }) sends m e) (other_office w s o);
+          named = for_named (λ v. Sends (office_in v s) sent (record { answer = answer; office = office_in v t })) n w named (rw own_office sends);
+          untouched = for_named (λ v. office_in (other v) t ≡ office_in (other v) s) n w named (other_office w s o);
           nobody = λ e. absurd (true≢false (sym (named_office n w named) ∙ e));
         }

@@ -1,24 +1,19 @@
 -- What the offices of a station stand for: what both hold by rules, specs/Stations.antt.
-use Rattle.std.specs.Prelude.{ℕ, ◌≡◌, Bool, true, false, List}
-use Rattle.std.specs.Prelude.{Option, None, Some}
-use Rattle.rules.specs.Answers.{no_such_office, Answer, Refused}
+use Rattle.std.specs.Prelude.{ℕ, ◌≡◌, Bool, false, List, Result, is_some}
+use Rattle.rules.specs.Answers.{no_such_office, Answer, Refused, answer_in}
 use Rattle.rules.specs.Lists.{Call}
 use Rattle.rules.specs.Meter.{silence}
 use Rattle.rules.specs.Offices.{Held, Plan, Send}
 use Rattle.rules.specs.Stations.{other, Both, own, number_of, office_of, StationCall, call_of, station_outcome}
 use Rattle.rules.specs.declared.Sent.{Sent}
+use Rattle.rules.specs.declared.refusals.Refusal.{Refusal}
 use Rattle.office.specs.Kept.{Keeps, Sends}
 use Rattle.office.specs.declared.Office.{Office}
 use Rattle.station.specs.declared.Station.{Station}
-use Rattle.station.specs.declared.StationReply.{StationReply}
 use Rattle.rules.specs.declared.Which.{Which}
 use Rattle.rules.specs.declared.Which.TheVariants.{First, Second}
 
 -- ---- numbers
-
-abbrev pub is_some : Option Which → Bool
-is_some None = false
-is_some (Some w) = true
 
 -- an office has the number
 unfoldable pub is_office : ℕ → Bool
@@ -27,6 +22,19 @@ is_office n = is_some (office_of n)
 abbrev pub office_in : Which → Station → Office
 office_in First s = s.first
 office_in Second s = s.second
+
+-- the station with o as office w
+abbrev pub with_office : Which → Station → Office → Station
+with_office First s o = record s { first = o }
+with_office Second s o = record s { second = o }
+
+-- an answer and the station as the call leaves it
+pub record StationReply : Type 0 where
+  pub answer : Answer
+  pub station : Station
+
+abbrev pub reply : Result ℕ Refusal → Station → StationReply
+reply r s = record { answer = answer_in r; station = s }
 
 -- ---- what a station keeps
 

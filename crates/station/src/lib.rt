@@ -3,47 +3,28 @@
 #![tactic(auto)]
 
 ghost use Rattle.std.specs.Prelude.{List, [], ◌≡◌, ℕ};
+ghost use Rattle.std.specs.Borrow.{sem};
+ghost use Rattle.rules.specs.Answers.{answer_in};
 ghost use Rattle.rules.specs.Calls.{load_refusal, district_in, unit_of};
 ghost use Rattle.rules.specs.District.{shared_tables};
 ghost use Rattle.rules.specs.Lists.{Load, Alter, ExportTo, PageTo, Show, AskWhy};
 ghost use Rattle.rules.specs.Offices.{Held, AskRoughness};
 ghost use Rattle.rules.specs.StationDemands.{EveryStationAnswer, EveryStationFile, EveryStation, TablesAgree, LeavingOut};
 ghost use Rattle.rules.specs.Stations.{Both, other, number_of, office_of, fresh_both, call_of};
-ghost use Rattle.rules.specs.Answers.{Accepted, Refused};
 ghost use Rattle.stations.specs.EachOffice.{EachOffice};
-ghost use Rattle.station.specs.Kept.{is_office, office_in, KeepsBoth, RepliesTo, units_in, PlansBoth, Lends, KeepsNamed, SendsBoth};
-ghost use Rattle.station.specs.Questions.{shown_for, why_for, roughness_for, why_answer, roughness_answer};
-ghost use Rattle.rules.specs.declared.Which.{Which};
+ghost use Rattle.station.specs.Kept.{office_in, reply, KeepsBoth, RepliesTo, units_in, PlansBoth, Lends, KeepsNamed, SendsBoth};
+ghost use Rattle.station.specs.Lending.{LendsOffice};
+ghost use Rattle.station.specs.Questions.{shown_for, why_for, roughness_for, without_value};
 
-use office::{Office, OfficeReply};
+use office::Office;
 use rules::places::SEGMENT_COUNT;
-use rules::refusals::{NO_SUCH_OFFICE, TABLES_IN_USE};
-use rules::{Answer, District, Edit, Programme, Roughness, Sent, Unit, Why};
+use rules::{Answer, District, Edit, Programme, Reason, Refusal, Roughness, Sent, Unit, Which};
 
 #[derive(Clone, Copy)]
 pub struct Station {
     pub first: Office,
     pub second: Office,
 }
-
-// An answer and the station as the call leaves it.
-#[derive(Clone, Copy)]
-pub struct StationReply {
-    pub answer: Answer,
-    pub station: Station,
-}
-
-// The answer of a show and, where it is accepted, the programme; else one with nothing in it.
-#[derive(Clone, Copy)]
-pub struct Shown {
-    pub answer: Answer,
-    pub programme: Programme,
-}
-
-// The number of each office.
-const FIRST: usize = 1;
-
-const SECOND: usize = 2;
 
 // The station before the first call. The demands are stated of every call and every list of calls on it, for each office.
 pub fn fresh() -> Station
@@ -62,223 +43,135 @@ pub fn fresh() -> Station
     }
 }
 
-// Whether an office has the number.
-pub fn is_office(n: usize) -> bool
-    ensures { result ≡ is_office n }
+// The other of the two offices.
+fn other(w: Which) -> Which
+    ensures { result ≡ other w }
 {
-    if n == FIRST {
-        return true;
-    }
-    n == SECOND
-}
-
-// The office of that number.
-pub fn own(s: Station, n: usize) -> Office
-    ensures { (w : Which) → n ≡ number_of w → result ≡ office_in w s }
-{
-    if n == FIRST {
-        return s.first;
-    }
-    s.second
-}
-
-// The other office.
-fn beside(s: Station, n: usize) -> Office
-    ensures { (w : Which) → n ≡ number_of w → result ≡ office_in (other w) s }
-{
-    if n == FIRST {
-        return s.second;
-    }
-    s.first
-}
-
-// `o` as the office of that number, and `p` as the other.
-fn together(n: usize, o: Office, p: Office) -> Station
-    ensures { (w : Which) → n ≡ number_of w → (office_in w result ≡ o) × (office_in (other w) result ≡ p) }
-{
-    if n == FIRST {
-        return Station {
-            first: o,
-            second: p,
-        };
-    }
-    Station {
-        first: p,
-        second: o,
+    match w {
+        Which::First => Which::Second,
+        Which::Second => Which::First,
     }
 }
 
-fn refuse(s: Station, number: usize) -> StationReply
-    ensures { result ≡ record { answer = Refused number; station = s } }
+// The office of that name.
+pub fn own(s: &Station, w: Which) -> &Office
+    ensures { result.now ≡ office_in w s.now }
 {
-    StationReply {
-        answer: Answer::Refused(number),
-        station: s,
+    match w {
+        Which::First => &s.first,
+        Which::Second => &s.second,
     }
 }
 
-fn accept(s: Station) -> StationReply
-    ensures { result ≡ record { answer = Accepted 0; station = s } }
+// The same office, lent to a call that changes it.
+fn own_mut(s: &mut Station, w: Which) -> &mut Office
+    ensures* lends { sem 𝓛 (LendsOffice s.entry w result) }
+    ensures value { result.now ≡ office_in w s.old }
 {
-    StationReply {
-        answer: Answer::Accepted(0),
-        station: s,
+    match w {
+        Which::First => &mut s.first,
+        Which::Second => &mut s.second,
     }
-}
-
-// What a call of an office replied, put back beside the other.
-fn put_back(s: Station, n: usize, reply: OfficeReply) -> StationReply
-    ensures answers { result.answer ≡ reply.answer }
-    ensures offices { (w : Which) → n ≡ number_of w → (office_in w result.station ≡ reply.office) × (office_in (other w) result.station ≡ office_in (other w) s) }
-{
-    let answer = reply.answer;
-    let station = together(n, reply.office, beside(s, n));
-    StationReply { answer, station }
 }
 
 // ---- load
 
-// The district in place of the one held; the window stays.
-fn hold(o: Office, d: District) -> Office
-    ensures { result ≡ record { unit = unit_of d; window = o.window } }
+// A unit with the shared tables of the district, and nothing to plan.
+fn with_tables(d: &District) -> Unit
+    ensures { result ≡ unit_of (shared_tables d.now) }
 {
-    let window = o.window;
-    let unit = unit::hold(d);
-    Office { unit, window }
-}
-
-// The shared tables of the district in place of the one held, and nothing to plan; the window stays.
-fn with_tables(o: Office, d: District) -> Office
-    ensures { result ≡ record { unit = unit_of (shared_tables d); window = o.window } }
-{
-    let window = o.window;
-    let district = shared::shared_tables(d);
-    let programme = planner::no_programme();
-    Office {
-        unit: Unit {
-            district,
-            programme,
-        },
-        window,
+    Unit {
+        district: shared::shared_tables(d),
+        programme: planner::no_programme(),
     }
 }
 
-// A load whose file passed all its tests, and loads as `d`.
-fn bring(s: Station, n: usize, d: District) -> StationReply
-    ensures { (w : Which) (file : List ℕ) → n ≡ number_of w → load_refusal file ≡ 0 → district_in file ≡ d → PlansBoth s n (Load file) result }
+// A load whose file passed all its tests, and loads as `d`. Other tables come to the other office too, which must have no
+// segments.
+fn bring(s: &mut Station, w: Which, d: District) -> Answer
+    ensures { (file : List ℕ) → load_refusal file ≡ 0 → district_in file ≡ d → PlansBoth s.old (number_of w) (Load file) (reply result s.new) }
 {
-    let o = own(s, n);
-    let p = beside(s, n);
-    let held = o.unit.district;
-    if shared::same_tables(held, d) {
-        return accept(together(n, hold(o, d), p));
+    if !shared::same_tables(&own(s, w).unit.district, &d) {
+        if own(s, other(w)).unit.district[SEGMENT_COUNT] != 0 {
+            return Err(Refusal::TablesInUse);
+        }
+        own_mut(s, other(w)).unit = with_tables(&d);
     }
-    let others = p.unit.district;
-    if others[SEGMENT_COUNT] != 0 {
-        return refuse(s, TABLES_IN_USE);
-    }
-    accept(together(n, hold(o, d), with_tables(p, d)))
+    own_mut(s, w).unit = unit::hold(d);
+    Ok(0)
 }
 
-pub fn load(s: Station, n: usize, bytes: &[u8]) -> StationReply
-    ensures { PlansBoth s n (Load bytes.now) result }
+#[tactic(auto, using(crate::proofs::Numbers::naming, crate::proofs::Replies::nobody_plans))]
+pub fn load(s: &mut Station, n: usize, bytes: &[u8]) -> Answer
+    ensures { PlansBoth s.old n (Load bytes.now) (reply result s.new) }
 {
-    if !is_office(n) {
-        return refuse(s, NO_SUCH_OFFICE);
-    }
-    let loaded = file::load(bytes);
-    let refusal = loaded.refusal;
-    if refusal != 0 {
-        return refuse(s, refusal);
-    }
-    let d = loaded.district;
-    bring(s, n, d)
+    let w = Which::try_from(n)?;
+    let d = file::load(bytes)?;
+    bring(s, w, d)
 }
 
 // ---- the other calls
 
-pub fn alter(s: Station, n: usize, e: Edit) -> StationReply
-    ensures { PlansBoth s n (Alter e) result }
+#[tactic(auto, using(crate::proofs::Numbers::naming, crate::proofs::Replies::nobody_plans))]
+pub fn alter(s: &mut Station, n: usize, e: Edit) -> Answer
+    ensures { PlansBoth s.old n (Alter e) (reply result s.new) }
 {
-    if !is_office(n) {
-        return refuse(s, NO_SUCH_OFFICE);
-    }
-    let o = own(s, n);
-    let reply = unit::alter(o.unit, e);
-    put_back(s, n, office::planned(o, reply))
+    let w = Which::try_from(n)?;
+    office::alter(own_mut(s, w), e)
 }
 
 // A record of the office's meter is handed on.
-pub fn send(s: Station, n: usize, sent: Sent) -> StationReply
-    ensures { SendsBoth s n sent result }
+pub fn send(s: &mut Station, n: usize, sent: Sent) -> Answer
+    ensures { SendsBoth s.old n sent (reply result s.new) }
 {
-    if !is_office(n) {
-        return refuse(s, NO_SUCH_OFFICE);
-    }
-    let o = own(s, n);
-    put_back(s, n, office::send(o, sent))
+    let w = Which::try_from(n)?;
+    office::send(own_mut(s, w), sent)
 }
 
 // The file of the office's district, written to the front of the buffer.
-pub fn export(s: Station, n: usize, buffer: &mut [u8]) -> Answer
-    ensures { Lends s n (ExportTo buffer.old) result buffer.new }
+#[tactic(auto, using(crate::proofs::Questions::asking), unfolding(rules::specs::Offices::lent_bytes, rules::specs::Lists::lent_to))]
+pub fn export(s: &Station, n: usize, buffer: &mut [u8]) -> Answer
+    ensures { Lends s.now n (ExportTo buffer.old) (answer_in result) buffer.new }
 {
-    if !is_office(n) {
-        return Answer::Refused(NO_SUCH_OFFICE);
-    }
-    let o = own(s, n);
-    unit::export(o.unit, buffer)
+    let w = Which::try_from(n)?;
+    unit::export(&own(s, w).unit, buffer)
 }
 
 // The page of the office's district and programme, written to the front of the buffer.
-pub fn page(s: Station, n: usize, buffer: &mut [u8]) -> Answer
-    ensures { Lends s n (PageTo buffer.old) result buffer.new }
+#[tactic(auto, using(crate::proofs::Questions::asking), unfolding(rules::specs::Offices::lent_bytes, rules::specs::Lists::lent_to))]
+pub fn page(s: &Station, n: usize, buffer: &mut [u8]) -> Answer
+    ensures { Lends s.now n (PageTo buffer.old) (answer_in result) buffer.new }
 {
-    if !is_office(n) {
-        return Answer::Refused(NO_SUCH_OFFICE);
-    }
-    let o = own(s, n);
-    unit::page(o.unit, buffer)
+    let w = Which::try_from(n)?;
+    unit::page(&own(s, w).unit, buffer)
 }
 
 // The programme of the office, with totals, ceiling and counts.
-pub fn show(s: Station, n: usize) -> Shown
-    ensures tells { result ≡ shown_for (office_of n) (units_in s) }
-    ensures answers { Lends s n Show result.answer [] }
+#[tactic(auto, using(crate::proofs::Questions::asking), unfolding(crate::specs::Questions::shown_for, rules::specs::Calls::show_of))]
+pub fn show(s: &Station, n: usize) -> Result<Programme, Refusal>
+    ensures tells { answer_in result ≡ shown_for (office_of n) (units_in s.now) }
+    ensures answers { Lends s.now n Show (without_value (answer_in result)) [] }
 {
-    if !is_office(n) {
-        return Shown {
-            answer: Answer::Refused(NO_SUCH_OFFICE),
-            programme: planner::no_programme(),
-        };
-    }
-    let o = own(s, n);
-    Shown {
-        answer: Answer::Accepted(0),
-        programme: unit::show(o.unit),
-    }
+    let w = Which::try_from(n)?;
+    Ok(unit::show(&own(s, w).unit))
 }
 
 // Why a segment of the office has, or has not, a strategy.
-pub fn why(s: Station, n: usize, segment: usize, strategy: usize) -> Why
-    ensures tells { result ≡ why_for (office_of n) (units_in s) segment strategy }
-    ensures answers { Lends s n (AskWhy segment strategy) (why_answer result) [] }
+#[tactic(auto, using(crate::proofs::Questions::asking), unfolding(crate::specs::Questions::why_for))]
+pub fn why(s: &Station, n: usize, segment: usize, strategy: usize) -> Result<Reason, Refusal>
+    ensures tells { answer_in result ≡ why_for (office_of n) (units_in s.now) segment strategy }
+    ensures answers { Lends s.now n (AskWhy segment strategy) (without_value (answer_in result)) [] }
 {
-    if !is_office(n) {
-        return Why::Refused(NO_SUCH_OFFICE);
-    }
-    let o = own(s, n);
-    unit::why(o.unit, segment, strategy)
+    let w = Which::try_from(n)?;
+    unit::why(&own(s, w).unit, segment, strategy)
 }
 
 // The points for the office's window, and the last marker's bits.
-pub fn roughness(s: Station, n: usize) -> Roughness
-    ensures tells { (b : Both Held) → KeepsNamed s n b → result ≡ roughness_for (office_of n) b }
-    ensures answers { RepliesTo s (call_of n AskRoughness) (record { answer = roughness_answer result; station = s }) }
+#[tactic(auto, using(crate::proofs::Numbers::naming), unfolding(crate::specs::Questions::roughness_for))]
+pub fn roughness(s: &Station, n: usize) -> Result<Roughness, Refusal>
+    ensures tells { (b : Both Held) → KeepsNamed s.now n b → answer_in result ≡ roughness_for (office_of n) b }
+    ensures answers { RepliesTo s.now (call_of n AskRoughness) (record { answer = without_value (answer_in result); station = s.now }) }
 {
-    if !is_office(n) {
-        return Roughness::Refused(NO_SUCH_OFFICE);
-    }
-    let o = own(s, n);
-    office::roughness(o)
+    let w = Which::try_from(n)?;
+    office::roughness(own(s, w))
 }

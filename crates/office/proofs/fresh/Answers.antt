@@ -6,4 +6,4 @@ use Rattle.office.proofs.fresh.Goals as goal
 
 pub returns : goal.returns
 unfolding fresh_held
-returns c = record { start = record { unit = c.fresh-unit.ensures.start; window = c.start-window.ensures.start }; settled = every_office_answer; points = every_roughness; claim = every_office }
+returns c = record { start = record { unit = c.fresh.ensures.start; window = c.start.ensures.start }; settled = every_office_answer; points = every_roughness; claim = every_office }

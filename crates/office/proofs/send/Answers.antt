@@ -1,12 +1,12 @@
 -- `office::send` meets its contract.
-use mathlib.Core.Path.{refl}
+use Rattle.std.proofs.Common.{refl}
 use Rattle.rules.specs.Offices.{office_outcome}
 use Rattle.office.proofs.send.Goals as goal
 
 pub returns : goal.returns
 unfolding office_outcome
 returns c =
-    let heard = c.hear-stepped.ensures in
+    let heard = c.hear.ensures in
     record {
       unit = refl;
       window = heard;

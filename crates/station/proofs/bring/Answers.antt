@@ -1,42 +1,25 @@
 -- `station::bring` meets its contract.
-use mathlib.Core.Path.{sym, ◌∙◌}
+use mathlib.Core.Path.{refl}
 use Rattle.station.proofs.Loads.{brings_same, brings_other, brings_in_use}
+use Rattle.station.proofs.Replies.{own_office, other_office, kept_office}
 use Rattle.station.proofs.bring.Goals as goal
+use Rattle.station.proofs.bring.Goals.{then-not-same_tables+else-own-ne0, else-not-same_tables}
 
-pub returns-then-same_tables : goal.returns-then-same_tables
-returns-then-same_tables c =
-    let a = c.args in
-    λ w file named loads back.
-    let same = c.own-o.ensures w named in
-    let t = c.together.ensures w named in
-    rw c.accept.ensures
-    (brings_same a.s a.n w named file a.d loads back
-    (rw same at (sym c.same_tables.ensures ∙ c.if-same_tables.true))
-    c.together.result
-    (t.0 ∙ (rw same at c.hold.ensures))
-    (t.1 ∙ c.beside-p.ensures w named))
-
-pub returns-then-others-ne0 : goal.returns-then-others-ne0
-returns-then-others-ne0 c =
-    let a = c.args in
-    λ w file named loads back.
-    let same = c.own-o.ensures w named in
-    rw c.refuse.ensures
-    (brings_in_use a.s a.n w named file a.d loads back
-    (rw same at (sym c.same_tables.ensures ∙ c.if-same_tables.false))
-    (rw (c.beside-p.ensures w named) at c.if-others-ne0.true))
+pub returns-then-own-ne0 : goal.returns-then-own-ne0
+returns-then-own-ne0 c =
+    λ file loads back. brings_in_use c.args.s.now _ c.args.w refl file _ loads back (cc) (λ none. c.if-own-ne0.true (cc))
 
 pub returns : goal.returns
 returns c =
+    λ file loads back.
     let a = c.args in
-    λ w file named loads back.
-    let same = c.own-o.ensures w named in
-    let other = c.beside-p.ensures w named in
-    let t = c.together-2.ensures w named in
-    rw c.accept-2.ensures
-    (brings_other a.s a.n w named file a.d loads back
-    (rw same at (sym c.same_tables.ensures ∙ c.if-same_tables.false))
-    (rw other at c.if-others-ne0.false)
-    c.together-2.result
-    (t.0 ∙ (rw same at c.hold-2.ensures))
-    (t.1 ∙ (rw other at c.with_tables.ensures)))
+    elim c.if-not-same_tables.branch [
+      | then-not-same_tables+else-own-ne0 b ↦
+          brings_other a.s.now _ a.w refl file _ loads back (cc) (cc) _
+          (rw (own_office, c.hold.ensures, c.own_mut-2.ensures.value, b.s-is, b.other-then-not-same_tables.ensures, kept_office))
+          (rw (other_office, b.s-is, b.other-then-not-same_tables.ensures, own_office, b.with_tables.ensures, b.own_mut.ensures.value, b.other-then-not-same_tables.ensures))
+      | else-not-same_tables b ↦
+          brings_same a.s.now _ a.w refl file _ loads back (cc) _
+          (rw (own_office, c.hold.ensures, c.own_mut-2.ensures.value, b.s-is))
+          (rw (other_office, b.s-is))
+    ]

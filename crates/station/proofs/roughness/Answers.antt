@@ -1,27 +1,23 @@
 -- `station::roughness` meets its contract.
-use Rattle.rules.specs.Answers.{no_such_office, Refused}
 use Rattle.rules.specs.Stations.{own}
+use Rattle.std.proofs.lemmas.Result.{err_from_is_err_and}
 use Rattle.station.specs.Questions.{roughness_for}
-use Rattle.station.proofs.Numbers.{named_by, nobody_by, nobody_named, named_some}
-use Rattle.station.proofs.Questions.{roughness_settled}
+use Rattle.station.proofs.Numbers.{which_named, none_named, named_some}
+use Rattle.station.proofs.Questions.{roughness_answers}
 use Rattle.station.proofs.roughness.Goals as goal
 
-pub returns-then-not-is_office : goal.returns-then-not-is_office
+pub returns-in_err-w-clause-answers : goal.returns-in_err-w-clause-answers
 unfolding roughness_for
-returns-then-not-is_office c =
-    let a = c.args in
-    let nobody = nobody_named a.n (nobody_by a.n c.is_office.ensures c.if-not-is_office.true) in
-    let x = roughness_settled a.s a.n (Refused no_such_office) (λ b keeps. rw nobody) in
-    record { tells = x.0; answers = x.1 }
+returns-in_err-w-clause-answers c =
+    λ b keeps.
+    let p = err_from_is_err_and c.from_residual.result c.from_residual.ensures.1 in
+    let none = none_named c.args.n _ c.in_err-w.ensures in
+    roughness_answers _ _ _ b keeps (rw (p.1, p.2, none.1, none.0))
 
-pub returns : goal.returns
+pub returns-clause-answers : goal.returns-clause-answers
 unfolding roughness_for
-returns c =
-    let a = c.args in
-    let o = named_by a.n c.is_office.ensures c.if-not-is_office.false in
-    let x =
-    roughness_settled a.s a.n c.roughness.result
-    (λ b keeps.
-    rw (named_some a.n o.which o.number)
-    (c.roughness.ensures (own o.which b) (rw (c.own-o.ensures o.which o.number) (keeps o.which o.number)))) in
-    record { tells = x.0; answers = x.1 }
+returns-clause-answers c =
+    λ b keeps.
+    let w = c.in_ok-w.w in
+    roughness_answers _ c.args.n _ b keeps
+    (rw (named_some c.args.n w (which_named _ _ c.in_ok-w.ensures)) (c.roughness.ensures (own w b) (rw c.own.ensures (keeps w))))

@@ -1,17 +1,14 @@
 -- `station::send` meets its contract.
-use Rattle.station.proofs.Numbers.{named_by, nobody_by}
+use Rattle.std.proofs.lemmas.Result.{err_from_is_err_and}
+use Rattle.station.proofs.Numbers.{which_named, none_named}
 use Rattle.station.proofs.Replies.{nobody_sends, put_sends}
 use Rattle.station.proofs.send.Goals as goal
 
-pub returns-then-not-is_office : goal.returns-then-not-is_office
-returns-then-not-is_office c =
-    let a = c.args in
-    rw c.refuse.ensures (nobody_sends a.s a.n a.sent (nobody_by a.n c.is_office.ensures c.if-not-is_office.true))
+pub returns-in_err-w : goal.returns-in_err-w
+returns-in_err-w c =
+    let p = err_from_is_err_and c.from_residual.result c.from_residual.ensures.1 in
+    let none = none_named c.args.n _ c.in_err-w.ensures in
+    rw (p.1, p.2, none.1) (nobody_sends _ _ _ none.0)
 
 pub returns : goal.returns
-returns c =
-    let a = c.args in
-    let o = named_by a.n c.is_office.ensures c.if-not-is_office.false in
-    let offices = c.put_back.ensures.offices o.which o.number in
-    put_sends a.s a.n o.which o.number a.sent c.send.result _
-    (rw (c.own-o.ensures o.which o.number) at c.send.ensures) c.put_back.ensures.answers offices.0 offices.1
+returns c = put_sends _ _ _ (which_named _ _ c.in_ok-w.ensures) _ _ _ (rw c.own_mut.ensures.value at c.send.ensures)

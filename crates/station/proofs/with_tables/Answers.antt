@@ -5,4 +5,4 @@ use Rattle.station.proofs.with_tables.Goals as goal
 
 pub returns : goal.returns
 unfolding unit_of
-returns c = rw (c.shared_tables-district.ensures, c.no_programme-programme.ensures, tables_unplanned)
+returns c = rw (c.shared_tables.ensures, c.no_programme.ensures, tables_unplanned)

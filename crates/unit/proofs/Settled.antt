@@ -1,0 +1,23 @@
+-- How a call that changes the unit settles: refused, the unit stays as it was; accepted, it holds the new district.
+use Rattle.std.proofs.Common.{◌≡◌, ℕ, zero, suc, ◌-◌, refl, arith}
+use Rattle.file.proofs.Numbered.{numbered}
+use Rattle.rules.specs.Answers.{number_of, answer_of, accepting, answer_in, Accepted, Refused}
+use Rattle.rules.specs.Calls.{answered, unit_of}
+use Rattle.rules.specs.District.{District}
+use Rattle.rules.specs.declared.Unit.{Unit}
+use Rattle.rules.specs.declared.refusals.Refusal.{Refusal}
+
+-- a refusal's number is not 0
+pub not_none : (r : Refusal) → number_of r ≡ suc (number_of r - 1)
+not_none r = omega (arith, numbered r)
+
+pub refused : (u : Unit) (d : District) (n : ℕ) (e : Refusal) → number_of e ≡ n → record { answer = Refused (number_of e); unit = u } ≡ answered u n d
+unfolding answered answer_of accepting
+refused u d n e is = rw (← is, not_none e)
+
+pub accepted : (u : Unit) (d : District) (n : ℕ) → 0 ≡ n → record { answer = Accepted 0; unit = unit_of d } ≡ answered u n d
+unfolding answered answer_of accepting
+accepted u d n is = rw (← is)
+
+-- what the check takes for the calls that change the unit
+pub ruleset settled = (refused, accepted)
