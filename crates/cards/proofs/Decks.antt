@@ -1,75 +1,104 @@
--- Laws of a deck: one segment more, and what is then held.
-use Prim.Native.Nat.{ℕ, ◌+◌, ◌<◌}
-use mathlib.Core.List.{List, ◌++◌}
-use mathlib.Core.Path.{◌≡◌, sym, ap, ◌∙◌}
-use native.Mathlib.Numerals.{add-one}
-use native.Mathlib.Omega.{arith}
-use lib.ListN.{drop, set}
+-- Laws of a deck: what is first refused, and one segment more.
+use Rattle.std.proofs.Common.{ℕ, zero, suc, ◌≡◌, ◌+◌, ◌≤◌, ◌<◌, true, false, List, [], ◌∷◌, ◌++◌, refl, sym, ap, ◌∙◌, lit≤, add-one, arith}
+use Rattle.base.proofs.Sums.{up_to}
+use Rattle.base.proofs.Listed.{listed_append}
 use Rattle.base.specs.Over.{listed_from}
-use Rattle.base.proofs.Listed.{fill_next}
-use Rattle.rules.specs.Answers.{first_refusal}
-use Rattle.rules.specs.Deck.{no_counts, rows_before_counts, rows_before_segment, numbers_on, line_at, card_refusal, title_refusal, counts_refusal, counts_in, segment_refusal, segment_in, deck_refusal}
+use Rattle.rules.specs.Answers.{number_of, wrong_line, or_later, first_refusal}
+use Rattle.rules.specs.Deck.{no_counts, rows_before_counts, rows_before_segment, numbers_on, line_at, is_line, card_refusal, title_refusal, counts_refusal, counts_in, segment_refusal, segment_in, deck_refusal}
 use Rattle.rules.specs.District.{most_segments, segments_of}
-use Rattle.cards.specs.Cards.{refused_deck, card_from, no_segments, segment_of, segments_from, deck_from}
-use Rattle.cards.specs.declared.Card.{Card}
-use Rattle.cards.specs.declared.Deck.{Deck}
-use Rattle.cards.specs.declared.Segment.{Segment}
-use Rattle.cards.proofs.Refusals.{first_later, none_next, first_is, deck_refused, card_refusal_lem, card_numbers}
+use Rattle.cards.proofs.Ranges.{segments_few}
+use Rattle.rules.specs.declared.refusals.Refusal.{Refusal}
+use Rattle.rules.specs.declared.refusals.Refusal.TheVariants.{CutShort, OtherKind, OtherLength, OutOfRange, BytesFollow, NoSuchSegment, NoSuchNumber, NewOutOfRange, BufferTooShort, NoSuchPoints, NoRoomForPage, NoReading, WindowEmpty, LeaderNotBelow, LeaderSet, NoSuchOffice, TablesInUse, WrongField, WrongLine, NoSuchConsole, QueueFull}
 
-refused_is : (deck : List ℕ) {n m : ℕ} {r : Deck} → r ≡ refused_deck n → ¬ (n ≡ 0) → m ≡ n → r ≡ deck_from m deck
-refused_is deck {n} e z f = rw f (e ∙ sym (deck_refused n deck z))
+-- a refusal has a number of 1 at least: 0 is none
+pub numbered : (r : Refusal) → 1 ≤ number_of r
+numbered CutShort = lit≤ tt
+numbered OtherKind = lit≤ tt
+numbered OtherLength = lit≤ tt
+numbered OutOfRange = lit≤ tt
+numbered BytesFollow = lit≤ tt
+numbered NoSuchSegment = lit≤ tt
+numbered NoSuchNumber = lit≤ tt
+numbered NewOutOfRange = lit≤ tt
+numbered BufferTooShort = lit≤ tt
+numbered NoSuchPoints = lit≤ tt
+numbered NoRoomForPage = lit≤ tt
+numbered NoReading = lit≤ tt
+numbered WindowEmpty = lit≤ tt
+numbered LeaderNotBelow = lit≤ tt
+numbered LeaderSet = lit≤ tt
+numbered NoSuchOffice = lit≤ tt
+numbered TablesInUse = lit≤ tt
+numbered WrongField = lit≤ tt
+numbered WrongLine = lit≤ tt
+numbered NoSuchConsole = lit≤ tt
+numbered QueueFull = lit≤ tt
 
--- ---- segments
+-- ---- the first refusal
 
-module _ (deck : List ℕ) (i : ℕ) {counts line : List ℕ} {card : Card} (ec : counts ≡ counts_in deck) (el : line ≡ line_at deck (i + 2)) (f : card ≡ card_from (card_refusal counts line rows_before_segment) (numbers_on counts line rows_before_segment)) where
-  segment_card : card ≡ card_from (segment_refusal deck (i + 1)) (segment_in deck (i + 1))
-  unfolding segment_refusal segment_in
-  segment_card = let q : i + 2 ≡ i + 1 + 1 = omega arith in rw (ec, el, q) at f
+later_first : (x later : ℕ) → 1 ≤ x → or_later x later ≡ x
+later_first zero later h = absurd (omega arith)
+later_first (suc x) later h = refl
 
-  refusal_is : card.refusal ≡ segment_refusal deck (i + 1)
-  refusal_is = ap (λ (x : Card). x.refusal) segment_card ∙ card_refusal_lem (segment_refusal deck (i + 1)) (segment_in deck (i + 1))
+none_next : (n : ℕ) (f : ℕ → ℕ) → first_refusal n f ≡ 0 → f (n + 1) ≡ 0 → first_refusal (n + 1) f ≡ 0
+unfolding first_refusal
+none_next n f e h = rw (add-one, e) (rw add-one at h)
 
-  pub segment_refused : {n : ℕ} {r : Deck} → i < n → first_refusal i (segment_refusal deck) ≡ 0 → ¬ (card.refusal ≡ 0) → r ≡ refused_deck card.refusal → r ≡ deck_from (first_refusal n (segment_refusal deck)) deck
-  segment_refused {n} l none z e = refused_is deck e z (first_is n i (segment_refusal deck) (omega arith) none (rw add-one at (sym refusal_is)) z)
+first_is : (n k : ℕ) (f : ℕ → ℕ) (x : ℕ) → suc k ≤ n → first_refusal k f ≡ 0 → f (suc k) ≡ x → 1 ≤ x → first_refusal n f ≡ x
+unfolding first_refusal
+first_is zero k f x l e h z = absurd (omega arith)
+first_is (suc n) k f x l e h z =
+    up_to l
+    (λ q. let same : k ≡ n = omega arith in rw (← same, e) h)
+    (λ u. rw (first_is n k f x u e h z) (later_first x (f (suc n)) z))
 
-  pub segment_good : first_refusal i (segment_refusal deck) ≡ 0 → card.refusal ≡ 0 → first_refusal (i + 1) (segment_refusal deck) ≡ 0
-  segment_good none z = none_next i (segment_refusal deck) none (sym refusal_is ∙ z)
+-- ---- a deck, card by card
 
-  pub segment_stored : {segments : List Segment} → i < most_segments → card.refusal ≡ 0 → segments ≡ listed_from i 1 (segment_of deck) ++ drop i (no_segments)
-      → set segments i (record { 0 = card.numbers }) ≡ listed_from (i + 1) 1 (segment_of deck) ++ drop (i + 1) (no_segments)
-  unfolding segment_of
-  segment_stored {segments} l z e =
-      let numbers : card.numbers ≡ segment_in deck (i + 1) = ap (λ (x : Card). x.numbers) segment_card ∙ card_numbers (segment_refusal deck (i + 1)) (segment_in deck (i + 1)) (sym refusal_is ∙ z) in
-      let q : i + 1 ≡ 1 + i = omega arith in
-      let same : record { 0 = card.numbers } ≡ segment_of deck (1 + i) = rw (numbers, q) in
-      ap (λ (l : List Segment). set l i (record { 0 = card.numbers })) e ∙ fill_next (segment_of deck) i 1 (no_segments) l same
+module _ (deck : List ℕ) where
+  pub title_bad : is_line (line_at deck 0) ≡ false → wrong_line ≡ deck_refusal deck
+  unfolding deck_refusal title_refusal
+  title_bad e = rw e
 
-pub deck_good : (deck : List ℕ) {counts : List ℕ} {segments : List Segment} {n : ℕ} → counts ≡ counts_in deck → n ≡ 0 → segments ≡ segments_from (segments_of counts) deck
-    → record { refusal = 0; counts = counts; segments = segments } ≡ deck_from n deck
-unfolding deck_from
-deck_good deck ec z es = rw (z, es, ec)
+  pub none_yet : first_refusal 0 (segment_refusal deck) ≡ 0
+  unfolding first_refusal
+  none_yet = refl
 
--- ---- the whole
+  module _ (title : is_line (line_at deck 0) ≡ true) where
+    pub counts_bad : (n : ℕ) → 1 ≤ n → n ≡ card_refusal no_counts (line_at deck 1) rows_before_counts → n ≡ deck_refusal deck
+    unfolding deck_refusal title_refusal counts_refusal
+    counts_bad n l e = rw (title, ← e) (sym (later_first n _ l))
 
-pub title_refused : (deck : List ℕ) {n : ℕ} {r : Deck} → n ≡ title_refusal deck → ¬ (n ≡ 0) → r ≡ refused_deck n → r ≡ deck_from (deck_refusal deck) deck
-unfolding deck_refusal
-title_refused deck e z f = refused_is deck f z (first_later (title_refusal deck) _ e z)
+    module _ (good : 0 ≡ card_refusal no_counts (line_at deck 1) rows_before_counts) where
+      deck_is : deck_refusal deck ≡ first_refusal (segments_of (counts_in deck)) (segment_refusal deck)
+      unfolding deck_refusal title_refusal counts_refusal
+      deck_is = rw (title, ← good)
 
-module _ (deck : List ℕ) {n : ℕ} {line : List ℕ} {card : Card} (et : n ≡ title_refusal deck) (z : n ≡ 0) (el : line ≡ line_at deck 1) (f : card ≡ card_from (card_refusal no_counts line rows_before_counts) (numbers_on no_counts line rows_before_counts)) where
-  counts_card : card ≡ card_from (counts_refusal deck) (counts_in deck)
-  unfolding counts_refusal counts_in
-  counts_card = rw el at f
+      pub segment_bad : (i n : ℕ) → i < segments_of (counts_in deck) → first_refusal i (segment_refusal deck) ≡ 0 → 1 ≤ n → n ≡ segment_refusal deck (i + 1) → n ≡ deck_refusal deck
+      segment_bad i n h none l e =
+          sym (deck_is ∙ first_is (segments_of (counts_in deck)) i (segment_refusal deck) n h none (rw add-one at (sym e)) l)
 
-  refusal_counts : card.refusal ≡ counts_refusal deck
-  refusal_counts = ap (λ (x : Card). x.refusal) counts_card ∙ card_refusal_lem (counts_refusal deck) (counts_in deck)
+      pub all_good : first_refusal (segments_of (counts_in deck)) (segment_refusal deck) ≡ 0 → 0 ≡ deck_refusal deck
+      all_good none = sym (deck_is ∙ none)
 
-  pub counts_refused : {r : Deck} → ¬ (card.refusal ≡ 0) → r ≡ refused_deck card.refusal → r ≡ deck_from (deck_refusal deck) deck
-  unfolding deck_refusal
-  counts_refused k e = refused_is deck e k (rw (sym et ∙ z) (first_later (counts_refusal deck) _ refusal_counts k))
+  pub counts_are : {counts : List ℕ} → counts ≡ numbers_on no_counts (line_at deck 1) rows_before_counts → counts ≡ counts_in deck
+  unfolding counts_in
+  counts_are e = e
 
-  pub counts_read : card.refusal ≡ 0 → card.numbers ≡ counts_in deck
-  counts_read k = ap (λ (x : Card). x.numbers) counts_card ∙ card_numbers (counts_refusal deck) (counts_in deck) (sym refusal_counts ∙ k)
+  -- a segment's card, on its line
+  module _ (i : ℕ) {counts : List ℕ} (e : counts ≡ counts_in deck) where
+    pub within : i < segments_of counts → i < most_segments
+    within h = omega (arith, segments_few deck, ap segments_of e)
 
-  pub segments_decide : {counts : List ℕ} {r : Deck} → card.refusal ≡ 0 → counts ≡ counts_in deck → r ≡ deck_from (first_refusal (segments_of counts) (segment_refusal deck)) deck → r ≡ deck_from (deck_refusal deck) deck
-  unfolding deck_refusal
-  segments_decide k e g = rw (sym et ∙ z, sym refusal_counts ∙ k, ← e) g
+    pub segment_refused : card_refusal counts (line_at deck (i + 2)) rows_before_segment ≡ segment_refusal deck (i + 1)
+    unfolding segment_refusal
+    segment_refused = let q : i + 2 ≡ i + 1 + 1 = omega arith in rw (e, q)
+
+    pub segment_good : first_refusal i (segment_refusal deck) ≡ 0 → 0 ≡ card_refusal counts (line_at deck (i + 2)) rows_before_segment → first_refusal (i + 1) (segment_refusal deck) ≡ 0
+    segment_good none good = none_next i (segment_refusal deck) none (sym segment_refused ∙ sym good)
+
+    pub segment_held : {held next : List (List ℕ)} (numbers : List ℕ) → held ≡ listed_from i 1 (segment_in deck) → next ≡ held ++ numbers ∷ [] → numbers ≡ numbers_on counts (line_at deck (i + 2)) rows_before_segment
+        → next ≡ listed_from (i + 1) 1 (segment_in deck)
+    unfolding segment_in listed_from
+    segment_held numbers h n f =
+        let q : i + 2 ≡ 1 + i + 1 = omega arith in
+        n ∙ rw (h, f, e, q) (listed_append (segment_in deck) i 1 1)

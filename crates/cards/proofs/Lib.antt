@@ -1,6 +1,5 @@
-pub mod Ranges
-pub mod Refusals
-pub mod Written
-pub mod Cards
 pub mod Decks
+pub mod Numbers
+pub mod Ranges
+pub mod Written
 pub mod Unread

@@ -1,52 +1,34 @@
--- What the code's answers hold.
-use Rattle.std.specs.Prelude.{ℕ, zero, suc, ◌+◌, ◌≤◌, ◌<◌, List, ◌++◌, ◌≡◌, drop, replicate}
+-- What the code's answers stand for.
+use Rattle.std.specs.Prelude.{ℕ, ◌+◌, ◌≡◌, List}
 use Rattle.base.specs.Over.{listed}
-use Rattle.rules.specs.Deck.{per_card, counts_in, segment_in, Columns}
-use Rattle.rules.specs.District.{most_segments, bars_at, segments_of}
+use Rattle.rules.specs.Deck.{rows_before_counts, rows_before_segment, counts_in, segment_in}
+use Rattle.rules.specs.Deck as Rules
+use Rattle.rules.specs.District.{most_segments, segments_of}
 use Rattle.rules.specs.Format.{plain_form}
-use Rattle.cards.specs.declared.Card.{Card}
-use Rattle.cards.specs.declared.Segment.{Segment}
+use Rattle.cards.specs.declared.columns.Card.{Card}
+use Rattle.cards.specs.declared.columns.Card.TheVariants.{Counts, Segment}
+use Rattle.cards.specs.declared.columns.Columns.{Columns}
 use Rattle.cards.specs.declared.Deck.{Deck}
-
--- columns of the layout: the first is at least 1; their number is a count, or one of a segment, and stands before a segment's bars
-pub record Placed (c : Columns) : Type 0 where
-  pub first : 1 ≤ c.0
-  pub kind : ¬ (c.3 ≡ plain_form) → c.3 ≡ 6
-  pub place : c.4 < bars_at
 
 -- title, counts and segments
 abbrev pub most_lines : ℕ
 most_lines = most_segments + 2
 
--- beside a refusal there are zeros
-abbrev pub no_numbers : List ℕ
-no_numbers = replicate per_card 0
+-- the rows of the layout that stand before those of a card
+abbrev pub rows_before : Card → ℕ
+rows_before Counts = rows_before_counts
+rows_before Segment = rows_before_segment
 
-abbrev pub no_segment : Segment
-no_segment = record { 0 = no_numbers }
+-- the kind of the file's record that a card's numbers are of
+abbrev pub kind_of : Card → ℕ
+kind_of Counts = plain_form
+kind_of Segment = 6
 
-abbrev pub no_segments : List Segment
-no_segments = replicate most_segments no_segment
+-- a row of the layout
+abbrev pub columns_in : Card → Columns → Rules.Columns
+columns_in card c = record { first = c.first; last = c.last; notation = c.notation; kind = kind_of card; place = c.place }
 
-abbrev pub refused_card : ℕ → Card
-refused_card n = record { refusal = n; numbers = no_numbers }
-
-abbrev pub refused_deck : ℕ → Deck
-refused_deck n = record { refusal = n; counts = no_numbers; segments = no_segments }
-
--- the numbers of a card where nothing refuses it
-unfoldable pub card_from : ℕ → List ℕ → Card
-card_from zero numbers = record { refusal = 0; numbers = numbers }
-card_from (suc n) numbers = refused_card (suc n)
-
-unfoldable pub segment_of : List ℕ → ℕ → Segment
-segment_of deck i = record { 0 = segment_in deck i }
-
--- a place for each of the most segments; zeros for those that the deck does not have
-unfoldable pub segments_from : ℕ → List ℕ → List Segment
-segments_from n deck = listed n (segment_of deck) ++ drop n no_segments
-
--- the deck where nothing refuses it
-unfoldable pub deck_from : ℕ → List ℕ → Deck
-deck_from zero deck = record { refusal = 0; counts = counts_in deck; segments = segments_from (segments_of (counts_in deck)) deck }
-deck_from (suc n) deck = refused_deck (suc n)
+-- what is held of a deck that nothing refuses: its counts, and the numbers of each of its segments
+pub record Says (deck : List ℕ) (d : Deck) : Type 0 where
+  pub counts : d.counts ≡ counts_in deck
+  pub segments : d.segments.items ≡ listed (segments_of (counts_in deck)) (segment_in deck)

@@ -3,8 +3,7 @@ use Prim.Native.Nat.{ℕ, zero, suc, ◌+◌, ◌-◌, ◌*◌, ◌≤◌, ◌<�
 use mathlib.Core.List.{List, [], ◌∷◌, ◌++◌}
 use mathlib.Core.Path.{◌≡◌, refl, sym, ap, ◌∙◌}
 use native.Mathlib.Omega.{arith}
-use lib.ListN.{length, get_or, take, drop, length-append, drop_of_length-le, get_or-append}
-use Rattle.base.specs.Over.{listed_from}
+use lib.ListN.{length, get_or, take, drop, length-append, drop_of_length-le}
 use Rattle.base.specs.Text.{text, most_digits, decimal}
 use Rattle.base.proofs.Listed.{listed_length, listed_entry}
 use Rattle.base.proofs.Same.{drop_next}
@@ -14,9 +13,11 @@ use Rattle.rules.specs.District.{most_segments, segments_of}
 use Rattle.listing.specs.Listing.{named, lines_from, refusal, or_refusal}
 use Rattle.listing.proofs.Lengths.{named_few}
 use Rattle.listing.proofs.Lines.{lines_few, lines_alike}
-use Rattle.cards.specs.Cards.{no_segments, segment_of, segments_from, deck_from}
+use Rattle.rules.specs.Answers.{number_of}
+use Rattle.rules.specs.declared.refusals.Refusal.{Refusal}
+use Rattle.cards.specs.Cards.{Says}
 use Rattle.cards.specs.declared.Deck.{Deck}
-use Rattle.cards.specs.declared.Segment.{Segment}
+use Rattle.cards.proofs.Decks.{numbered}
 use Rattle.cards.proofs.Ranges.{segments_few}
 use Rattle.cards.proofs.Unread.{counts_kept, segment_kept, deck_kept}
 use Rattle.deck.specs.Printed.{numbers_line, counts_line, segment_line, card_lines, printed, NotRead, numbers_at, held_lines, longest_numbers_line, longest_printed}
@@ -65,27 +66,6 @@ cards_few deck =
       segments_few deck,
     )
 
--- ---- what the code holds
-
-deck_refusal_lem : (n : ℕ) (deck : List ℕ) → (deck_from n deck).refusal ≡ n
-unfolding deck_from
-deck_refusal_lem zero deck = refl
-deck_refusal_lem (suc n) deck = refl
-
-deck_counts : (n : ℕ) (deck : List ℕ) → n ≡ 0 → (deck_from n deck).counts ≡ counts_in deck
-unfolding deck_from
-deck_counts n deck z = rw z
-
-held_numbers : (n : ℕ) (deck : List ℕ) (k : ℕ) → 1 ≤ k → k < 1 + n → numbers_at (segments_from n deck) k ≡ segment_in deck k
-unfolding segments_from segment_of
-held_numbers n deck k l h =
-    let q : 1 + (k - 1) ≡ k = omega arith in
-    let len = listed_length (segment_of deck) n 1 in
-    ap (λ (s : Segment). s.0)
-    (get_or-append (listed_from n 1 (segment_of deck)) (drop n no_segments) (record { 0 = [] }) (k - 1) (omega (arith, len))
-    ∙ listed_entry n 1 (k - 1) (segment_of deck) (record { 0 = [] }) (omega arith)
-    ∙ ap (segment_of deck) q)
-
 -- where each segment's numbers are the same
 cards_alike : (counts : List ℕ) (f g : ℕ → List ℕ) → ((k : ℕ) → 1 ≤ k → k < 1 + segments_of counts → f k ≡ g k) → card_lines counts f ≡ card_lines counts g
 unfolding card_lines segment_line
@@ -93,38 +73,36 @@ cards_alike counts f g h =
     ap (λ (l : List ℕ). counts_line counts ++ l)
     (lines_alike (segments_of counts) 1 (segment_line f) (segment_line g) (λ k l u. ap (λ (ns : List ℕ). decimal k ++ numbers_line ns) (h k l u)))
 
-held_lines_lem : (deck : List ℕ) (n : ℕ) → n ≡ 0 → held_lines (deck_from n deck) ≡ card_lines (counts_in deck) (segment_in deck)
-unfolding deck_from
-held_lines_lem deck n z =
-    let m = segments_of (counts_in deck) in
-    rw z (cards_alike (counts_in deck) (numbers_at (segments_from m deck)) (segment_in deck) (λ k l u. held_numbers m deck k l u))
+-- ---- what the code holds
 
-refused_is : (n : ℕ) (bytes : List ℕ) → ¬ (n ≡ 0) → or_refusal n bytes ≡ refusal n
+module _ (deck : List ℕ) {d : Deck} (h : Says deck d) where
+  numbers_held : (k : ℕ) → 1 ≤ k → k < 1 + segments_of (counts_in deck) → numbers_at d.segments.items k ≡ segment_in deck k
+  numbers_held k l u =
+      let q : 1 + (k - 1) ≡ k = omega arith in
+      ap (λ s. get_or s (k - 1) []) h.segments ∙ listed_entry (segments_of (counts_in deck)) 1 (k - 1) (segment_in deck) [] (omega arith) ∙ ap (segment_in deck) q
+
+  many : length d.segments.items ≡ segments_of (counts_in deck)
+  many = ap length h.segments ∙ listed_length (segment_in deck) (segments_of (counts_in deck)) 1
+
+  lines_are : held_lines d ≡ card_lines (counts_in deck) (segment_in deck)
+  unfolding card_lines
+  lines_are = rw (h.counts, many) (cards_alike (counts_in deck) (numbers_at d.segments.items) (segment_in deck) numbers_held)
+
+  pub printed_cards : 0 ≡ deck_refusal deck → printed deck ≡ held_lines d
+  unfolding printed or_refusal
+  printed_cards e = rw (← e) (sym lines_are)
+
+  pub cards_fit : length (held_lines d) ≤ longest_printed
+  cards_fit = rw lines_are (cards_few deck)
+
+refused_is : (n : ℕ) (bytes : List ℕ) → 1 ≤ n → or_refusal n bytes ≡ refusal n
 unfolding or_refusal
-refused_is zero bytes h = absurd (h refl)
+refused_is zero bytes h = absurd (omega arith)
 refused_is (suc n) bytes h = refl
 
-module _ (deck : List ℕ) {d : Deck} (e : d ≡ deck_from (deck_refusal deck) deck) where
-  same_refusal : d.refusal ≡ deck_refusal deck
-  same_refusal = ap (λ (x : Deck). x.refusal) e ∙ deck_refusal_lem (deck_refusal deck) deck
-
-  pub printed_refused : ¬ (d.refusal ≡ 0) → printed deck ≡ refusal d.refusal
-  unfolding printed
-  printed_refused h = rw (← same_refusal) (refused_is d.refusal _ h)
-
-  module _ (z : d.refusal ≡ 0) where
-    lines_are : held_lines d ≡ card_lines (counts_in deck) (segment_in deck)
-    lines_are = ap held_lines e ∙ held_lines_lem deck (deck_refusal deck) (sym same_refusal ∙ z)
-
-    pub printed_cards : printed deck ≡ held_lines d
-    unfolding printed or_refusal
-    printed_cards = rw (sym same_refusal ∙ z) (sym lines_are)
-
-    pub cards_fit : length (held_lines d) ≤ longest_printed
-    cards_fit = rw lines_are (cards_few deck)
-
-    pub few_segments : segments_of d.counts ≤ most_segments
-    few_segments = rw (ap (λ (x : Deck). x.counts) e ∙ deck_counts (deck_refusal deck) deck (sym same_refusal ∙ z)) (segments_few deck)
+pub printed_refused : (deck : List ℕ) (r : Refusal) → number_of r ≡ deck_refusal deck → printed deck ≡ refusal (number_of r)
+unfolding printed
+printed_refused deck r e = rw (← e) (refused_is (number_of r) _ (numbered r))
 
 -- ---- what it does not depend on
 

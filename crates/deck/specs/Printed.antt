@@ -1,11 +1,10 @@
 -- What deck prints for the bytes that it reads.
-use Rattle.std.specs.Prelude.{ℕ, ◌+◌, ◌-◌, ◌*◌, ◌≤◌, List, [], ◌∷◌, ◌++◌, ◌≡◌, get_or, take}
+use Rattle.std.specs.Prelude.{ℕ, ◌+◌, ◌-◌, ◌*◌, ◌≤◌, List, [], ◌∷◌, ◌++◌, ◌≡◌, length, get_or, take}
 use Rattle.base.specs.Text.{text, most_digits, decimal}
 use Rattle.rules.specs.Deck.{per_card, counts_in, segment_in, deck_refusal, deck_bytes, longest_deck}
 use Rattle.rules.specs.District.{most_segments, segments_of}
 use Rattle.listing.specs.Listing.{named, lines_from, or_refusal}
 use Rattle.cards.specs.declared.Deck.{Deck}
-use Rattle.cards.specs.declared.Segment.{Segment}
 
 -- each number behind a blank, and the end of the line
 unfoldable pub numbers_line : List ℕ → List ℕ
@@ -43,8 +42,8 @@ longest_printed = 6 + longest_numbers_line + (most_digits + longest_numbers_line
 -- ---- what the code holds
 
 -- the numbers of each segment, from 1
-abbrev pub numbers_at : List Segment → ℕ → List ℕ
-numbers_at segments i = (get_or segments (i - 1) (record { 0 = [] })).0
+abbrev pub numbers_at : List (List ℕ) → ℕ → List ℕ
+numbers_at segments i = get_or segments (i - 1) []
 
 abbrev pub held_lines : Deck → List ℕ
-held_lines d = card_lines d.counts (numbers_at d.segments)
+held_lines d = counts_line d.counts ++ lines_from (length d.segments.items) 1 (segment_line (numbers_at d.segments.items))

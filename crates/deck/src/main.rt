@@ -7,11 +7,10 @@ ghost use Rattle.base.specs.Text.{Put};
 ghost use Rattle.input.specs.Reading.{Prints};
 ghost use Rattle.listing.specs.Listing.{lines_from};
 ghost use Rattle.rules.specs.Deck.{longest_deck};
-ghost use Rattle.rules.specs.District.{most_segments, segments_of};
 ghost use Rattle.deck.specs.Printed.{numbers_line, counts_line, segment_line, numbers_at, held_lines, printed, NotRead, longest_printed};
 
-use cards::{Deck, LONGEST_DECK, PER_CARD, Segment};
-use rules::places::{MOST_SEGMENTS, SEGMENT_COUNT};
+use cards::{Deck, LONGEST_DECK, Numbers};
+use rules::places::MOST_SEGMENTS;
 use std::io;
 use std::io::{Read, Write};
 
@@ -19,63 +18,54 @@ use std::io::{Read, Write};
 const LONGEST_PRINTED: usize = 112 + 126 * MOST_SEGMENTS;
 
 // Each behind a blank, and the end of the line.
-fn put_numbers(out: &mut [u8], numbers: [usize; PER_CARD]) -> usize
-    requires { length (numbers_line numbers) ≤ length out.old }
-    ensures { Put (numbers_line numbers) out.old out.new result }
+fn put_numbers(out: &mut [u8], numbers: &Numbers) -> usize
+    requires { length (numbers_line numbers.now) ≤ length out.old }
+    ensures { Put (numbers_line numbers.now) out.old out.new result }
 {
-    let mut at: usize = 0;
-    let mut k: usize = 0;
-    while k < PER_CARD {
-        at += listing::put_named(&mut out[at..], b" ", numbers[k]);
-        k += 1;
+    let mut at = 0;
+    for number in numbers {
+        at += listing::put_named(&mut out[at..], b" ", *number);
     }
     at + listing::put(&mut out[at..], b"\n")
 }
 
-fn put_counts(out: &mut [u8], counts: [usize; PER_CARD]) -> usize
-    requires { length (counts_line counts) ≤ length out.old }
-    ensures { Put (counts_line counts) out.old out.new result }
+#[tactic(auto, using(base::proofs::Text::front_fits, listing::proofs::Pieces::second_fits, listing::proofs::Pieces::put_two), unfolding(crate::specs::Printed::counts_line, base::specs::Text::text))]
+fn put_counts(out: &mut [u8], counts: &Numbers) -> usize
+    requires { length (counts_line counts.now) ≤ length out.old }
+    ensures { Put (counts_line counts.now) out.old out.new result }
 {
     let at = listing::put(out, b"counts");
     at + put_numbers(&mut out[at..], counts)
 }
 
-// Of segment `i` of these, from 1.
-fn put_segment(out: &mut [u8], segments: [Segment; MOST_SEGMENTS], i: usize) -> usize
-    requires le_i { (1 ≤ i) × (i ≤ most_segments) }
-    requires i_in_bounds { length (segment_line (numbers_at segments) i) ≤ length out.old }
-    ensures { Put (segment_line (numbers_at segments) i) out.old out.new result }
+// Of segment `i`.
+#[tactic(auto, using(base::proofs::Text::front_fits, listing::proofs::Pieces::second_fits, listing::proofs::Pieces::put_two), unfolding(crate::specs::Printed::segment_line))]
+fn put_segment(out: &mut [u8], i: usize, numbers: &Numbers) -> usize
+    requires { length (segment_line (λ _. numbers.now) i) ≤ length out.old }
+    ensures { Put (segment_line (λ _. numbers.now) i) out.old out.new result }
 {
     let at = listing::put_number(out, i);
-    let segment = segments[i - 1];
-    let numbers = segment.0;
     at + put_numbers(&mut out[at..], numbers)
 }
 
-// Of the first `n`.
-fn put_segments(out: &mut [u8], segments: [Segment; MOST_SEGMENTS], n: usize) -> usize
-    requires n_le_most_segments { n ≤ most_segments }
-    requires segments_in_bounds { length (lines_from n 1 (segment_line (numbers_at segments))) ≤ length out.old }
-    ensures { Put (lines_from n 1 (segment_line (numbers_at segments))) out.old out.new result }
+fn put_segments(out: &mut [u8], segments: &[Numbers]) -> usize
+    requires { length (lines_from (length segments.now) 1 (segment_line (numbers_at segments.now))) ≤ length out.old }
+    ensures { Put (lines_from (length segments.now) 1 (segment_line (numbers_at segments.now))) out.old out.new result }
 {
-    let mut at: usize = 0;
-    let mut i: usize = 0;
-    while i < n {
-        at += put_segment(&mut out[at..], segments, i + 1);
-        i += 1;
+    let mut at = 0;
+    for (i, numbers) in segments.iter().enumerate() {
+        at += put_segment(&mut out[at..], i + 1, numbers);
     }
     at
 }
 
-fn put_cards(out: &mut [u8], deck: Deck) -> usize
-    requires counts_bound { segments_of deck.counts ≤ most_segments }
-    requires deck_in_bounds { length (held_lines deck) ≤ length out.old }
-    ensures { Put (held_lines deck) out.old out.new result }
+#[tactic(auto, using(base::proofs::Text::front_fits, listing::proofs::Pieces::second_fits, listing::proofs::Pieces::put_two))]
+fn put_cards(out: &mut [u8], deck: &Deck) -> usize
+    requires { length (held_lines deck.now) ≤ length out.old }
+    ensures { Put (held_lines deck.now) out.old out.new result }
 {
-    let counts = deck.counts;
-    let segments = deck.segments;
-    let at = put_counts(out, counts);
-    at + put_segments(&mut out[at..], segments, counts[SEGMENT_COUNT])
+    let at = put_counts(out, &deck.counts);
+    at + put_segments(&mut out[at..], deck.segments.as_slice())
 }
 
 // What is printed for a deck, to the front of `out`.
@@ -84,11 +74,10 @@ fn answer(bytes: &[u8], out: &mut [u8]) -> usize
     ensures put { Put (printed bytes.now) out.old out.new result }
     ensures by_index { (deck : List ℕ) → NotRead deck }
 {
-    let deck = cards::read(bytes);
-    if deck.refusal != 0 {
-        return listing::put_refusal(out, deck.refusal);
+    match cards::read(bytes) {
+        Ok(deck) => put_cards(out, &deck),
+        Err(refusal) => listing::put_refusal(out, refusal),
     }
-    put_cards(out, deck)
 }
 
 // For as many bytes as are ever read.

@@ -1,35 +1,70 @@
--- `cards::read` meets its contract.
-use native.Mathlib.Omega.{arith}
-use Rattle.rules.specs.Deck.{layout}
-use Rattle.cards.proofs.Decks.{title_refused, counts_refused, counts_read, segments_decide}
-use Rattle.cards.proofs.Ranges.{segments_few}
+-- `cards::read` meets its contract: the first card that is refused refuses the deck.
+use Rattle.std.proofs.Common.{◌≡◌, ◌∙◌, length, lit<, ap, arith}
+use Rattle.std.proofs.lemmas.Result.{err_from_is_err_and}
+use Rattle.base.specs.Over.{listed_from}
+use Rattle.rules.specs.Deck.{segment_in}
+use Rattle.rules.specs.District.{segments_of}
+use Rattle.cards.proofs.Decks.{numbered, title_bad, none_yet, counts_are, within, counts_bad, segment_bad, all_good, segment_refused, segment_good, segment_held}
+use Rattle.base.proofs.Listed.{listed_length}
 use Rattle.cards.proofs.read.Goals as goal
 
-pub returns-then-title-ne0 : goal.returns-then-title-ne0
-returns-then-title-ne0 c = title_refused c.args.deck.now c.title_refusal-title.ensures c.if-title-ne0.true c.refused.ensures
+pub returns-in_err-nth-clause-refused : goal.returns-in_err-nth-clause-refused
+returns-in_err-nth-clause-refused c =
+    let p = err_from_is_err_and c.from_residual.result c.from_residual.ensures.1 in
+    rw (p.1, p.2, c.in_err-nth.ensures.1) (title_bad c.args.deck.now c.in_err-nth.ensures.0)
 
-pub read_card-card-requires : goal.read_card-card-requires
-unfolding layout
-read_card-card-requires c = omega arith
+pub returns-in_err-counts-clause-refused : goal.returns-in_err-counts-clause-refused
+returns-in_err-counts-clause-refused c =
+    let p = err_from_is_err_and c.from_residual-in_err-counts.result c.from_residual-in_err-counts.ensures.1 in
+    rw (p.1, p.2) (counts_bad c.args.deck.now c.in_ok-nth.ensures.0 _ (numbered _) c.in_err-counts.ensures.refused)
 
-pub returns-then-card-ne0 : goal.returns-then-card-ne0
-returns-then-card-ne0 c =
-    counts_refused c.args.deck.now c.title_refusal-title.ensures c.if-title-ne0.false c.line_at.ensures c.read_card-card.ensures
-    c.if-card-ne0.true
-    c.refused-then-card-ne0.ensures
+pub loop-i-init : goal.loop-i-init
+unfolding listed_from
+loop-i-init c = record { none = none_yet c.args.deck.now; held = c.new-segments.ensures }
 
-pub read_segments-requires : goal.read_segments-requires
-read_segments-requires c =
+pub overflow_add-i : goal.overflow_add-i
+overflow_add-i c = let h = within c.args.deck.now c.loop-i.i (counts_are c.args.deck.now c.in_ok-counts.ensures.numbers) c.loop-i-test.true in omega arith
+
+pub read_card-requires-in-loop-i : goal.read_card-requires-in-loop-i
+read_card-requires-in-loop-i c = let h = within c.args.deck.now c.loop-i.i (counts_are c.args.deck.now c.in_ok-counts.ensures.numbers) c.loop-i-test.true in omega arith
+
+pub returns-in_err-read_card-clause-refused : goal.returns-in_err-read_card-clause-refused
+returns-in_err-read_card-clause-refused c =
     let deck = c.args.deck.now in
-    let counts = counts_read deck c.title_refusal-title.ensures c.if-title-ne0.false c.line_at.ensures c.read_card-card.ensures c.if-card-ne0.false in
-    record { counts_value = counts; counts_bound = rw counts (segments_few deck) }
+    let l = c.loop-i in
+    let are = counts_are deck c.in_ok-counts.ensures.numbers in
+    let p = err_from_is_err_and c.from_residual-in_err-read_card.result c.from_residual-in_err-read_card.ensures.1 in
+    rw (p.1, p.2)
+    (segment_bad deck c.in_ok-nth.ensures.0 c.in_ok-counts.ensures.refused l.i _ (rw are at c.loop-i-test.true) l.invariant.none (numbered _)
+    (c.in_err-read_card.ensures.refused ∙ segment_refused deck l.i are))
 
-pub returns : goal.returns
-returns c =
+pub push-requires : goal.push-requires
+push-requires c =
     let deck = c.args.deck.now in
-    let title = c.title_refusal-title.ensures in
-    let none = c.if-title-ne0.false in
-    let line = c.line_at.ensures in
-    let card = c.read_card-card.ensures in
-    let good = c.if-card-ne0.false in
-    segments_decide deck title none line card good (counts_read deck title none line card good) c.read_segments.ensures
+    let l = c.loop-i in
+    let h = within deck l.i (counts_are deck c.in_ok-counts.ensures.numbers) c.loop-i-test.true in
+    let size : length l.segments.items ≡ l.i = ap length l.invariant.held ∙ listed_length (segment_in deck) l.i 1 in
+    (lit< tt, omega arith)
+
+pub loop-i-preserved : goal.loop-i-preserved
+loop-i-preserved c =
+    let deck = c.args.deck.now in
+    let l = c.loop-i in
+    let are = counts_are deck c.in_ok-counts.ensures.numbers in
+    record {
+      none = segment_good deck l.i are l.invariant.none c.in_ok-read_card.ensures.refused;
+      held = segment_held deck l.i are c.in_ok-read_card.field-0 l.invariant.held c.push.ensures.items c.in_ok-read_card.ensures.numbers;
+    }
+
+pub returns-clause-refused : goal.returns-clause-refused
+returns-clause-refused c =
+    let deck = c.args.deck.now in
+    let are = counts_are deck c.in_ok-counts.ensures.numbers in
+    let end : c.loop-i.i ≡ segments_of c.in_ok-counts.counts = omega arith in
+    all_good deck c.in_ok-nth.ensures.0 c.in_ok-counts.ensures.refused (rw (end, are) at c.loop-i.invariant.none)
+
+pub returns-clause-says : goal.returns-clause-says
+returns-clause-says c =
+    let are = counts_are c.args.deck.now c.in_ok-counts.ensures.numbers in
+    let end : c.loop-i.i ≡ segments_of c.in_ok-counts.counts = omega arith in
+    record { counts = are; segments = rw (end, are) at c.loop-i.invariant.held }

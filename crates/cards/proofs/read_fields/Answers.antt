@@ -1,54 +1,46 @@
--- `cards::read_fields` meets its contract: the fields so far are good, and their numbers stand in front.
-use Prim.Native.Nat.{ℕ, ◌+◌}
-use mathlib.Core.List.{List}
-use mathlib.Core.Path.{◌≡◌, ap, ◌∙◌}
-use native.Mathlib.Omega.{arith}
-use lib.ListN.{set, replicate}
-use Rattle.base.specs.Over.{all, listed_from}
-use Rattle.base.proofs.All.{all_none, all_next, all_end, all_fails}
+-- `cards::read_fields` meets its contract.
+use Rattle.std.proofs.Common.{◌≡◌, ◌∙◌, ap, replicate, arith}
+use Rattle.std.proofs.lemmas.Result.{err_from_is_err_and}
+use lib.ListN.{set}
+use Rattle.base.proofs.All.{all_none, all_next, all_end}
 use Rattle.base.proofs.Listed.{fill_none, fill_next, fill_end}
-use Rattle.rules.specs.Deck.{layout, per_card, is_good, number_on, numbers_on}
-use Rattle.text.specs.Numbers.{value_of}
-use Rattle.cards.proofs.Cards.{good_next, number_next, bad_next, card_bad, card_good}
+use Rattle.rules.specs.Deck.{per_card, is_good, number_on, numbers_on}
+use Rattle.cards.specs.Cards.{rows_before}
+use Rattle.cards.proofs.Numbers.{good_next, number_next, bad_refuses, wrong_is}
 use Rattle.cards.proofs.read_fields.Goals as goal
 
-pub loop-k-init : goal.loop-k-init
-loop-k-init c = (omega arith, all_none _, fill_none _ 1 _)
+pub loop-n-init : goal.loop-n-init
+loop-n-init c = record { good = all_none _; front = fill_none _ 1 _ }
 
-pub overflow_add-behind : goal.overflow_add-behind
-unfolding layout
-overflow_add-behind c = omega arith
-
-pub loop-k-preserved : goal.loop-k-preserved
-unfolding value_of
-loop-k-preserved c =
+pub returns-in_err-number-clause-refused : goal.returns-in_err-number-clause-refused
+returns-in_err-number-clause-refused c =
     let a = c.args in
-    let l = c.loop-k in
-    let f = number_on a.counts a.card.now a.behind in
-    let read = c.read_field-number.ensures in
-    let is = ap value_of c.in-Is.is in (
-      omega arith,
-      all_next l.k (is_good a.counts a.card.now a.behind) l.invariant.1 (good_next a.counts a.card.now a.behind l.k read is),
-      ap (λ (v : List ℕ). set v l.k c.in-Is.value) l.invariant.2 ∙ fill_next f l.k 1 (replicate per_card 0) (omega arith) (number_next a.counts a.card.now a.behind l.k read is),
-    )
+    let bad = bad_refuses a.counts.now a.line.now (rows_before a.card) c.loop-n.n c.read_field.ensures (omega arith) c.in_err-number.ensures.ok_part in
+    let p = err_from_is_err_and c.from_residual.result c.from_residual.ensures.1 in
+    rw (p.1, p.2, wrong_is c.in_err-number.ensures.value c.in_err-number.ensures.ok_part, bad)
 
-pub returns-in-Not : goal.returns-in-Not
-unfolding value_of
-returns-in-Not c =
+pub loop-n-preserved : goal.loop-n-preserved
+loop-n-preserved c =
     let a = c.args in
-    let l = c.loop-k in
-    let bad = bad_next a.counts a.card.now a.behind l.k c.read_field-number.ensures (ap value_of c.in-Not.is) in
-    card_bad (all per_card (is_good a.counts a.card.now a.behind)) (numbers_on a.counts a.card.now a.behind)
-    (all_fails per_card (is_good a.counts a.card.now a.behind) (l.k + 1) (omega arith) (omega arith) bad)
-    c.refused_card.ensures
+    let l = c.loop-n in
+    let b = rows_before a.card in
+    let read = c.read_field.ensures in
+    let is = c.in_ok-number.ensures.ok_part in
+    record {
+      good = all_next l.n (is_good a.counts.now a.line.now b) l.invariant.good (good_next a.counts.now a.line.now b l.n read is);
+      front = ap (λ v. set v l.n c.in_ok-number.field-0) l.invariant.front ∙ fill_next (number_on a.counts.now a.line.now b) l.n 1 (replicate per_card 0) (omega arith) (number_next a.counts.now a.line.now b l.n read is);
+    }
 
-pub returns : goal.returns
+pub returns-clause-refused : goal.returns-clause-refused
+returns-clause-refused c =
+    let a = c.args in
+    let l = c.loop-n in
+    rw (all_end per_card l.n (is_good a.counts.now a.line.now (rows_before a.card)) l.invariant.good (omega arith) (omega arith))
+
+pub returns-clause-numbers : goal.returns-clause-numbers
 unfolding numbers_on
-returns c =
+returns-clause-numbers c =
     let a = c.args in
-    let l = c.loop-k in
-    let f = number_on a.counts a.card.now a.behind in
-    let end : l.k ≡ per_card = omega arith in
-    card_good (all per_card (is_good a.counts a.card.now a.behind)) (listed_from per_card 1 f)
-    (all_end per_card l.k (is_good a.counts a.card.now a.behind) l.invariant.1 (omega arith) (omega arith))
-    (l.invariant.2 ∙ fill_end f l.k per_card 1 (replicate per_card 0) end (omega arith))
+    let l = c.loop-n in
+    let end : l.n ≡ per_card = omega arith in
+    l.invariant.front ∙ fill_end (number_on a.counts.now a.line.now (rows_before a.card)) l.n per_card 1 (replicate per_card 0) end (omega arith)

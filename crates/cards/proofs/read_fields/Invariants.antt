@@ -1,16 +1,13 @@
-use Prim.Native.Nat.{◌-◌, ◌≤◌}
-use mathlib.Core.Bool.{true}
-use mathlib.Core.List.{◌++◌}
-use mathlib.Core.Path.{◌≡◌}
-use lib.ListN.{drop, replicate}
+use Rattle.std.proofs.Common.{◌≡◌, ◌++◌, true, drop, replicate}
 use Rattle.base.specs.Over.{all, listed_from}
 use Rattle.rules.specs.Deck.{per_card, is_good, number_on}
+use Rattle.cards.specs.Cards.{rows_before}
 use Rattle.cards.proofs.read_fields.Given as goal
 
-abbrev pub invariant-loop-k : goal.invariant-loop-k
-invariant-loop-k l = (l.k ≤ per_card)
-    × (all l.k (is_good l.counts l.card l.behind) ≡ true)
-    × (l.numbers ≡ listed_from l.k 1 (number_on l.counts l.card l.behind) ++ drop l.k (replicate per_card 0))
-
-abbrev pub decreases-loop-k : goal.decreases-loop-k
-decreases-loop-k l = per_card - l.k
+-- the fields so far are good, and their numbers stand in front
+abbrev pub invariant-loop-n : goal.invariant-loop-n
+invariant-loop-n l =
+    record {
+      good : all l.n (is_good l.counts l.line (rows_before l.card)) ≡ true;
+      front : l.number-items ≡ listed_from l.n 1 (number_on l.counts l.line (rows_before l.card)) ++ drop l.n (replicate per_card 0);
+    }

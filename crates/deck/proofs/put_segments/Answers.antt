@@ -1,5 +1,5 @@
--- `deck::put_segments` meets its contract: what is written and what is to come is the whole.
-use Rattle.std.proofs.Common.{ℕ, ◌≡◌, ◌+◌, ◌-◌, ◌<◌, List, ◌++◌, arith}
+-- `deck::put_segments` meets its contract.
+use Rattle.std.proofs.Common.{ℕ, ◌≡◌, ◌+◌, ◌-◌, ◌<◌, List, [], ◌++◌, length, get_or, arith}
 use Rattle.base.proofs.Buffers.{Written}
 use Rattle.base.proofs.Text.{put_all, put_more, tail_fits}
 use Rattle.listing.specs.Listing.{lines_from}
@@ -7,28 +7,29 @@ use Rattle.listing.proofs.Lines.{lines_next}
 use Rattle.deck.specs.Printed.{segment_line, numbers_at}
 use Rattle.deck.proofs.put_segments.Goals as goal
 
--- a line is to come
+-- a segment's line is to come
 next :
-    {old whole out : List ℕ} {at : ℕ} (n i : ℕ) (f : ℕ → List ℕ) → i < n → Written old whole (lines_from (n - i) (i + 1) f) at out
-    → Written old whole (f (i + 1) ++ lines_from (n - (i + 1)) (i + 1 + 1) f) at out
-next n i f h w = rw (lines_next n i f h) at w
+    {old whole out : List ℕ} {at : ℕ} (n i : ℕ) (s : List (List ℕ)) → i < n → Written old whole (lines_from (n - i) (i + 1) (segment_line (numbers_at s))) at out
+    → Written old whole (segment_line (λ _. get_or s i []) (i + 1) ++ lines_from (n - (i + 1)) (i + 1 + 1) (segment_line (numbers_at s))) at out
+unfolding segment_line
+next n i s h w =
+    let place : i + 1 - 1 ≡ i = omega arith in
+    rw (lines_next n i (segment_line (numbers_at s)) h, place) at w
 
-pub put_segment-at-requires-clause-i_in_bounds : goal.put_segment-at-requires-clause-i_in_bounds
-put_segment-at-requires-clause-i_in_bounds c =
+pub put_segment-at-requires : goal.put_segment-at-requires
+put_segment-at-requires c =
     let l = c.loop-i in
-    let f = segment_line (numbers_at c.args.segments) in
-    tail_fits (f (l.i + 1)) _ (next c.args.n l.i f c.loop-i-test.true l.invariant.1) c.requires.segments_in_bounds
+    let s = c.args.segments.now in
+    tail_fits (segment_line (λ _. get_or s l.i []) (l.i + 1)) _ (next (length s) l.i s (omega arith) l.invariant) c.requires
 
 pub loop-i-preserved : goal.loop-i-preserved
 loop-i-preserved c =
     let l = c.loop-i in
-    let f = segment_line (numbers_at c.args.segments) in (
-      omega arith,
-      put_more (f (l.i + 1)) _ (next c.args.n l.i f c.loop-i-test.true l.invariant.1) c.requires.segments_in_bounds c.put_segment-at.ensures,
-    )
+    let s = c.args.segments.now in
+    put_more (segment_line (λ _. get_or s l.i []) (l.i + 1)) _ (next (length s) l.i s (omega arith) l.invariant) c.requires c.put_segment-at.ensures
 
 pub returns : goal.returns
 unfolding lines_from
 returns c =
-    let none : c.args.n - c.loop-i.i ≡ 0 = omega arith in
-    put_all (rw none at c.loop-i.invariant.1)
+    let none : length c.args.segments.now - c.loop-i.i ≡ 0 = omega arith in
+    put_all (rw none at c.loop-i.invariant)

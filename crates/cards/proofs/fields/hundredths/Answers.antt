@@ -1,11 +1,9 @@
 -- `cards::fields::hundredths` meets its contract.
-use mathlib.Core.Path.{sym, ◌∙◌}
-use Rattle.text.specs.Numbers.{value_of}
+use Rattle.std.proofs.Common.{sym, ◌∙◌}
 use Rattle.cards.proofs.Written.{hundredths_none, hundredths_some}
 use Rattle.cards.proofs.fields.hundredths.Goals as goal
 
 pub returns-then-not-has_decimal_form : goal.returns-then-not-has_decimal_form
-unfolding value_of
 returns-then-not-has_decimal_form c = hundredths_none c.args.field.now (sym c.has_decimal_form.ensures ∙ c.if-not-has_decimal_form.true)
 
 pub returns : goal.returns
