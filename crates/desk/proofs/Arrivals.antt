@@ -1,29 +1,26 @@
 -- Arrivals: what they leave.
 use Prim.Native.Nat.{ℕ}
 use mathlib.Core.Path.{◌≡◌, refl, sym, ap, ◌∙◌}
-use mathlib.Core.Bool.{false, true≢false}
+use Rattle.std.specs.Prelude.{None}
 use Rattle.rules.specs.Desks as Desks
 use Rattle.rules.specs.Desks.{console_of, arrival_refusal, arrival_of, Arrive, desk_by, answer_to}
 use Rattle.rules.specs.Answers.{no_such_office, Refused}
-use Rattle.rules.specs.Stations.{number_of}
+use Rattle.rules.specs.Stations.{number_of, office_of}
 use Rattle.rules.specs.declared.Waiting.{Waiting}
 use Rattle.desks.proofs.EveryArrival.{every_arrival}
-use Rattle.queues.specs.Waits.{queues_in, Admits}
-use Rattle.queues.specs.declared.Arrival.{Arrival}
+use Rattle.queues.specs.Waits.{queues_in, Arrival, Admits}
 use Rattle.queues.specs.declared.Queues.{Queues}
-use Rattle.station.specs.Kept.{is_office}
-use Rattle.station.proofs.Numbers.{named_some, named_office}
-use Rattle.desk.specs.Kept.{Arrives, Happens}
+use Rattle.station.proofs.Numbers.{named_some}
+use Rattle.desk.specs.Kept.{DeskReply, Arrives, Happens}
 use Rattle.desk.specs.declared.Desk.{Desk}
-use Rattle.desk.specs.declared.DeskReply.{DeskReply}
 use Rattle.rules.specs.declared.Which.{Which}
 use Rattle.rules.specs.declared.Which.TheVariants.{First, Second}
 
 module _ (d : Desk) (n : ℕ) (w : Waiting) where
   -- no office has the number
-  pub nobody_arrives : is_office w.office ≡ false → Arrives d n w (record { answer = Refused no_such_office; desk = d })
+  pub nobody_arrives : office_of w.office ≡ None → Arrives d n w (record { answer = Refused no_such_office; desk = d })
   nobody_arrives nobody =
-      let not_named : (o : Which) → ¬ (w.office ≡ number_of o) = λ o e. true≢false (sym (named_office w.office o e) ∙ nobody) in
+      let not_named : (o : Which) → ¬ (w.office ≡ number_of o) = λ o e. let some = named_some w.office o e in cc in
       let is = (every_arrival (queues_in d.queues) n w).nobody (not_named First) (not_named Second) in
       record {
         answer = sym (ap (λ (a : Desks.Arrival). a.answer) is);

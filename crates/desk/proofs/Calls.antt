@@ -7,9 +7,8 @@ use Rattle.rules.specs.Stations.{StationCall, call_of}
 use Rattle.rules.specs.declared.Sent.{Sent}
 use Rattle.station.specs.Kept.{RepliesTo, PlansBoth, SendsBoth}
 use Rattle.station.proofs.Replies.{plans_replies}
-use Rattle.desk.specs.Kept.{Asks, Happens}
+use Rattle.desk.specs.Kept.{DeskReply, Asks, Happens}
 use Rattle.desk.specs.declared.Desk.{Desk}
-use Rattle.desk.specs.declared.DeskReply.{DeskReply}
 
 module _ (d : Desk) (r : DeskReply) where
   pub call_happens : (c : StationCall) → Asks d (RepliesTo d.station c) r → Happens d (Ask c) r

@@ -2,20 +2,17 @@
 use Prim.Native.Nat.{ℕ}
 use mathlib.Core.Path.{◌≡◌, refl, ap, ◌∙◌}
 use Rattle.std.specs.Prelude.{Option, None, Some}
-use native.Mathlib.Omega.{arith}
 use Rattle.rules.specs.Desks as Desks
 use Rattle.rules.specs.Desks.{console_number, Taken, taken, step_with, step_of, Step, desk_by, answer_to}
 use Rattle.rules.specs.Lists.{Alter}
 use Rattle.rules.specs.Answers.{Accepted}
 use Rattle.queues.specs.Waits.{queues_in}
 use Rattle.queues.specs.declared.Queues.{Queues}
-use Rattle.station.specs.Kept.{PlansBoth}
+use Rattle.station.specs.Kept.{StationReply, PlansBoth}
 use Rattle.station.proofs.Units.{unit_in}
 use Rattle.station.proofs.Replies.{plans_replies}
-use Rattle.station.specs.declared.StationReply.{StationReply}
-use Rattle.desk.specs.Kept.{KeepsDesk, desk_in, Steps, ReportsEvent}
+use Rattle.desk.specs.Kept.{KeepsDesk, Stepped, desk_in, Steps, ReportsEvent}
 use Rattle.desk.specs.declared.Desk.{Desk}
-use Rattle.desk.specs.declared.Stepped.{Stepped}
 
 module _ (d : Desk) where
   -- the rules' step, by what is taken
@@ -47,7 +44,7 @@ module _ (d : Desk) where
         queues = rw is rest;
         units = λ w. rw is (plans.units w);
         windows = plans.windows;
-        idle = λ none-taken. absurd (let z : ◌≡◌ {A = ℕ} 0 1 = cc in omega arith);
+        idle = λ none. cc;
       }
 
 -- ---- from what the desk keeps

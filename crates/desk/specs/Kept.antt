@@ -1,22 +1,38 @@
 -- What a desk stands for: that of rules, specs/Desks.antt; and what its calls promise, of a desk in any state.
-use Rattle.std.specs.Prelude.{ℕ, ◌≡◌}
-use Rattle.std.specs.Prelude.{None}
+use Rattle.std.specs.Prelude.{ℕ, ◌≡◌, Option, None, Some, Result}
 use Rattle.rules.specs.Desks as Desks
-use Rattle.rules.specs.Desks.{arrival_of, taken, step_of, Event, desk_by, answer_to}
+use Rattle.rules.specs.Desks.{console_number, arrival_of, taken, step_of, Event, desk_by, answer_to}
 use Rattle.rules.specs.Stations.{own}
-use Rattle.rules.specs.Answers.{Refused}
+use Rattle.rules.specs.Answers.{Answer, Accepted, Refused, answer_in}
 use Rattle.rules.specs.declared.Waiting.{Waiting}
 use Rattle.queues.specs.Waits.{queues_in}
-use Rattle.station.specs.Kept.{office_in, KeepsBoth, units_in}
-use Rattle.station.specs.declared.StationReply.{StationReply}
+use Rattle.rules.specs.declared.Console.{Console}
+use Rattle.rules.specs.declared.refusals.Refusal.{Refusal}
+use Rattle.station.specs.Kept.{office_in, StationReply, KeepsBoth, units_in}
 use Rattle.desk.specs.declared.Desk.{Desk}
-use Rattle.desk.specs.declared.DeskReply.{DeskReply}
-use Rattle.desk.specs.declared.Stepped.{Stepped}
 use Rattle.rules.specs.declared.Which.{Which}
 
 pub record KeepsDesk (d : Desk) (h : Desks.Desk) : Type 0 where
   pub station : KeepsBoth d.station h.held
   pub queues : queues_in d.queues ≡ h.queues
+
+-- an answer and the desk as the call leaves it
+pub record DeskReply : Type 0 where
+  pub answer : Answer
+  pub desk : Desk
+
+abbrev pub reply : Result ℕ Refusal → Desk → DeskReply
+reply r d = record { answer = answer_in r; desk = d }
+
+-- what a step returns, with the rules' numbers: the console's and its edit's answer, or 0 and 0; and the desk then
+pub record Stepped : Type 0 where
+  pub console : ℕ
+  pub answer : Answer
+  pub desk : Desk
+
+abbrev pub stepped : Option (Console × Result ℕ Refusal) → Desk → Stepped
+stepped None d = record { console = 0; answer = Accepted 0; desk = d }
+stepped (Some t) d = record { console = console_number t.0; answer = answer_in t.1; desk = d }
 
 -- an arrival sees no station; a refused one leaves the desk as it is, by value
 pub record Arrives (d : Desk) (n : ℕ) (w : Waiting) (r : DeskReply) : Type 0 where
