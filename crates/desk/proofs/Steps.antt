@@ -1,5 +1,4 @@
 -- A step: by what is taken from the queues, and what the station replies.
-use Prim.Native.Nat.{ℕ}
 use mathlib.Core.Path.{◌≡◌, refl, ap, ◌∙◌}
 use Rattle.std.specs.Prelude.{Option, None, Some}
 use Rattle.rules.specs.Desks as Desks
