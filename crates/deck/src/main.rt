@@ -71,8 +71,7 @@ fn put_cards(out: &mut [u8], deck: &Deck) -> usize
 // What is printed for a deck, to the front of `out`.
 fn answer(bytes: &[u8], out: &mut [u8]) -> usize
     requires { longest_printed ≤ length out.old }
-    ensures put { Put (printed bytes.now) out.old out.new result }
-    ensures by_index { (deck : List ℕ) → NotRead deck }
+    ensures { Put (printed bytes.now) out.old out.new result }
 {
     match cards::read(bytes) {
         Ok(deck) => put_cards(out, &deck),
@@ -80,22 +79,13 @@ fn answer(bytes: &[u8], out: &mut [u8]) -> usize
     }
 }
 
-// For as many bytes as are ever read.
-fn room() -> [u8; LONGEST_DECK]
-    ensures { length result ≡ longest_deck }
-{
-    [0u8; LONGEST_DECK]
-}
-
 // What is printed for the first bytes of the input goes to the output.
+#[tactic(auto, using(base::proofs::Text::put_within, crate::proofs::Printed::not_read))]
 fn run<R: Read, W: Write>(input: &mut R, output: &mut W) -> io::Result<()>
-    ensures { OnOk result (Prints printed longest_deck (R.remaining input.old) (W.contents output.old) (W.contents output.new)) }
+    ensures prints { OnOk result (Prints printed longest_deck (R.remaining input.old) (W.contents output.old) (W.contents output.new)) }
+    ensures not_read { (deck : List ℕ) → NotRead deck }
 {
-    let mut bytes = room();
-    let n = input::read_full(input, &mut bytes)?;
-    let mut out = [0u8; LONGEST_PRINTED];
-    let length = answer(&bytes[..n], &mut out);
-    output.write_all(&out[..length])
+    input::answered::<LONGEST_DECK, LONGEST_PRINTED, _, _, _>(input, output, answer)
 }
 
 fn main(rt: HostRuntime) -> io::Result<()> {

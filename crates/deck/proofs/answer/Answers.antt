@@ -1,6 +1,6 @@
 -- `deck::answer` meets its contract.
 use Rattle.std.proofs.Common.{arith}
-use Rattle.deck.proofs.Printed.{printed_refused, printed_cards, cards_fit, not_read}
+use Rattle.deck.proofs.Printed.{printed_refused, printed_cards, cards_fit}
 use Rattle.deck.proofs.answer.Goals as goal
 
 pub put_cards-requires : goal.put_cards-requires
@@ -9,8 +9,8 @@ put_cards-requires c = omega (arith, cards_fit c.args.bytes.now c.in-Ok.ensures.
 pub returns-in-Ok : goal.returns-in-Ok
 returns-in-Ok c =
     let read = c.in-Ok.ensures in
-    record { put = rw (printed_cards c.args.bytes.now read.says read.refused) c.put_cards.ensures; by_index = not_read }
+    rw (printed_cards c.args.bytes.now read.says read.refused) c.put_cards.ensures
 
 pub returns-in-Err : goal.returns-in-Err
 returns-in-Err c =
-    record { put = rw (printed_refused c.args.bytes.now c.in-Err.refusal c.in-Err.ensures.refused) c.put_refusal.ensures; by_index = not_read }
+    rw (printed_refused c.args.bytes.now c.in-Err.refusal c.in-Err.ensures.refused) c.put_refusal.ensures
