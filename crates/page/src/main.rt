@@ -9,29 +9,25 @@ ghost use Rattle.pages.specs.Printed.{longest_page};
 ghost use Rattle.page.specs.Printed.{printed};
 
 use input::MOST_READ;
+use pages::LONGEST_PAGE;
 use std::io;
 use std::io::{Read, Write};
 
 // What is printed for a file, to the front of `out`.
+#[tactic(auto, unfolding(crate::specs::Printed::printed, pages::specs::Printed::paged))]
 fn answer(file: &[u8], out: &mut [u8]) -> usize
     requires { longest_page ≤ length out.old }
     ensures { Put (printed file.now) out.old out.new result }
 {
-    let reply = unit::of_file(file);
-    let answer = reply.answer;
-    let u = reply.unit;
-    pages::put_paged(out, answer, u)
+    pages::put_paged(out, &unit::of_file(file))
 }
 
 // What is printed for the first bytes of the input goes to the output.
+#[tactic(auto, using(base::proofs::Text::put_within))]
 fn run<R: Read, W: Write>(input: &mut R, output: &mut W) -> io::Result<()>
     ensures { OnOk result (Prints printed most_read (R.remaining input.old) (W.contents output.old) (W.contents output.new)) }
 {
-    let mut file = [0u8; MOST_READ];
-    let n = input::read_full(input, &mut file)?;
-    let mut out = [0u8; pages::LONGEST_PAGE];
-    let length = answer(&file[..n], &mut out);
-    output.write_all(&out[..length])
+    input::answered::<MOST_READ, LONGEST_PAGE, _, _, _>(input, output, answer)
 }
 
 fn main(rt: HostRuntime) -> io::Result<()> {

@@ -9,29 +9,28 @@ ghost use Rattle.listing.specs.Listing.{longest_listing};
 ghost use Rattle.plan.specs.Printed.{printed};
 
 use input::MOST_READ;
+use listing::LONGEST_LISTING;
 use std::io;
 use std::io::{Read, Write};
 
 // What is printed for a file, to the front of `out`.
+#[tactic(auto, unfolding(crate::specs::Printed::printed, listing::specs::Listing::planned))]
 fn answer(file: &[u8], out: &mut [u8]) -> usize
     requires { longest_listing ≤ length out.old }
     ensures { Put (printed file.now) out.old out.new result }
 {
-    let reply = unit::of_file(file);
-    let answer = reply.answer;
-    let u = reply.unit;
-    listing::put_planned(out, answer, u)
+    match unit::of_file(file) {
+        Ok(u) => listing::put_shown(out, &u),
+        Err(refusal) => listing::put_refusal(out, refusal),
+    }
 }
 
 // What is printed for the first bytes of the input goes to the output.
+#[tactic(auto, using(base::proofs::Text::put_within))]
 fn run<R: Read, W: Write>(input: &mut R, output: &mut W) -> io::Result<()>
     ensures { OnOk result (Prints printed most_read (R.remaining input.old) (W.contents output.old) (W.contents output.new)) }
 {
-    let mut file = [0u8; MOST_READ];
-    let n = input::read_full(input, &mut file)?;
-    let mut out = [0u8; listing::LONGEST_LISTING];
-    let length = answer(&file[..n], &mut out);
-    output.write_all(&out[..length])
+    input::answered::<MOST_READ, LONGEST_LISTING, _, _, _>(input, output, answer)
 }
 
 fn main(rt: HostRuntime) -> io::Result<()> {
