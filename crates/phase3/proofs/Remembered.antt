@@ -3,7 +3,7 @@ use Prim.Native.Nat.{ℕ, zero, suc, ◌+◌, ◌-◌, ◌≤◌, ◌<◌, min}
 use mathlib.Core.Path.{◌≡◌, refl, sym, ap, ◌∙◌}
 use mathlib.Core.Bool.{Bool, true, false, not, true≢false}
 use mathlib.Core.List.{List, [], ◌∷◌}
-use Rattle.std.specs.Prelude.{None}
+use Rattle.std.specs.Prelude.{Option, None, Some, MatchOption}
 use native.Mathlib.Omega.{arith}
 use borrow.Author.Count.{below_more}
 use borrow.Author.Tests.{lt-leb, leb-false, eqb-true, eqb-false}
@@ -11,7 +11,7 @@ use lib.Dec.{eqb}
 use lib.ListN.{get_or, set, length, length-set}
 use lib.Seq.{get_or-set_same, get_or-set_other}
 use Rattle.base.specs.Over.{all}
-use Rattle.base.proofs.All.{all_fails}
+use Rattle.base.proofs.All.{all_true, all_fails}
 use Rattle.rules.specs.District.{most_strategies, most_resources}
 use Rattle.rules.specs.Table.{Table}
 use Rattle.rules.specs.Phases.{strategy_at, give, chosen_usage, used, holds, within, respects, another, pair, pairs_of}
@@ -29,6 +29,7 @@ use Rattle.phase3.specs.Memory.{
   mark,
   excess_of,
   lowered,
+  IsShort,
   Lower,
   Tight,
   Alike,
@@ -322,3 +323,10 @@ searching_start {z} {p} {u} {l} s wide marked h leader =
           };
       before = λ v lv. absurd (omega arith);
     }
+
+-- ---- a resource that is short
+
+pub short_is : (n : ℕ) (room : ℕ → Bool) (o : Option ℕ)
+    → MatchOption o ((r : ℕ) → 1 ≤ r → r < n + 1 → room r ≡ true) (λ r. (1 ≤ r) × (r < n + 1) × (room r ≡ false) × ((q : ℕ) → 1 ≤ q → q < r → room q ≡ true)) → IsShort n room o
+short_is n room None h = all_true n room (λ r low high. h r low (omega arith))
+short_is n room (Some r) h = (h.0, omega arith, h.2)

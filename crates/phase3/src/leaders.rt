@@ -52,11 +52,6 @@ impl Changed<'_> {
         requires { segments ≤ most_segments }
         ensures { result ≡ respects (leader_in leaders.entry.entries.now) segments (changed self.now) }
     {
-        for m in 0..segments {
-            if !self.heeds_leader(leaders, m + 1) {
-                return false;
-            }
-        }
-        true
+        (0..segments).all(|m| self.heeds_leader(leaders, m + 1))
     }
 }

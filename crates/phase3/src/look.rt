@@ -67,12 +67,7 @@ impl Look<'_> {
         if asked < resources && !self.has_room(a, b, asked + 1) {
             return Some(asked + 1);
         }
-        for r in 0..resources {
-            if !self.has_room(a, b, r + 1) {
-                return Some(r + 1);
-            }
-        }
-        None
+        (1..resources + 1).find(|r| !self.has_room(a, b, *r))
     }
 
     // The row remembers that resource r refused strategies a and b: its number goes down to their excess.

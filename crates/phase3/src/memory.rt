@@ -27,15 +27,7 @@ impl Row {
         requires { resources ≤ most_resources }
         ensures { result ≡ holds_still resources slacks.now self.now mark }
     {
-        if self.marked != mark {
-            return false;
-        }
-        for r in 0..resources {
-            if self.excesses[r] <= slacks[r] {
-                return false;
-            }
-        }
-        true
+        self.marked == mark && (0..resources).all(|r| self.excesses[r] > slacks[r])
     }
 }
 

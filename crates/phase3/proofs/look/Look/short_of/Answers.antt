@@ -1,14 +1,14 @@
--- `phase3::look::Look::short_of` meets its contract: every resource that the loop passed suffices.
-use mathlib.Core.Path.{sym, ◌∙◌}
-use native.Mathlib.Omega.{arith}
-use Rattle.base.proofs.All.{all_none, all_next, all_end}
+-- `phase3::look::Look::short_of` meets its contract.
+use Rattle.std.proofs.Common.{◌≡◌, true, false, rules, tests}
+use Rattle.std.proofs.lemmas.Iterator.{first_from_Range}
+use Rattle.phase3.specs.Views.{room_at}
+use Rattle.phase3.proofs.Remembered.{short_is}
 use Rattle.phase3.proofs.look.Look.short_of.Goals as goal
 
-pub loop-r-init : goal.loop-r-init
-loop-r-init c = all_none _
-
-pub loop-r-preserved : goal.loop-r-preserved
-loop-r-preserved c = all_next _ _ c.loop-r.invariant (sym c.has_room-in-loop-r.ensures ∙ c.if-not-has_room-2.false)
-
 pub returns : goal.returns
-returns c = all_end _ _ _ c.loop-r.invariant (omega arith) (omega arith)
+returns c =
+    let room = room_at c.args.self.now c.args.a c.args.b in
+    short_is _ _ _
+    (first_from_Range _ _ _ c.find.result (λ r. room r ≡ false) (λ r. room r ≡ true) c.find.ensures.ran
+    (λ r q k. search (rules, tests))
+    (λ r q k. search (rules, tests)))
