@@ -7,6 +7,7 @@ use Rattle.tables.specs.Views.{table_in, leaders_in}
 use Rattle.phase3.specs.declared.leaders.Changed.{Changed}
 use Rattle.phase3.specs.declared.pass.Pass.{Pass}
 use Rattle.phase3.specs.declared.look.Look.{Look}
+use Rattle.phase3.specs.declared.trial.Trial.{Trial}
 use Rattle.phase3.specs.Improve.{after_move}
 use Rattle.phase3.specs.Memory.{excess_of}
 
@@ -37,13 +38,15 @@ leaders_at l = leaders_of l.pair.now.pass.now
 abbrev pub choice_at : Look → List ℕ
 choice_at l = choice_of l.pair.now.pass.now
 
--- resource r suffices for strategies a and b of the two segments, and the excess of these in it
-abbrev pub room_at : Look → ℕ → ℕ → ℕ → Bool
-room_at l a b r =
+-- resource r suffices in a trial, and the excess there
+abbrev pub room_at : Trial → ℕ → Bool
+room_at x r =
+    let l = x.look.now in
     let p = l.pair.now in
-    room_for p.pass.now.t.uses.entries.now p.pass.now.draft.now.sums l.given p.i a p.k b r
+    room_for p.pass.now.t.uses.entries.now p.pass.now.draft.now.sums l.given p.i x.a p.k x.b r
 
-abbrev pub excess_at : Look → ℕ → ℕ → ℕ → ℕ
-excess_at l a b r =
+abbrev pub excess_at : Trial → ℕ → ℕ
+excess_at x r =
+    let l = x.look.now in
     let p = l.pair.now in
-    excess_of p.pass.now.t.uses.entries.now p.pass.now.t.limits.entries.now l.given p.i a p.k b r
+    excess_of p.pass.now.t.uses.entries.now p.pass.now.t.limits.entries.now l.given p.i x.a p.k x.b r

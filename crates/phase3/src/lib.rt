@@ -14,6 +14,7 @@ mod memory;
 mod pair;
 mod pass;
 mod tops;
+mod trial;
 
 use change::Change;
 use memory::{Memory, PAIRS, Row};

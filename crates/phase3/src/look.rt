@@ -2,13 +2,13 @@
 ghost use Rattle.std.specs.Prelude.{◌≡◌};
 ghost use Rattle.phase3.specs.Memory.{Setting};
 
+use crate::UNREACHED;
 use crate::change::{Change, Move};
-use crate::leaders::Changed;
 use crate::memory::Row;
 use crate::pair::Pair;
-use crate::{OFFSET, UNREACHED};
+use crate::trial::Trial;
 use rules::places::MOST_RESOURCES;
-use tables::{budgets, room_in};
+use tables::budgets;
 
 // The pair, and the budgets where both segments give up what they have.
 #[derive(Clone, Copy)]
@@ -31,87 +31,16 @@ impl<'a> Pair<'a> {
     }
 }
 
-impl Look<'_> {
-    ghost use Rattle.std.specs.Prelude.{◌≤◌, true, false};
-    ghost use Rattle.rules.specs.Phases.{give, within, another, pairs_of};
+impl<'a> Look<'a> {
+    ghost use Rattle.std.specs.Prelude.{◌≤◌};
+    ghost use Rattle.rules.specs.Phases.{pairs_of};
     ghost use Rattle.phase3.specs.Improve.{Found};
-    ghost use Rattle.phase3.specs.Memory.{lowered, mark, IsShort, Holds, Searching, Refusal, WithTest, PairTest};
-    ghost use Rattle.phase3.specs.Views.{size_at, table_at, leaders_at, choice_at, room_at, excess_at};
-
-    // Resource r suffices for strategies a and b.
-    fn has_room(&self, a: usize, b: usize, r: usize) -> bool
-        requires number { (1 ≤ r) × (r ≤ (size_at self.now).resources) }
-        requires strategies { (a ≤ (size_at self.now).strategies) × (b ≤ (size_at self.now).strategies) }
-        ensures { result ≡ room_at self.now a b r }
-    {
-        let pair = self.pair;
-        let pass = pair.pass;
-        room_in(
-            pass.t.uses,
-            &pass.draft.sums,
-            &self.given,
-            pair.i,
-            a,
-            pair.k,
-            b,
-            r,
-        )
-    }
-
-    // A resource that does not suffice for strategies a and b. The one after the first `asked` is asked first.
-    fn short_of(&self, a: usize, b: usize, asked: usize) -> Option<usize>
-        requires { (a ≤ (size_at self.now).strategies) × (b ≤ (size_at self.now).strategies) }
-        ensures { IsShort (size_at self.now).resources (room_at self.now a b) result }
-    {
-        let resources = self.pair.pass.t.size.resources;
-        if asked < resources && !self.has_room(a, b, asked + 1) {
-            return Some(asked + 1);
-        }
-        (1..resources + 1).find(|r| !self.has_room(a, b, *r))
-    }
-
-    // The row remembers that resource r refused strategies a and b: its number goes down to their excess.
-    fn note(&self, a: usize, b: usize, r: usize, row: &mut Row)
-        requires number { (1 ≤ r) × (r ≤ (size_at self.now).resources) }
-        requires strategies { (a ≤ (size_at self.now).strategies) × (b ≤ (size_at self.now).strategies) }
-        ensures { row.new ≡ lowered row.old r (excess_at self.now a b r) }
-    {
-        let pair = self.pair;
-        let t = &pair.pass.t;
-        let more = t.uses.at(pair.i, a, r) + t.uses.at(pair.k, b, r);
-        let excess = more + (t.limits.entries[r - 1] + OFFSET - self.given[r - 1]);
-        row.excesses[r - 1] = excess.min(row.excesses[r - 1]);
-    }
-
-    // Strategies a and b go beyond a limit. The row remembers it, and that resource is asked first next time.
-    fn refused(&self, a: usize, b: usize, row: &mut Row, asked: &mut usize) -> bool
-        requires { (a ≤ (size_at self.now).strategies) × (b ≤ (size_at self.now).strategies) }
-        ensures refusal { let p = self.now.pair.now in Refusal (table_at self.now) (choice_at self.now) p.i p.k a b row.old row.new result }
-        ensures fits { let p = self.now.pair.now in result ≡ false → within (table_at self.now) (give (give (choice_at self.now) p.i a) p.k b) ≡ true }
-    {
-        let Some(r) = self.short_of(a, b, *asked) else {
-            return false;
-        };
-        *asked = r - 1;
-        self.note(a, b, r, row);
-        true
-    }
-
-    // The same by the resource alone that is asked first.
-    fn refused_by_last(&self, a: usize, b: usize, row: &mut Row, asked: usize) -> bool
-        requires { (a ≤ (size_at self.now).strategies) × (b ≤ (size_at self.now).strategies) }
-        ensures { let p = self.now.pair.now in Refusal (table_at self.now) (choice_at self.now) p.i p.k a b row.old row.new result }
-    {
-        if self.pair.pass.t.size.resources <= asked || self.has_room(a, b, asked + 1) {
-            return false;
-        }
-        self.note(a, b, asked + 1, row);
-        true
-    }
+    ghost use Rattle.phase3.specs.Memory.{Holds, Searching, WithTest};
+    ghost use Rattle.phase3.specs.Views.{size_at, table_at, leaders_at, choice_at};
 
     // A pair with strategy a for segment i may count: it is another one, more than the present with the greatest benefit of
     // segment k, and the resource asked first does not refuse it where segment k gets nothing.
-    fn with_may_count(&self, a: usize, row: &mut Row, asked: usize) -> bool
+    fn with_may_count(&'a self, a: usize, row: &mut Row, asked: usize) -> bool
         requires { a ≤ (size_at self.now).strategies }
         ensures { let p = self.now.pair.now in WithTest (table_at self.now) (choice_at self.now) p.i p.k a row.old row.new result }
     {
@@ -123,41 +52,17 @@ impl Look<'_> {
         if pass.t.benefits.at(pair.i, a) + pass.tops[pair.k - 1] <= pair.present_benefit() {
             return false;
         }
-        !self.refused_by_last(a, 0, row, asked)
-    }
-
-    // Strategies a, another one, and b count: the rise is tested first, then the limits, and leaders last. The row loses its
-    // mark where the limits hold: that leaders refuse the pair is not remembered, since a third segment may change that.
-    fn counts_two(&self, a: usize, b: usize, row: &mut Row, asked: &mut usize) -> bool
-        requires strategies { (a ≤ (size_at self.now).strategies) × (b ≤ (size_at self.now).strategies) }
-        requires other { another (table_at self.now) (choice_at self.now) self.now.pair.now.i a ≡ true }
-        ensures { let p = self.now.pair.now in PairTest (table_at self.now) (leaders_at self.now) (choice_at self.now) p.i p.k a b row.old row.new result }
-    {
-        let pair = self.pair;
-        let pass = pair.pass;
-        let benefits = pass.t.benefits;
-        let new = benefits.at(pair.i, a) + benefits.at(pair.k, b);
-        if new <= pair.present_benefit() {
-            return false;
-        }
-        if !pass.is_another(pair.k, b) {
-            return false;
-        }
-        if self.refused(a, b, row, asked) {
-            return false;
-        }
-        row.marked = 0;
-        let changed = Changed {
-            choice: &pass.draft.choice,
-            first: Move(pair.i, a),
-            second: Move(pair.k, b),
+        let alone = Trial {
+            look: self,
+            a,
+            b: 0,
         };
-        changed.respects_leaders(pass.t.leaders, pass.t.size.segments)
+        !alone.refused_by_last(row, asked)
     }
 
     // The first change of both segments that counts, by the strategy of each. The row remembers which limits refused the
     // others.
-    fn search(&self, row: &mut Row, asked: &mut usize) -> Option<Change>
+    fn search(&'a self, row: &mut Row, asked: &mut usize) -> Option<Change>
         requires { let p = self.now.pair.now in Searching (table_at self.now) (leaders_at self.now) (choice_at self.now) p.i p.k row.old 0 }
         ensures found { let p = self.now.pair.now in Found (size_at self.now) (choice_at self.now) result (pairs_of (table_at self.now) (leaders_at self.now) (choice_at self.now) p.i p.k) }
         ensures holds { let p = self.now.pair.now in Holds (table_at self.now) (leaders_at self.now) p.i p.k row.new }
@@ -167,7 +72,8 @@ impl Look<'_> {
         'search: for a in 0..strategies_end {
             if self.with_may_count(a, row, *asked) {
                 for b in 0..strategies_end {
-                    if self.counts_two(a, b, row, asked) {
+                    let trial = Trial { look: self, a, b };
+                    if trial.counts(row, asked) {
                         let first = Move(self.pair.i, a);
                         let second = Move(self.pair.k, b);
                         found = Some(Change::Two(first, second));
@@ -180,7 +86,7 @@ impl Look<'_> {
     }
 
     // The same with a row that is made anew.
-    pub fn first_change(&self, row: &mut Row, asked: &mut usize) -> Option<Change>
+    pub fn first_change(&'a self, row: &mut Row, asked: &mut usize) -> Option<Change>
         ensures found { let p = self.now.pair.now in Found (size_at self.now) (choice_at self.now) result (pairs_of (table_at self.now) (leaders_at self.now) (choice_at self.now) p.i p.k) }
         ensures holds { let p = self.now.pair.now in Holds (table_at self.now) (leaders_at self.now) p.i p.k row.new }
     {

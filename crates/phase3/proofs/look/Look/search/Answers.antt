@@ -15,10 +15,10 @@ loop-b-init c =
 
 pub loop-b-preserved : goal.loop-b-preserved
 loop-b-preserved c =
-    let q = c.counts_two.ensures in
+    let q = c.counts.ensures in
     let l = c.loop-b in (
       searching_lower _ _ _ _ _ q.lower q.tight l.invariant.0,
-      below_more _ _ (λ v lv. passed_lower _ _ _ _ _ _ v q.lower (l.invariant.1 v lv)) (q.passed c.if-counts_two.false),
+      below_more _ _ (λ v lv. passed_lower _ _ _ _ _ _ v q.lower (l.invariant.1 v lv)) (q.passed c.if-counts.false),
       l.invariant.2,
     )
 
@@ -49,12 +49,12 @@ returns-after-search c =
       holds = searching_holds _ _ _ _ _ l.invariant.0 (omega arith) (omega (arith, s.running.chosen.numbers c.args.self.now.pair.now.i, s.running.bounded.strategies)) (omega (arith, s.running.chosen.numbers c.args.self.now.pair.now.k, s.running.bounded.strategies));
     }
 
-pub returns-then-counts_two : goal.returns-then-counts_two
-returns-then-counts_two c =
-    let q = c.counts_two.ensures in
+pub returns-then-counts : goal.returns-then-counts
+returns-then-counts c =
+    let q = c.counts.ensures in
     let l = c.loop-b in
     let s = c.args.self.now.setting in
-    let found = q.counted c.if-counts_two.true in
+    let found = q.counted c.if-counts.true in
     let g = searching_lower _ _ _ _ _ q.lower q.tight l.invariant.0 in record {
       found = record {
         is = sym (of_found _ _ _ _ _ _ _ s.above (omega arith) (λ v lv. g.before v lv _ (alike _ _ _ _ _ g)) (omega arith)

@@ -12,8 +12,7 @@ use Rattle.phase3.proofs.memory.Row.holds_still.Goals as goal
 below_is : (n : ℕ) (slacks : List ℕ) (row : Row) (r : Bool) → IsTrue r ↔ ((k : ℕ) → k < n → get_or slacks k 0 < get_or row.excesses k 0) → r ≡ all n (below slacks row)
 unfolding below
 below_is n slacks row r h =
-    all_is n (below slacks row) r
-    (
+    all_is n (below slacks row) r (
       (λ e k under. let here : k + 1 - 1 ≡ k = omega arith in rw here (lt-ltb _ _ (h.0 e k under))),
       (λ g. h.1 (λ k under. let here : k + 1 - 1 ≡ k = omega arith in ltb-true _ _ (rw here at (g k under)))),
     )

@@ -1,13 +1,13 @@
--- `phase3::look::Look::short_of` meets its contract.
+-- `phase3::trial::Trial::short_of` meets its contract.
 use Rattle.std.proofs.Common.{◌≡◌, true, false, rules, tests}
 use Rattle.std.proofs.lemmas.Iterator.{first_from_Range}
 use Rattle.phase3.specs.Views.{room_at}
 use Rattle.phase3.proofs.Remembered.{short_is}
-use Rattle.phase3.proofs.look.Look.short_of.Goals as goal
+use Rattle.phase3.proofs.trial.Trial.short_of.Goals as goal
 
 pub returns : goal.returns
 returns c =
-    let room = room_at c.args.self.now c.args.a c.args.b in
+    let room = room_at c.args.self.now in
     short_is _ _ _
     (first_from_Range _ _ _ c.find.result (λ r. room r ≡ false) (λ r. room r ≡ true) c.find.ensures.ran
     (λ r q k. search (rules, tests))

@@ -1,0 +1,120 @@
+// A pair of strategies that is tried in a look at two segments.
+ghost use Rattle.std.specs.Prelude.{◌≤◌};
+
+use crate::OFFSET;
+use crate::change::Move;
+use crate::leaders::Changed;
+use crate::look::Look;
+use crate::memory::Row;
+use tables::room_in;
+
+// Segment i would get strategy a, and segment k strategy b.
+#[derive(Clone, Copy)]
+pub struct Trial<'a> {
+    pub look: &'a Look<'a>,
+    pub a: usize,
+    pub b: usize,
+    pub ghost strategies: { let z = look.now.pair.now.pass.now.t.size in (a ≤ z.strategies) × (b ≤ z.strategies) },
+}
+
+impl Trial<'_> {
+    ghost use Rattle.std.specs.Prelude.{◌≡◌, true, false};
+    ghost use Rattle.rules.specs.Phases.{give, within, another};
+    ghost use Rattle.phase3.specs.Memory.{lowered, IsShort, Refusal, PairTest};
+    ghost use Rattle.phase3.specs.Views.{size_at, table_at, leaders_at, choice_at, room_at, excess_at};
+
+    // Resource r suffices.
+    fn has_room(&self, r: usize) -> bool
+        requires { (1 ≤ r) × (r ≤ (size_at self.now.look.now).resources) }
+        ensures { result ≡ room_at self.now r }
+    {
+        let pair = self.look.pair;
+        let pass = pair.pass;
+        room_in(
+            pass.t.uses,
+            &pass.draft.sums,
+            &self.look.given,
+            pair.i,
+            self.a,
+            pair.k,
+            self.b,
+            r,
+        )
+    }
+
+    // A resource that does not suffice. The one after the first `asked` is asked first.
+    fn short_of(&self, asked: usize) -> Option<usize>
+        ensures { IsShort (size_at self.now.look.now).resources (room_at self.now) result }
+    {
+        let resources = self.look.pair.pass.t.size.resources;
+        if asked < resources && !self.has_room(asked + 1) {
+            return Some(asked + 1);
+        }
+        (1..resources + 1).find(|r| !self.has_room(*r))
+    }
+
+    // The row remembers that resource r refused: its number goes down to the excess.
+    fn note(&self, r: usize, row: &mut Row)
+        requires { (1 ≤ r) × (r ≤ (size_at self.now.look.now).resources) }
+        ensures { row.new ≡ lowered row.old r (excess_at self.now r) }
+    {
+        let pair = self.look.pair;
+        let t = &pair.pass.t;
+        let more = t.uses.at(pair.i, self.a, r) + t.uses.at(pair.k, self.b, r);
+        let excess = more + (t.limits.entries[r - 1] + OFFSET - self.look.given[r - 1]);
+        row.excesses[r - 1] = excess.min(row.excesses[r - 1]);
+    }
+
+    // A limit does not hold. The row remembers it, and that resource is asked first next time.
+    fn refused(&self, row: &mut Row, asked: &mut usize) -> bool
+        ensures refusal { let p = self.now.look.now.pair.now in Refusal (table_at self.now.look.now) (choice_at self.now.look.now) p.i p.k self.now.a self.now.b row.old row.new result }
+        ensures fits { let p = self.now.look.now.pair.now in result ≡ false → within (table_at self.now.look.now) (give (give (choice_at self.now.look.now) p.i self.now.a) p.k self.now.b) ≡ true }
+    {
+        let Some(r) = self.short_of(*asked) else {
+            return false;
+        };
+        *asked = r - 1;
+        self.note(r, row);
+        true
+    }
+
+    // The same by the resource alone that is asked first.
+    pub fn refused_by_last(&self, row: &mut Row, asked: usize) -> bool
+        ensures { let p = self.now.look.now.pair.now in Refusal (table_at self.now.look.now) (choice_at self.now.look.now) p.i p.k self.now.a self.now.b row.old row.new result }
+    {
+        if self.look.pair.pass.t.size.resources <= asked || self.has_room(asked + 1) {
+            return false;
+        }
+        self.note(asked + 1, row);
+        true
+    }
+
+    // The change counts, where strategy a is another one: the rise is tested first, then the limits, and leaders last. The row
+    // loses its mark where the limits hold: that leaders refuse the pair is not remembered, since a third segment may change
+    // that.
+    pub fn counts(&self, row: &mut Row, asked: &mut usize) -> bool
+        requires { another (table_at self.now.look.now) (choice_at self.now.look.now) self.now.look.now.pair.now.i self.now.a ≡ true }
+        ensures { let p = self.now.look.now.pair.now in PairTest (table_at self.now.look.now) (leaders_at self.now.look.now) (choice_at self.now.look.now) p.i p.k self.now.a self.now.b row.old row.new result }
+    {
+        let pair = self.look.pair;
+        let pass = pair.pass;
+        let benefits = pass.t.benefits;
+        let new = benefits.at(pair.i, self.a) + benefits.at(pair.k, self.b);
+        if new <= pair.present_benefit() {
+            return false;
+        }
+        if !pass.is_another(pair.k, self.b) {
+            return false;
+        }
+        if self.refused(row, asked) {
+            return false;
+        }
+        row.marked = 0;
+        let changed = Changed {
+            choice: &pass.draft.choice,
+            first: Move(pair.i, self.a),
+            second: Move(pair.k, self.b),
+        };
+        changed.respects_leaders(pass.t.leaders, pass.t.size.segments)
+    }
+}
