@@ -117,7 +117,8 @@ impl Pass<'_> {
         memory.look(&pair, asked)
     }
 
-    // The first pair that counts, ordered by the lower segment, the higher one, and then the strategy of each.
+    // The first pair that counts, ordered by the lower segment, the higher one, and then the strategy of each. Tried: with
+    // `asked` in the memory the phase takes a tenth more instructions.
     fn first_two(&self, memory: &mut Memory) -> Option<Change>
         requires { Remembers (table_of self.now) (leaders_of self.now) memory.old.rows }
         ensures found { Found self.now.t.size (choice_of self.now) result (first_pair (table_of self.now) (leaders_of self.now) (choice_of self.now)) }
