@@ -1,15 +1,20 @@
 -- What the code's views of a pass, of two segments and of a look at them stand for.
-use Rattle.std.specs.Prelude.{ℕ, Bool, List}
+use Rattle.std.specs.Prelude.{ℕ, Bool, List, Option}
 use Rattle.rules.specs.Table.{Table}
+use Rattle.rules.specs.Phases.{give, pairs_of}
 use Rattle.tables.specs.declared.Size.{Size}
 use Rattle.tables.specs.Moves.{room_for}
 use Rattle.tables.specs.Views.{table_in, leaders_in}
+use Rattle.phase3.specs.declared.change.Change.{Change}
 use Rattle.phase3.specs.declared.leaders.Changed.{Changed}
+use Rattle.phase3.specs.declared.memory.Row.{Row}
+use Rattle.phase3.specs.declared.memory.Memory.{Memory}
 use Rattle.phase3.specs.declared.pass.Pass.{Pass}
+use Rattle.phase3.specs.declared.pair.Pair.{Pair}
 use Rattle.phase3.specs.declared.look.Look.{Look}
 use Rattle.phase3.specs.declared.trial.Trial.{Trial}
-use Rattle.phase3.specs.Improve.{after_move}
-use Rattle.phase3.specs.Memory.{excess_of}
+use Rattle.phase3.specs.Improve.{after_move, Found}
+use Rattle.phase3.specs.Memory.{excess_of, Holds, Remembers, Searching, Refusal, WithTest, PairTest}
 
 -- a programme after its two moves
 abbrev pub changed : Changed → List ℕ
@@ -37,6 +42,42 @@ leaders_at l = leaders_of l.pair.now.pass.now
 
 abbrev pub choice_at : Look → List ℕ
 choice_at l = choice_of l.pair.now.pass.now
+
+-- x is what a search of the rules finds where a pass stands
+abbrev pub FoundBy : (Table → (ℕ → ℕ) → List ℕ → Option (List ℕ)) → Pass → Option Change → Type 0
+FoundBy search p x = Found p.t.size (choice_of p) x (search (table_of p) (leaders_of p) (choice_of p))
+
+-- the search of two segments
+abbrev pub of_pair : ℕ → ℕ → Table → (ℕ → ℕ) → List ℕ → Option (List ℕ)
+of_pair i k t leader c = pairs_of t leader c i k
+
+abbrev pub FoundAt : Pair → Option Change → Type 0
+FoundAt p x = FoundBy (of_pair p.i p.k) p.pass.now x
+
+-- every row of the memory holds for a pass's table and leaders
+abbrev pub Kept : Pass → Memory → Type 0
+Kept p memory = Remembers (table_of p) (leaders_of p) memory.rows
+
+-- a look's row: that it holds, and where the search of its strategies stands
+abbrev pub HoldsAt : Look → Row → Type 0
+HoldsAt l row = Holds (table_at l) (leaders_at l) l.pair.now.i l.pair.now.k row
+
+abbrev pub SearchingAt : Look → Row → ℕ → Type 0
+SearchingAt l row a = Searching (table_at l) (leaders_at l) (choice_at l) l.pair.now.i l.pair.now.k row a
+
+-- the test of a first strategy
+abbrev pub WithTestAt : Look → ℕ → Row → Row → Bool → Type 0
+WithTestAt l a row next may = WithTest (table_at l) (choice_at l) l.pair.now.i l.pair.now.k a row next may
+
+-- a trial's change, the test of its limits, and that of the change
+abbrev pub tried : Trial → List ℕ
+tried x = let l = x.look.now in give (give (choice_at l) l.pair.now.i x.a) l.pair.now.k x.b
+
+abbrev pub RefusalIn : Trial → Row → Row → Bool → Type 0
+RefusalIn x row next refused = let l = x.look.now in Refusal (table_at l) (choice_at l) l.pair.now.i l.pair.now.k x.a x.b row next refused
+
+abbrev pub PairTestIn : Trial → Row → Row → Bool → Type 0
+PairTestIn x row next ok = let l = x.look.now in PairTest (table_at l) (leaders_at l) (choice_at l) l.pair.now.i l.pair.now.k x.a x.b row next ok
 
 -- resource r suffices in a trial, and the excess there
 abbrev pub room_at : Trial → ℕ → Bool

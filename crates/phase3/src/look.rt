@@ -33,16 +33,13 @@ impl<'a> Pair<'a> {
 
 impl<'a> Look<'a> {
     ghost use Rattle.std.specs.Prelude.{◌≤◌};
-    ghost use Rattle.rules.specs.Phases.{pairs_of};
-    ghost use Rattle.phase3.specs.Improve.{Found};
-    ghost use Rattle.phase3.specs.Memory.{Holds, Searching, WithTest};
-    ghost use Rattle.phase3.specs.Views.{size_at, table_at, leaders_at, choice_at};
+    ghost use Rattle.phase3.specs.Views.{size_at, FoundAt, HoldsAt, SearchingAt, WithTestAt};
 
     // A pair with strategy a for segment i may count: it is another one, more than the present with the greatest benefit of
     // segment k, and the resource asked first does not refuse it where segment k gets nothing.
     fn with_may_count(&'a self, a: usize, row: &mut Row, asked: usize) -> bool
         requires { a ≤ (size_at self.now).strategies }
-        ensures { let p = self.now.pair.now in WithTest (table_at self.now) (choice_at self.now) p.i p.k a row.old row.new result }
+        ensures { WithTestAt self.now a row.old row.new result }
     {
         let pair = self.pair;
         let pass = pair.pass;
@@ -63,9 +60,9 @@ impl<'a> Look<'a> {
     // The first change of both segments that counts, by the strategy of each. The row remembers which limits refused the
     // others.
     fn search(&'a self, row: &mut Row, asked: &mut usize) -> Option<Change>
-        requires { let p = self.now.pair.now in Searching (table_at self.now) (leaders_at self.now) (choice_at self.now) p.i p.k row.old 0 }
-        ensures found { let p = self.now.pair.now in Found (size_at self.now) (choice_at self.now) result (pairs_of (table_at self.now) (leaders_at self.now) (choice_at self.now) p.i p.k) }
-        ensures holds { let p = self.now.pair.now in Holds (table_at self.now) (leaders_at self.now) p.i p.k row.new }
+        requires { SearchingAt self.now row.old 0 }
+        ensures found { FoundAt self.now.pair.now result }
+        ensures holds { HoldsAt self.now row.new }
     {
         let mut found = None;
         let strategies_end = self.pair.pass.t.size.strategies + 1;
@@ -87,8 +84,8 @@ impl<'a> Look<'a> {
 
     // The same with a row that is made anew.
     pub fn first_change(&'a self, row: &mut Row, asked: &mut usize) -> Option<Change>
-        ensures found { let p = self.now.pair.now in Found (size_at self.now) (choice_at self.now) result (pairs_of (table_at self.now) (leaders_at self.now) (choice_at self.now) p.i p.k) }
-        ensures holds { let p = self.now.pair.now in Holds (table_at self.now) (leaders_at self.now) p.i p.k row.new }
+        ensures found { FoundAt self.now.pair.now result }
+        ensures holds { HoldsAt self.now row.new }
     {
         *row = Row {
             marked: self.pair.mark(),

@@ -1,11 +1,8 @@
 // What phase 3 remembers of the pairs of segments that it looked at (specs/Memory.antt).
-ghost use Rattle.std.specs.Prelude.{◌≡◌, ◌≤◌};
+ghost use Rattle.std.specs.Prelude.{◌≡◌, ◌≤◌, None, true};
 ghost use Rattle.rules.specs.District.{most_resources};
-ghost use Rattle.rules.specs.Phases.{pairs_of};
-ghost use Rattle.std.specs.Prelude.{None, true};
-ghost use Rattle.phase3.specs.Improve.{Found};
-ghost use Rattle.phase3.specs.Memory.{row_at, holds_still, Remembers};
-ghost use Rattle.phase3.specs.Views.{table_of, leaders_of, choice_of};
+ghost use Rattle.phase3.specs.Memory.{row_at, holds_still};
+ghost use Rattle.phase3.specs.Views.{FoundAt, Kept};
 
 use crate::change::Change;
 use crate::pair::Pair;
@@ -47,8 +44,8 @@ fn place_of(pair: &Pair<'_>) -> usize
 impl Memory {
     // The pair's row still holds, so none of its changes counts.
     pub fn rules_out(&self, pair: &Pair<'_>) -> bool
-        requires { let p = pair.now.pass.now in Remembers (table_of p) (leaders_of p) self.now.rows }
-        ensures { let p = pair.now.pass.now in result ≡ true → pairs_of (table_of p) (leaders_of p) (choice_of p) pair.now.i pair.now.k ≡ None }
+        requires { Kept pair.now.pass.now self.now }
+        ensures { result ≡ true → FoundAt pair.now None }
     {
         let pass = pair.pass;
         self.rows[place_of(pair)].holds_still(pair.mark(), pass.t.size.resources, &pass.slacks)
@@ -56,9 +53,9 @@ impl Memory {
 
     // A look at the pair: the first of its changes that counts, and its row made anew.
     pub fn look(&mut self, pair: &Pair<'_>, asked: &mut usize) -> Option<Change>
-        requires { let p = pair.now.pass.now in Remembers (table_of p) (leaders_of p) self.old.rows }
-        ensures found { let p = pair.now.pass.now in Found p.t.size (choice_of p) result (pairs_of (table_of p) (leaders_of p) (choice_of p) pair.now.i pair.now.k) }
-        ensures memory { let p = pair.now.pass.now in Remembers (table_of p) (leaders_of p) self.new.rows }
+        requires { Kept pair.now.pass.now self.old }
+        ensures found { FoundAt pair.now result }
+        ensures memory { Kept pair.now.pass.now self.new }
     {
         let at = place_of(pair);
         pair.look().first_change(&mut self.rows[at], asked)

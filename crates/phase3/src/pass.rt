@@ -44,11 +44,10 @@ pub fn slacks_of(
 
 impl Pass<'_> {
     ghost use Rattle.std.specs.Prelude.{◌<◌};
-    ghost use Rattle.rules.specs.Phases.{another, first_single, pairs_of, first_pair, change};
+    ghost use Rattle.rules.specs.Phases.{another, first_single, first_pair, change};
     ghost use Rattle.tables.specs.Arrays.{Cell};
-    ghost use Rattle.phase3.specs.Improve.{Found, counts_one};
-    ghost use Rattle.phase3.specs.Memory.{Remembers};
-    ghost use Rattle.phase3.specs.Views.{table_of, leaders_of, choice_of};
+    ghost use Rattle.phase3.specs.Improve.{counts_one};
+    ghost use Rattle.phase3.specs.Views.{table_of, leaders_of, choice_of, of_pair, FoundBy, Kept};
 
     // Strategy a is not the one that segment i has, and is a candidate or nothing.
     #[tactic(auto, unfolding(rules::specs::Phases::another, rules::specs::Phases::is_candidate))]
@@ -81,7 +80,7 @@ impl Pass<'_> {
 
     // The first single change that counts, segment by segment: nothing before strategy 1, and so on up.
     fn first_one(&self) -> Option<Change>
-        ensures { Found self.now.t.size (choice_of self.now) result (first_single (table_of self.now) (leaders_of self.now) (choice_of self.now)) }
+        ensures { FoundBy first_single self.now result }
     {
         let mut found = None;
         let segments_end = self.t.size.segments + 1;
@@ -105,10 +104,10 @@ impl Pass<'_> {
         memory: &mut Memory,
         asked: &mut usize,
     ) -> Option<Change>
-        requires memory { Remembers (table_of self.now) (leaders_of self.now) memory.old.rows }
+        requires memory { Kept self.now memory.old }
         requires le_i { (1 ≤ i) × (i < k) × (k ≤ self.now.t.size.segments) }
-        ensures found { Found self.now.t.size (choice_of self.now) result (pairs_of (table_of self.now) (leaders_of self.now) (choice_of self.now) i k) }
-        ensures memory { Remembers (table_of self.now) (leaders_of self.now) memory.new.rows }
+        ensures found { FoundBy (of_pair i k) self.now result }
+        ensures memory { Kept self.now memory.new }
     {
         let pair = Pair { pass: self, i, k };
         if !pair.may_rise() || memory.rules_out(&pair) {
@@ -120,9 +119,9 @@ impl Pass<'_> {
     // The first pair that counts, ordered by the lower segment, the higher one, and then the strategy of each. Tried: with
     // `asked` in the memory the phase takes a tenth more instructions.
     fn first_two(&self, memory: &mut Memory) -> Option<Change>
-        requires { Remembers (table_of self.now) (leaders_of self.now) memory.old.rows }
-        ensures found { Found self.now.t.size (choice_of self.now) result (first_pair (table_of self.now) (leaders_of self.now) (choice_of self.now)) }
-        ensures memory { Remembers (table_of self.now) (leaders_of self.now) memory.new.rows }
+        requires { Kept self.now memory.old }
+        ensures found { FoundBy first_pair self.now result }
+        ensures memory { Kept self.now memory.new }
     {
         let mut found = None;
         let mut asked: usize = 0;
@@ -140,9 +139,9 @@ impl Pass<'_> {
 
     // The first change that counts: single changes come before pairs.
     pub fn first_change(&self, memory: &mut Memory) -> Option<Change>
-        requires { Remembers (table_of self.now) (leaders_of self.now) memory.old.rows }
-        ensures found { Found self.now.t.size (choice_of self.now) result (change (table_of self.now) (leaders_of self.now) (choice_of self.now)) }
-        ensures memory { Remembers (table_of self.now) (leaders_of self.now) memory.new.rows }
+        requires { Kept self.now memory.old }
+        ensures found { FoundBy change self.now result }
+        ensures memory { Kept self.now memory.new }
     {
         match self.first_one() {
             Some(change) => Some(change),

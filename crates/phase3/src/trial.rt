@@ -19,9 +19,9 @@ pub struct Trial<'a> {
 
 impl Trial<'_> {
     ghost use Rattle.std.specs.Prelude.{◌≡◌, true, false};
-    ghost use Rattle.rules.specs.Phases.{give, within, another};
-    ghost use Rattle.phase3.specs.Memory.{lowered, IsShort, Refusal, PairTest};
-    ghost use Rattle.phase3.specs.Views.{size_at, table_at, leaders_at, choice_at, room_at, excess_at};
+    ghost use Rattle.rules.specs.Phases.{within, another};
+    ghost use Rattle.phase3.specs.Memory.{lowered, IsShort};
+    ghost use Rattle.phase3.specs.Views.{size_at, table_at, choice_at, tried, room_at, excess_at, RefusalIn, PairTestIn};
 
     // Resource r suffices.
     fn has_room(&self, r: usize) -> bool
@@ -67,8 +67,8 @@ impl Trial<'_> {
 
     // A limit does not hold. The row remembers it, and that resource is asked first next time.
     fn refused(&self, row: &mut Row, asked: &mut usize) -> bool
-        ensures refusal { let p = self.now.look.now.pair.now in Refusal (table_at self.now.look.now) (choice_at self.now.look.now) p.i p.k self.now.a self.now.b row.old row.new result }
-        ensures fits { let p = self.now.look.now.pair.now in result ≡ false → within (table_at self.now.look.now) (give (give (choice_at self.now.look.now) p.i self.now.a) p.k self.now.b) ≡ true }
+        ensures refusal { RefusalIn self.now row.old row.new result }
+        ensures fits { result ≡ false → within (table_at self.now.look.now) (tried self.now) ≡ true }
     {
         let Some(r) = self.short_of(*asked) else {
             return false;
@@ -80,7 +80,7 @@ impl Trial<'_> {
 
     // The same by the resource alone that is asked first.
     pub fn refused_by_last(&self, row: &mut Row, asked: usize) -> bool
-        ensures { let p = self.now.look.now.pair.now in Refusal (table_at self.now.look.now) (choice_at self.now.look.now) p.i p.k self.now.a self.now.b row.old row.new result }
+        ensures { RefusalIn self.now row.old row.new result }
     {
         if self.look.pair.pass.t.size.resources <= asked || self.has_room(asked + 1) {
             return false;
@@ -94,7 +94,7 @@ impl Trial<'_> {
     // that.
     pub fn counts(&self, row: &mut Row, asked: &mut usize) -> bool
         requires { another (table_at self.now.look.now) (choice_at self.now.look.now) self.now.look.now.pair.now.i self.now.a ≡ true }
-        ensures { let p = self.now.look.now.pair.now in PairTest (table_at self.now.look.now) (leaders_at self.now.look.now) (choice_at self.now.look.now) p.i p.k self.now.a self.now.b row.old row.new result }
+        ensures { PairTestIn self.now row.old row.new result }
     {
         let pair = self.look.pair;
         let pass = pair.pass;

@@ -8,4 +8,5 @@ pub returns : goal.returns
 returns c =
     let pair = c.args.pair.now in
     let pass = pair.pass.now in
-    λ e. still_none pass.t.benefits.entries.now c.requires pass.running pass.slack pair.i pair.k (omega arith) (omega arith) (omega arith) _ c.mark.ensures (rw (← c.place_of.ensures) (sym c.holds_still.ensures ∙ e))
+    λ e.
+    record { is = sym (still_none pass.t.benefits.entries.now c.requires pass.running pass.slack pair.i pair.k (omega arith) (omega arith) (omega arith) _ c.mark.ensures (rw (← c.place_of.ensures) (sym c.holds_still.ensures ∙ e))); inside = tt }

@@ -1,5 +1,5 @@
 -- `phase3::memory::Row::holds_still` meets its contract: the chain's answer is that of the test of every resource.
-use Rattle.std.proofs.Common.{◌≡◌, ℕ, ◌+◌, ◌-◌, ◌<◌, Bool, true, List, get_or, arith, rules}
+use Rattle.std.proofs.Common.{◌≡◌, ℕ, ◌+◌, ◌-◌, ◌<◌, Bool, List, get_or, arith, rules}
 use Rattle.std.proofs.iter.runs.Sources.{ranges}
 use Rattle.std.specs.Prelude.{IsTrue, ◌↔◌}
 use borrow.Author.Tests.{eq-eqb, lt-ltb, ltb-true}

@@ -14,5 +14,5 @@ returns-then-not-may_rise-clause-found c =
         is = sym (no_of _ _ _ (places c.args.self.now.running) _ _ m.0 m.1 m.2 (benefit_nothing _) (sym c.may_rise.ensures ∙ w.if-not-may_rise.true));
         inside = tt;
       }
-      | then-not-may_rise-via-else-not-may_rise+then-rules_out w ↦ record { is = sym (w.rules_out.ensures w.if-rules_out.true); inside = tt }
+      | then-not-may_rise-via-else-not-may_rise+then-rules_out w ↦ w.rules_out.ensures w.if-rules_out.true
     ]
