@@ -52,6 +52,7 @@ fn next_change(
 }
 
 // Makes the first change that counts, and starts anew, until no change counts. Returns how many were made.
+#[tactic(auto, using(crate::proofs::ChangeSearch::under_end, crate::proofs::ChangeSearch::under_small))]
 pub fn improve(t: TableView<'_>, draft: &mut Draft) -> u64
     requires { Drafted t draft.old }
     ensures running { Drafted t.entry draft.new }

@@ -43,6 +43,7 @@ fn place_of(pair: &Pair<'_>) -> usize
 
 impl Memory {
     // The pair's row still holds, so none of its changes counts.
+    #[tactic(auto, using(crate::proofs::Rows::still_none))]
     pub fn rules_out(&self, pair: &Pair<'_>) -> bool
         requires { Kept pair.now.pass.now self.now }
         ensures { result ≡ true → FoundAt pair.now None }

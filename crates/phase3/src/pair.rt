@@ -1,9 +1,8 @@
 // Two segments that may change at once.
 ghost use Rattle.std.specs.Prelude.{◌<◌, ◌≤◌};
 
-use crate::look::Look;
 use crate::pass::Pass;
-use tables::{COLUMNS, budgets};
+use tables::COLUMNS;
 
 // Segments i and k in a pass.
 #[derive(Clone, Copy)]
@@ -32,6 +31,7 @@ impl Pair<'_> {
     }
 
     // The greatest benefits of both are more than the present ones.
+    #[tactic(auto, using(crate::proofs::ChangeSearch::top_le))]
     pub fn may_rise(&self) -> bool
         ensures { let p = self.now.pass.now in result ≡ pair_may_rise (table_of p) (choice_of p) self.now.i self.now.k }
     {

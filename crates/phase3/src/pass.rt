@@ -59,6 +59,7 @@ impl Pass<'_> {
     }
 
     // Giving segment i strategy a counts. A strategy of greater benefit is another one, and a candidate.
+    #[tactic(auto, using(crate::proofs::ChangeSearch::low_one, crate::proofs::ChangeSearch::high_one, tables::proofs::Moves::places))]
     fn counts_one(&self, i: usize, a: usize) -> bool
         requires { (1 ≤ i) × (i ≤ self.now.t.size.segments) × (a ≤ self.now.t.size.strategies) }
         ensures { result ≡ counts_one (table_of self.now) (leaders_of self.now) (choice_of self.now) i a }
@@ -79,6 +80,7 @@ impl Pass<'_> {
     }
 
     // The first single change that counts, segment by segment: nothing before strategy 1, and so on up.
+    #[tactic(auto, using(crate::proofs::ChangeSearch::single_none, crate::proofs::ChangeSearch::singles_none, crate::proofs::ChangeSearch::singles_end, crate::proofs::ChangeSearch::single_found))]
     fn first_one(&self) -> Option<Change>
         ensures { FoundBy first_single self.now result }
     {
@@ -97,6 +99,7 @@ impl Pass<'_> {
     }
 
     // The first pair of segments i and k that counts, without a look where none can rise, or where the memory still holds.
+    #[tactic(auto, using(crate::proofs::ChangeSearch::no_of, tables::proofs::Moves::places, tables::proofs::Arrays::benefit_nothing))]
     fn first_of_pair(
         &self,
         i: usize,
@@ -118,6 +121,7 @@ impl Pass<'_> {
 
     // The first pair that counts, ordered by the lower segment, the higher one, and then the strategy of each. Tried: with
     // `asked` in the memory the phase takes a tenth more instructions.
+    #[tactic(auto, using(crate::proofs::ChangeSearch::of_low, crate::proofs::ChangeSearch::from_none, crate::proofs::ChangeSearch::pairs_end, crate::proofs::ChangeSearch::found_pair))]
     fn first_two(&self, memory: &mut Memory) -> Option<Change>
         requires { Kept self.now memory.old }
         ensures found { FoundBy first_pair self.now result }
@@ -138,6 +142,7 @@ impl Pass<'_> {
     }
 
     // The first change that counts: single changes come before pairs.
+    #[tactic(auto, using(crate::proofs::ChangeSearch::change_single))]
     pub fn first_change(&self, memory: &mut Memory) -> Option<Change>
         requires { Kept self.now memory.old }
         ensures found { FoundBy change self.now result }

@@ -3,14 +3,8 @@ use mathlib.Core.Path.{sym, ◌∙◌}
 use mathlib.Core.Bool.{true, false}
 use native.Mathlib.Omega.{arith}
 use Rattle.tables.proofs.Moves.{places}
-use Rattle.phase3.proofs.ChangeSearch.{low_one, high_one}
+use Rattle.phase3.proofs.ChangeSearch.{high_one}
 use Rattle.phase3.proofs.pass.Pass.counts_one.Goals as goal
-
-pub returns-then-at-chosen : goal.returns-then-at-chosen
-returns-then-at-chosen c =
-    let m = c.requires in
-    let room = places c.args.self.now.running in
-    sym (low_one _ _ _ _ _ m.0 m.1 room (omega (arith, c.chosen.ensures.value, c.at.ensures.value)))
 
 pub returns-then-not-fits : goal.returns-then-not-fits
 returns-then-not-fits c =

@@ -1,10 +1,7 @@
 -- `phase3::trial::Trial::refused` meets its contract.
 use native.Mathlib.Omega.{arith}
-use Rattle.phase3.proofs.Remembered.{refusal_none, refusal_short, all_fit}
+use Rattle.phase3.proofs.Remembered.{refusal_short, all_fit}
 use Rattle.phase3.proofs.trial.Trial.refused.Goals as goal
-
-pub returns-in_default-clause-refusal : goal.returns-in_default-clause-refusal
-returns-in_default-clause-refusal c = refusal_none c.args.self.now.look.now.setting _ _ _
 
 pub returns-in_default-clause-fits : goal.returns-in_default-clause-fits
 returns-in_default-clause-fits c = λ _. all_fit c.args.self.now.look.now.setting _ _ c.in_default.ensures

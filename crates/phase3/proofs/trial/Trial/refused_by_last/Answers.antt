@@ -1,11 +1,8 @@
 -- `phase3::trial::Trial::refused_by_last` meets its contract.
 use mathlib.Core.Path.{sym, ◌∙◌}
 use native.Mathlib.Omega.{arith}
-use Rattle.phase3.proofs.Remembered.{refusal_none, refusal_short}
+use Rattle.phase3.proofs.Remembered.{refusal_short}
 use Rattle.phase3.proofs.trial.Trial.refused_by_last.Goals as goal
-
-pub returns-then-self-asked : goal.returns-then-self-asked
-returns-then-self-asked c = refusal_none c.args.self.now.look.now.setting _ _ _
 
 pub returns : goal.returns
 returns c =
