@@ -40,7 +40,7 @@ fn put_line(sheet: &Sheet, n: usize, out: &mut [u8])
     }
 }
 
-// Each line into its own part of the buffer.
+// Each line into its own part of the buffer. No chunks_exact_mut: of what is written through one a proof keeps the length alone.
 fn put_lines(sheet: &Sheet, out: &mut [u8])
     requires { (segments_of sheet.now.ranged.district.now + 3) * line_bytes ≤ length out.old }
     ensures { let page = lines (Page·rows sheet.now.ranged.district.now sheet.now.programme.now) in out.new ≡ page ++ drop (length page) out.old }
