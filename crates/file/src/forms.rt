@@ -9,6 +9,7 @@ use rules::District;
 use rules::places::*;
 
 // The form in which a file is read. One that ends before its first kind does is refused in both.
+#[tactic(auto, using(base::proofs::Choice::picks, crate::proofs::TwoForms::read_short, crate::proofs::TwoForms::read_as))]
 pub fn form_in(file: &[u8]) -> Form
     ensures { decode_as (form_number result) file.now ≡ decode file.now }
 {

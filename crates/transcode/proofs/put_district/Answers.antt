@@ -1,6 +1,5 @@
 -- `transcode::put_district` meets its contract.
 use lib.ListN.{replicate, length-replicate}
-use borrow.Author.Rules.{rules}
 use Rattle.base.specs.Text.{Put}
 use Rattle.rules.specs.File.{encode, longest_file}
 use Rattle.base.proofs.Text.{put_within, put_part}
@@ -20,9 +19,6 @@ slice_bounds-file-end c = put_within (filed (goal.at.slice_bounds-file-end c).Af
 
 pub slice_bounds-put_framed-end : goal.slice_bounds-put_framed-end
 slice_bounds-put_framed-end c = put_part (filed (goal.at.slice_bounds-put_framed-end c).After-unwrap_or-n)
-
-pub put_framed-requires : goal.put_framed-requires
-put_framed-requires c = rw (put_taken (filed (goal.at.put_framed-requires c).After-unwrap_or-n)) (search rules)
 
 pub returns : goal.returns
 returns c = rw (← put_taken (filed (goal.at.returns c).After-unwrap_or-n)) c.put_framed.ensures

@@ -1,6 +1,6 @@
 -- `records_in_range` meets its contract: the test in all is the test from here on.
 use Prim.Native.Nat.{ℕ, ◌+◌, ◌-◌}
-use mathlib.Core.Path.{◌≡◌, refl, sym, ap, ◌∙◌}
+use mathlib.Core.Path.{◌≡◌, sym, ap, ◌∙◌}
 use mathlib.Core.Bool.{Bool, true, false, ◌&&◌}
 use native.Mathlib.Omega.{arith}
 use lib.ListN.{drop}
@@ -20,9 +20,6 @@ tested c t e =
     l.invariant.0
     ∙ ranges_step d l.n l.place (slot_in s.result) (omega arith) s.ensures
     ∙ ap (λ (t : Bool). t && records_in_range (file_records - (l.n + 1)) d (l.n + 1) (drop (l.place + s.result.places) d)) (sym c.numbers_in_range.ensures ∙ e)
-
-pub loop-n-init : goal.loop-n-init
-loop-n-init c = (refl, refl)
 
 pub numbers_in_range-requires : goal.numbers_in_range-requires
 numbers_in_range-requires c =

@@ -1,8 +1,8 @@
 -- `read_numbers` meets its contract: what is read in all is what is read from here on, after the values so far.
 use Prim.Native.Nat.{ℕ, ◌+◌, ◌-◌, ◌≤◌}
-use mathlib.Core.Path.{◌≡◌, refl, sym, ap, ◌∙◌}
+use mathlib.Core.Path.{◌≡◌, sym, ap, ◌∙◌}
 use mathlib.Core.List.{List}
-use native.Mathlib.Nat.{sub-zero, sub_self}
+use native.Mathlib.Nat.{sub_self}
 use native.Mathlib.Omega.{arith}
 use lib.ListN.{length, take, drop, length-set}
 use lib.Seq.{drop-drop, take-set-le}
@@ -28,9 +28,6 @@ left c =
     let a = c.args in
     omega (arith, widths_step a.slot.places (take a.place a.d.now) (slot_in a.slot) l.i c.field_at-f.result (omega arith) (field c))
 
-pub loop-i-init : goal.loop-i-init
-loop-i-init c = (rw sub-zero, rw sub-zero c.requires.slot_in_bounds, refl, c.requires.d_len)
-
 pub number-x-requires : goal.number-x-requires
 number-x-requires c =
     let l = c.loop-i in
@@ -53,15 +50,6 @@ returns-then-not-is_inside c =
       before = l.invariant.2;
       all = l.invariant.3;
     }
-
-pub overflow_add-d : goal.overflow_add-d
-overflow_add-d c = omega (arith, c.requires.ready.room)
-
-pub offset_bounds-d-place : goal.offset_bounds-d-place
-offset_bounds-d-place c = omega (arith, c.requires.ready.room)
-
-pub bounds-d-place : goal.bounds-d-place
-bounds-d-place c = omega (arith, c.requires.ready.room)
 
 pub overflow_add-at : goal.overflow_add-at
 overflow_add-at c = omega (arith, left (goal.at.overflow_add-at c).After-field_at-f)

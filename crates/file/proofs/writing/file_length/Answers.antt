@@ -6,7 +6,7 @@ use native.Mathlib.Omega.{arith}
 use lib.ListN.{length, length-append}
 use Rattle.rules.specs.File.{record_bytes, records_bytes, encode_as}
 use Rattle.rules.specs.Format.{Slot, file_records}
-use Rattle.grammar.proofs.Slots.{few_places, start_next, record_room}
+use Rattle.grammar.proofs.Slots.{start_next, record_room}
 use Rattle.file.proofs.Steps.{records_step, length_records}
 use Rattle.file.proofs.writing.file_length.Goals as goal
 use Rattle.grammar.specs.Slots.{form_number, slot_in}
@@ -23,9 +23,6 @@ left c =
 pub loop-n-init : goal.loop-n-init
 unfolding encode_as
 loop-n-init c = (zero-add _, refl)
-
-pub record_length-sum-requires : goal.record_length-sum-requires
-record_length-sum-requires c = omega (arith, few_places (form_number c.args.form) c.loop-n.n, ap (λ (s : Slot). s.places) c.slot_at-slot.ensures)
 
 pub overflow_add-sum : goal.overflow_add-sum
 unfolding encode_as

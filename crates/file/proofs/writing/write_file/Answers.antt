@@ -27,21 +27,12 @@ pub loop-n-init : goal.loop-n-init
 unfolding encode_as
 loop-n-init c = (written_none _ _, refl)
 
-pub slice_bounds-write_record-count : goal.slice_bounds-write_record-count
-slice_bounds-write_record-count c = omega (arith, c.loop-n.invariant.0.room)
-
-pub slice_bounds-write_record-start : goal.slice_bounds-write_record-start
-slice_bounds-write_record-start c = omega (arith, c.loop-n.invariant.0.room)
-
 pub write_record-at-requires : goal.write_record-at-requires
 write_record-at-requires c =
     let l = c.loop-n in
     let p = ap (λ (s : Slot). s.places) c.slot_at-slot.ensures in
     let form = (form_number c.args.form) in
     record { places_le_most_places = (omega (arith, few_places form l.n), omega (arith, record_room form l.n (omega arith), l.invariant.1)); place_in_bounds = rw (whole_tail l.out l.at) (simp length-drop (omega (arith, room (goal.at.write_record-at-requires c).After-slot_at-slot))) }
-
-pub overflow_add-at : goal.overflow_add-at
-overflow_add-at c = omega (arith, room (goal.at.overflow_add-at c).After-slot_at-slot, c.write_record-at.ensures.value)
 
 pub overflow_add-place : goal.overflow_add-place
 overflow_add-place c =

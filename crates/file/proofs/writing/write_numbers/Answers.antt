@@ -2,12 +2,11 @@
 use Prim.Native.Nat.{ℕ, ◌+◌, ◌-◌, ◌≤◌, ◌<◌}
 use mathlib.Core.Path.{◌≡◌, ap, ◌∙◌}
 use mathlib.Core.List.{◌++◌}
-use native.Mathlib.Nat.{sub-zero, add-zero}
 use native.Mathlib.Omega.{arith}
 use lib.ListN.{length, get_or, take, drop, length-drop}
 use lib.Seq.{get_or-take, get_or-drop}
 use Rattle.base.proofs.Bytes.{length_bytes}
-use Rattle.base.proofs.Buffers.{Written, written_none, written_all, written_more, tail_room, whole_tail}
+use Rattle.base.proofs.Buffers.{Written, written_all, written_more, tail_room, whole_tail}
 use Rattle.base.specs.Bytes.{bytes_of}
 use Rattle.rules.specs.File.{number_bytes}
 use Rattle.file.proofs.Steps.{numbers_step}
@@ -28,15 +27,6 @@ room c =
     let a = c.args in
     let w = c.field_at-f.result.width in
     omega (arith, tail_room (bytes_of w (get_or a.d.now (a.place + l.i) 0)) _ (now c) c.requires.place_in_bounds, length_bytes w (get_or a.d.now (a.place + l.i) 0))
-
-pub loop-i-init : goal.loop-i-init
-loop-i-init c = rw (sub-zero, add-zero) (written_none _ _)
-
-pub slice_bounds-put-count : goal.slice_bounds-put-count
-slice_bounds-put-count c = omega (arith, c.loop-i.invariant.room)
-
-pub slice_bounds-put-start : goal.slice_bounds-put-start
-slice_bounds-put-start c = omega (arith, c.loop-i.invariant.room)
 
 pub put-requires : goal.put-requires
 put-requires c =
