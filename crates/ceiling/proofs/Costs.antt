@@ -24,7 +24,7 @@ use Rattle.tables.specs.Arrays.{entry, use_entry, columns, entries}
 use Rattle.tables.specs.declared.Size.{Size}
 use Rattle.ceiling.specs.declared.candidates.Candidates.{Candidates}
 use Rattle.ceiling.specs.declared.candidates.NewPrice.{NewPrice}
-use Rattle.ceiling.specs.Prices.{In, Sized, priced_table, Prices, Costs, Trial}
+use Rattle.ceiling.specs.Prices.{In, Sized, priced_table, Prices, Costs}
 
 -- ---- resource r gets the price q
 
@@ -94,6 +94,14 @@ module _ {z : Size} {b d : List ℕ} (sized : Sized z b d) where
       omega (arith, prices_small prices z.resources, margins_small p z.segments)
 
 -- ---- in a trial
+
+-- what a trial reads beside the costs: arrays, prices, and a new price for resource r
+pub record Trial (z : Size) (b d p : List ℕ) (r price : ℕ) : Type 0 where
+  pub sized : Sized z b d
+  pub prices : Prices p
+  pub resource_from : 1 ≤ r
+  pub resource_to : r ≤ z.resources
+  pub small : price < 2 ^ 41
 
 pub trial_of : (t : Candidates) (new : NewPrice) {p : List ℕ} → Prices p → new.resource ≤ t.size.resources → Trial t.size t.benefits.now t.downs.now p new.resource new.price
 trial_of t new prices h = record { sized = t.sized; prices = prices; resource_from = new.from_one; resource_to = h; small = new.small }

@@ -3,6 +3,8 @@ use Prim.Native.Nat.{ℕ, zero, suc, ◌+◌, ◌-◌, ◌*◌, ◌^◌, ◌≤�
 use mathlib.Core.Path.{◌≡◌, refl, ap, sym, ◌∙◌}
 use mathlib.Core.Bool.{◌&&◌}
 use mathlib.Core.List.{List}
+use Rattle.std.specs.Prelude.{Option, None, Some}
+use Rattle.std.specs.Option.{MatchOption, unwrap_or}
 use native.Mathlib.Nat.{zero-mul}
 use native.Mathlib.Numerals.{add-one}
 use native.Mathlib.Omega.{arith}
@@ -13,7 +15,7 @@ use lib.Pow.{pow_pos}
 use lib.Seq.{get_or-set_other, get_or-take, get_or-drop}
 use Rattle.base.proofs.Choice.{pick_all}
 use Rattle.base.specs.Over.{sum, most}
-use Rattle.base.proofs.Sums.{sum_cong, sum_zero, most_cong}
+use Rattle.base.proofs.Sums.{sum_cong, sum_zero, most_none, most_part, most_bound, most_cong}
 use Rattle.rules.specs.District.{most_resources}
 use Rattle.rules.specs.Table.{Table}
 use Rattle.rules.specs.Ceiling.{price_at, down_share, cost_by, cost, net, margin, raised, lowered, ceiling_at, lowers, priced, priced_all, prices_after}
@@ -145,10 +147,10 @@ worth b i j = get_or b (entry i j) 0
 
 -- a segment's row of benefits
 module _ {z : Size} {b d : List ℕ} (sized : Sized z b d) (i : ℕ) (low : 1 ≤ i) (high : i ≤ z.segments) where
-  abbrev from : ℕ
+  abbrev pub from : ℕ
   from = columns * (i - 1) + 1
 
-  abbrev row : List ℕ
+  abbrev pub row : List ℕ
   row = take (from + z.strategies - from) (drop from b)
 
   pub row_long : length row ≡ z.strategies
@@ -158,6 +160,20 @@ module _ {z : Size} {b d : List ℕ} (sized : Sized z b d) (i : ℕ) (low : 1 �
   row_worth k h =
       let at : from + k ≡ entry i (k + 1) = omega arith in
       get_or-take (from + z.strategies - from) (drop from b) k 0 (omega (arith, row_long)) ∙ get_or-drop from b k 0 ∙ ap (λ (m : ℕ). get_or b m 0) at
+
+  -- the greatest of it: no other is above it, and it is among them
+  pub row_most : (r : Option ℕ) → MatchOption r (length row ≡ 0) (λ m. (k : ℕ) → k < length row → get_or row k 0 ≤ m)
+      → MatchOption r (length row ≡ 0) (λ m. (k : ℕ) × (k < length row) × (get_or row k 0 ≡ m)) → unwrap_or r 0 ≡ most z.strategies (worth b i)
+  row_most None empty among = let none : z.strategies ≡ 0 = omega (arith, row_long) in rw none (most_none (worth b i))
+  row_most (Some m) within among =
+      let above : most z.strategies (worth b i) ≤ m =
+      most_bound z.strategies m (worth b i)
+      (λ j lj hj.
+      let at : j - 1 + 1 ≡ j = omega arith in
+      let inside : j - 1 < length row = omega (arith, row_long) in
+      omega (arith, within (j - 1) inside, rw at at (row_worth (j - 1) inside))) in
+      let part = most_part z.strategies (worth b i) (among.0 + 1) (omega arith) (omega (arith, among.1, row_long)) in
+      omega (arith, among.2, row_worth among.0 among.1)
 
 pub free_prices : Prices free
 free_prices = record { places = length-replicate {A = ℕ} most_resources 0; small = λ k. omega (arith, zeros most_resources k) }

@@ -60,14 +60,6 @@ pub record Costs (z : Size) (b d new old : List ℕ) (e : ℕ) (c : List ℕ) : 
   pub places : length c ≡ entries
   pub costs : (i j : ℕ) → In z i j → 0 < get_or b (entry i j) 0 → get_or c (entry i j) 0 ≡ cost (priced_table z b d) (pick (ltb (entry i j) e) new old) i j
 
--- what a trial reads beside the costs: arrays, prices, and a new price for resource r
-pub record Trial (z : Size) (b d p : List ℕ) (r price : ℕ) : Type 0 where
-  pub sized : Sized z b d
-  pub prices : Prices p
-  pub resource_from : 1 ≤ r
-  pub resource_to : r ≤ z.resources
-  pub small : price < 2 ^ 41
-
 -- 16 prices, with room for a step of each
 pub record Headroom (step : ℕ) (p : List ℕ) : Type 0 where
   pub places : length p ≡ most_resources

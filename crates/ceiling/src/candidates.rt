@@ -34,11 +34,11 @@ impl Candidates<'_> {
         ensures { result ≡ margin (priced_in self.entry) free i }
     {
         let from = COLUMNS * (i - 1) + 1;
-        let mut best: u64 = 0;
-        for benefit in &self.benefits[from..from + self.size.strategies] {
-            best = best.max(*benefit);
-        }
-        best
+        self.benefits[from..from + self.size.strategies]
+            .iter()
+            .copied()
+            .max()
+            .unwrap_or(0)
     }
 
     // The ceiling where all prices are 0.

@@ -22,7 +22,7 @@ mod weighed;
 pub use shares::ShareTable;
 
 // The candidate of segment i with the greatest benefit, of equals the lowest; 0 where there is none, which is the number of
-// nothing.
+// nothing. A loop, since max_by_key would take the last of equals, and a benefit of 0.
 fn top_candidate(z: Size, benefits: BenefitTable<'_>, i: usize) -> usize
     requires { Cell i z.strategies }
     ensures { (u l : List ℕ) → result ≡ top_candidate (tables z benefits.entry.entries.now u l) i }
@@ -66,6 +66,7 @@ fn next_candidate(z: Size, benefits: BenefitTable<'_>, i: usize, a: usize) -> us
 }
 
 // Of an array at the places of uses, what stands there for a programme's strategies in resource r, together.
+#[tactic(auto, using(crate::proofs::Pulls::first_le))]
 fn sum_in(z: Size, entries: &[u64], choice: &[usize], r: usize) -> u64
     requires summable { Summable z entries.now choice.now }
     requires le_r { (1 ≤ r) × (r ≤ z.resources) }
@@ -84,8 +85,8 @@ fn sums_of(z: Size, entries: &[u64], choice: &[usize]) -> [u64; MOST_RESOURCES]
     ensures { ShareSums z entries.now choice.now result }
 {
     let mut each = [0u64; MOST_RESOURCES];
-    for r in 0..z.resources {
-        each[r] = sum_in(z, entries, choice, r + 1);
+    for (r, sum) in each[..z.resources].iter_mut().enumerate() {
+        *sum = sum_in(z, entries, choice, r + 1);
     }
     each
 }
@@ -164,7 +165,7 @@ pub fn reduce(t: TableView<'_>, shares: ShareTable<'_>, draft: &mut Draft) -> u6
         let weighed = Weighed {
             t,
             shares,
-            draft: &*draft,
+            draft,
             share_sums: &share_sums,
         };
         if weighed.limits_hold() {

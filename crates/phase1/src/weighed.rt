@@ -55,8 +55,8 @@ impl Weighed<'_> {
         ensures { Surpluses (table_in self.now.t) self.now.draft.now.choice result }
     {
         let mut over = [0u64; MOST_RESOURCES];
-        for r in 0..self.t.size.resources {
-            over[r] = self.surplus(r + 1);
+        for (r, beyond) in over[..self.t.size.resources].iter_mut().enumerate() {
+            *beyond = self.surplus(r + 1);
         }
         over
     }
@@ -101,7 +101,8 @@ impl Weighed<'_> {
     }
 }
 
-// A row of shares times the surpluses. A resource without surplus adds nothing.
+// A row of shares times the surpluses. A loop that passes over a resource without surplus, since a chain of products would
+// multiply all.
 fn pull_by(resources: usize, row: &[u64], over: &[u64; MOST_RESOURCES]) -> u64
     requires resources_le_most_resources { (resources ≤ most_resources) × (length row.now ≡ most_resources) }
     requires by_index { ((r : ℕ) → 1 ≤ r → r ≤ resources → get_or row.now (r - 1) 0 ≤ 10_000) × ((r : ℕ) → 1 ≤ r → r ≤ resources → get_or over.now (r - 1) 0 ≤ 640_000) }

@@ -3,26 +3,11 @@ use Prim.Native.Nat.{◌+◌}
 use native.Mathlib.Omega.{arith}
 use Rattle.base.proofs.Sums.{sum_none, sum_next, sum_end}
 use Rattle.phase1.specs.Reduce.{held_share}
-use Rattle.phase1.proofs.Pulls.{first_all, first_le, first_share, summable_le}
+use Rattle.phase1.proofs.Pulls.{first_all, first_share, summable_le}
 use Rattle.phase1.proofs.sum_in.Goals as goal
 
 pub loop-i-init : goal.loop-i-init
 loop-i-init c = sum_none _
-
-pub overflow_add-all : goal.overflow_add-all
-overflow_add-all c = omega (arith, first_le c.requires.summable c.loop-i.i (omega arith))
-
-pub overflow_mul-all-in-loop-i : goal.overflow_mul-all-in-loop-i
-overflow_mul-all-in-loop-i c = omega (arith, first_le c.requires.summable c.loop-i.i (omega arith))
-
-pub overflow_add-all-in-loop-i : goal.overflow_add-all-in-loop-i
-overflow_add-all-in-loop-i c = omega (arith, first_le c.requires.summable c.loop-i.i (omega arith), c.requires.summable.bounded.resources)
-
-pub offset_bounds-entries-i : goal.offset_bounds-entries-i
-offset_bounds-entries-i c = omega (arith, first_le c.requires.summable c.loop-i.i (omega arith), c.requires.summable.bounded.resources)
-
-pub bounds-entries-i : goal.bounds-entries-i
-bounds-entries-i c = omega (arith, first_le c.requires.summable c.loop-i.i (omega arith), c.requires.summable.bounded.resources, c.requires.summable.places)
 
 pub overflow_add-all-in-loop-i-2 : goal.overflow_add-all-in-loop-i-2
 overflow_add-all-in-loop-i-2 c =

@@ -1,19 +1,16 @@
 -- `ceiling::Candidates::free_margin` meets its contract.
+use Prim.Native.Nat.{ℕ, ◌<◌, ◌≤◌}
 use mathlib.Core.Path.{◌≡◌, ◌∙◌}
-use native.Mathlib.Omega.{arith}
-use Rattle.base.proofs.Sums.{most_none, most_next}
-use Rattle.ceiling.proofs.Rounds.{row_long, row_worth, free_margin_is}
+use borrow.Author.Rules.{rules}
+use Rattle.std.specs.Option.{MatchOption}
+use lib.ListN.{length, get_or}
+use Rattle.ceiling.proofs.Rounds.{row, row_most, free_margin_is}
 use Rattle.ceiling.proofs.candidates.Candidates.free_margin.Goals as goal
-
-pub loop-benefit-init : goal.loop-benefit-init
-loop-benefit-init c = most_none _
-
-pub loop-benefit-preserved : goal.loop-benefit-preserved
-loop-benefit-preserved c =
-    let at = row_worth c.args.self.sized c.args.i c.requires.0 c.requires.1 c.loop-benefit.benefit-index c.loop-benefit-test.true in
-    c.max-best.ensures ∙ rw at (most_next _ _ c.loop-benefit.invariant)
 
 pub returns : goal.returns
 returns c =
-    let e : c.loop-benefit.benefit-index ≡ c.args.self.size.strategies = omega (arith, row_long c.args.self.sized c.args.i c.requires.0 c.requires.1) in
-    free_margin_is _ _ _ c.args.i (c.loop-benefit.invariant ∙ rw e)
+    let t = c.args.self in
+    let xs = row t.sized c.args.i c.requires.0 c.requires.1 in
+    let within : MatchOption c.max.result (length xs ≡ 0) (λ m. (k : ℕ) → k < length xs → get_or xs k 0 ≤ m) = search rules in
+    let among : MatchOption c.max.result (length xs ≡ 0) (λ m. (k : ℕ) × (k < length xs) × (get_or xs k 0 ≡ m)) = search rules in
+    free_margin_is _ _ _ c.args.i (c.unwrap_or.ensures ∙ row_most t.sized c.args.i c.requires.0 c.requires.1 c.max.result within among)

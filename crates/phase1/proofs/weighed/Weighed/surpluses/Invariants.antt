@@ -1,10 +1,9 @@
 use Prim.Native.Nat.{ℕ, ◌-◌, ◌≤◌}
 use mathlib.Core.Path.{◌≡◌}
-use lib.ListN.{length, get_or}
-use Rattle.rules.specs.District.{most_resources}
+use lib.ListN.{get_or}
 use Rattle.rules.specs.Phases.{surplus}
 use Rattle.tables.specs.Views.{table_in}
 use Rattle.phase1.proofs.weighed.Weighed.surpluses.Given as goal
 
 abbrev pub invariant-loop-r : goal.invariant-loop-r
-invariant-loop-r l = (length l.over ≡ most_resources) × ((q : ℕ) → 1 ≤ q → q ≤ l.r → get_or l.over (q - 1) 0 ≡ surplus (table_in l.self.t) l.self.draft.now.choice q)
+invariant-loop-r l = ((q : ℕ) → 1 ≤ q → q ≤ l.r → get_or l.beyond-items (q - 1) 0 ≡ surplus (table_in l.self.t) l.self.draft.now.choice q)
