@@ -1,7 +1,7 @@
 -- `phase1::sum_in` meets its contract: the sum so far is that of the segments passed.
 use Prim.Native.Nat.{◌+◌}
 use native.Mathlib.Omega.{arith}
-use Rattle.base.proofs.Sums.{sum_none, sum_next, sum_end}
+use Rattle.base.proofs.Sums.{sum_none, sum_next}
 use Rattle.phase1.specs.Reduce.{held_share}
 use Rattle.phase1.proofs.Pulls.{first_all, first_share, summable_le}
 use Rattle.phase1.proofs.sum_in.Goals as goal
@@ -18,6 +18,3 @@ overflow_add-all-in-loop-i-2 c =
 
 pub loop-i-preserved : goal.loop-i-preserved
 loop-i-preserved c = rw (first_share c.requires.summable c.loop-i.i (omega arith) c.args.r) (sum_next _ _ c.loop-i.invariant)
-
-pub returns : goal.returns
-returns c = sum_end _ _ _ c.loop-i.invariant (omega (arith, first_all c.requires.summable)) (omega (arith, first_all c.requires.summable))

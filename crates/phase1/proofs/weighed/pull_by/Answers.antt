@@ -2,7 +2,7 @@
 use Prim.Native.Nat.{◌+◌}
 use mathlib.Core.Path.{◌∙◌}
 use native.Mathlib.Omega.{arith}
-use Rattle.base.proofs.Sums.{sum_none, sum_end}
+use Rattle.base.proofs.Sums.{sum_none}
 use Rattle.phase1.proofs.Pulls.{pull_turn, pull_skip, pull_le}
 use Rattle.phase1.proofs.weighed.pull_by.Goals as goal
 use Rattle.phase1.proofs.weighed.pull_by.Goals.{then-beyond-gt0, else-beyond-gt0}
@@ -32,6 +32,3 @@ loop-r-preserved c =
       | then-beyond-gt0 w ↦ w.all-is ∙ pull_turn a.row.now a.over.now l.r l.invariant
       | else-beyond-gt0 w ↦ w.all-is ∙ pull_skip a.row.now a.over.now l.r l.invariant w.if-beyond-gt0.false
     ]
-
-pub returns : goal.returns
-returns c = sum_end _ _ _ c.loop-r.invariant (omega arith) (omega arith)

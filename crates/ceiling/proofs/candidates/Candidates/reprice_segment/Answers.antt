@@ -2,13 +2,10 @@
 use Prim.Native.Nat.{◌≤◌, ◌+◌}
 use native.Mathlib.Omega.{arith}
 use Rattle.ceiling.specs.Prices.{In}
-use Rattle.ceiling.proofs.Costs.{trial_of, costs_past, costs_held, costs_set, costs_skip, move_fits, move_is}
+use Rattle.ceiling.proofs.Costs.{trial_of, costs_held, costs_set, costs_skip, move_fits, move_is}
 use Rattle.rules.specs.District.{most_strategies}
 use Rattle.ceiling.proofs.candidates.Candidates.reprice_segment.Goals as goal
 use Rattle.ceiling.proofs.candidates.Candidates.reprice_segment.Goals.{then-self-at-gt0, else-self-at-gt0}
-
-pub loop-j-init : goal.loop-j-init
-loop-j-init c = costs_past c.requires.costs (λ k l inside lt. omega arith) (λ k l inside lt. omega arith)
 
 pub moved-requires : goal.moved-requires
 moved-requires c =
@@ -31,6 +28,3 @@ loop-j-preserved c =
           rw w.costs-is (costs_set inside few c.loop-j.invariant (omega (arith, t.sized.segments)) (move_is trial inside w.if-self-at-gt0.true held w.moved.ensures))
       | else-self-at-gt0 w ↦ rw w.costs-is (costs_skip inside few c.loop-j.invariant w.if-self-at-gt0.false)
     ]
-
-pub returns : goal.returns
-returns c = costs_past c.loop-j.invariant (λ k l inside lt. omega arith) (λ k l inside lt. omega arith)
