@@ -32,6 +32,7 @@ fn value_at(d: &District, at: usize) -> usize
 fn set_value(d: &mut District, at: usize, value: usize)
     ensures { d.new ≡ set d.old at value }
 {
+    // With `get_mut` it was tried: what a write through its reference leaves did not close.
     if at < DISTRICT_PLACES {
         d[at] = value;
     }

@@ -16,6 +16,7 @@ pub fn payload(d: &District, slot: Slot) -> usize
     requires { slot.places ≤ most_places }
     ensures { result ≡ size d.now (slot_in slot) }
 {
+    // As a chain with `sum` it was tried: that the widths fit their sum did not close.
     let mut sum = 0;
     for i in 0..slot.places {
         sum += grammar::field_at(d, slot, i).width;
@@ -37,6 +38,7 @@ fn read_numbers(
     ensures { ReadInto (read_numbers slot.places (take place d.old) (slot_in slot) 0 [] (drop from file.now)) place slot.places file.now d.old d.new result }
 {
     let mut at = from;
+    // No iterator over the district, which is read while it is written.
     for i in 0..slot.places {
         let f = grammar::field_at(d, slot, i);
         let x = bytes::number(file, at, f.width);
