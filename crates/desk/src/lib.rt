@@ -40,7 +40,6 @@ pub fn fresh() -> Desk
 }
 
 // An edit, with its office's number, at the console of number `n`.
-#[tactic(auto, using(station::proofs::Numbers::naming, crate::proofs::Arrivals::nobody_arrives))]
 pub fn arrive(d: &mut Desk, n: usize, w: Waiting) -> Answer
     ensures { Arrives d.old n w (reply result d.new) }
 {

@@ -1,6 +1,6 @@
 -- Which office a number names.
 use Prim.Native.Nat.{ℕ}
-use mathlib.Core.Path.{◌≡◌, refl, sym, ap, ◌∙◌}
+use mathlib.Core.Path.{◌≡◌, refl, ap, ◌∙◌}
 use mathlib.Core.Bool.{Bool, true, false, true≢false}
 use Rattle.std.specs.Prelude.{Option, None, Some, Ok, Err}
 use Rattle.std.specs.Option.{is_some, ok_or}
@@ -17,9 +17,8 @@ use Rattle.rules.specs.declared.refusals.Refusal.{Refusal}
 use Rattle.rules.specs.declared.refusals.Refusal.TheVariants.{NoSuchOffice}
 use Rattle.office.specs.declared.Office.{Office}
 use Rattle.stations.proofs.Calls.{number_named}
-use Rattle.station.specs.Kept.{is_office, office_in, KeepsBoth, units_in}
+use Rattle.station.specs.Kept.{is_office, office_in, KeepsBoth}
 use Rattle.station.specs.declared.Station.{Station}
-use Rattle.station.proofs.Units.{unit_in}
 
 pub nobody_named : (n : ℕ) → is_office n ≡ false → office_of n ≡ None
 unfolding is_office

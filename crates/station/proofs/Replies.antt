@@ -3,8 +3,7 @@ use Prim.Native.Nat.{ℕ, zero, suc}
 use mathlib.Core.Path.{◌≡◌, refl, sym, ap, ap₂, subst, ◌∙◌}
 use mathlib.Core.Bool.{false, true≢false}
 use mathlib.Core.List.{List}
-use Rattle.rules.specs.District.{District}
-use Rattle.rules.specs.Answers.{no_such_office, answer_of, Answer, Accepted, Refused}
+use Rattle.rules.specs.Answers.{no_such_office, answer_of, Answer, Refused}
 use Rattle.rules.specs.Lists.{Call, outcome_of}
 use Rattle.rules.specs.Meter.{sent_refusal}
 use Rattle.rules.specs.Offices.{Held, OfficeCall, Plan, Send, lent_bytes, OfficeOutcome, office_outcome}

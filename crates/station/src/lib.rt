@@ -112,7 +112,6 @@ pub fn load(s: &mut Station, n: usize, bytes: &[u8]) -> Answer
 
 // ---- the other calls
 
-#[tactic(auto, using(crate::proofs::Numbers::naming, crate::proofs::Replies::nobody_plans))]
 pub fn alter(s: &mut Station, n: usize, e: Edit) -> Answer
     ensures { PlansBoth s.old n (Alter e) (reply result s.new) }
 {
