@@ -1,23 +1,26 @@
--- One call: what its command comes to, and the zeros that an export or a page goes into.
-use Prim.Native.Nat.{ℕ, zero, suc, ◌≤◌, min}
+-- One call: what it comes to, and the zeros that an export or a page goes into.
+use Prim.Native.Nat.{ℕ, min}
 use mathlib.Core.Path.{◌≡◌, refl, sym, ap, ◌∙◌}
-use mathlib.Core.List.{List, ◌∷◌}
+use mathlib.Core.List.{List}
 use native.Mathlib.Nat.{min-le_right}
-use native.Mathlib.Omega.{arith}
-use lib.ListN.{length, take, replicate, length-replicate}
+use lib.ListN.{take, replicate}
+use Rattle.std.proofs.lemmas.List.{take-replicate}
+use Rattle.std.specs.Prelude.{Result, Ok, Err}
+use Rattle.std.specs.Result.{result_and}
 use Rattle.rules.specs.Lists.{Call, Show}
 use Rattle.rules.specs.Offices.{Plan}
 use Rattle.rules.specs.Desks.{Ask}
 use Rattle.rules.specs.Stations.{StationCall, call_of}
-use Rattle.rules.specs.Answers.{Answer}
+use Rattle.rules.specs.Answers.{Answer, answer_in}
 use Rattle.rules.specs.declared.Edit.{Edit}
 use Rattle.rules.specs.declared.Sent.{Sent}
+use Rattle.rules.specs.declared.refusals.Refusal.{Refusal}
 use Rattle.command.specs.declared.Command.{Command}
 use Rattle.station.specs.Kept.{RepliesTo, Lends}
+use Rattle.station.specs.Questions.{without_value}
 use Rattle.station.proofs.Replies.{lent_replies}
 use Rattle.desk.specs.Kept.{Happens}
 use Rattle.desk.specs.declared.Desk.{Desk}
-use Rattle.desk.specs.declared.DeskReply.{DeskReply}
 use Rattle.desk.proofs.Calls.{call_happens}
 use Rattle.script.specs.Script.{commanded}
 
@@ -41,28 +44,37 @@ shown_else (Command.Office office) n file l x a p w s r = refl
 shown_else (Command.Queue console e) n file l x a p w s r = refl
 shown_else Command.Step n file l x a p w s r = refl
 
--- a call that leaves the desk as it is
-pub answered_happens : {d : Desk} {c : StationCall} {answer : Answer} {r : DeskReply} → r ≡ record { answer = answer; desk = d }
-    → RepliesTo d.station c (record { answer = answer; station = d.station }) → Happens d (Ask c) r
-answered_happens {d} {c} {answer} e replies = rw e (call_happens d (record { answer = answer; desk = d }) c (record { reply = replies; queues = refl }))
+-- ---- calls that leave the desk as it is
 
-pub lent_happens : {d : Desk} {n : ℕ} {c : Call} {answer : Answer} {bytes : List ℕ} {r : DeskReply} → r ≡ record { answer = answer; desk = d }
-    → Lends d.station n c answer bytes → Happens d (Ask (call_of n (Plan c))) r
-lent_happens {d} {n} {c} {answer} {bytes} e lends = answered_happens e (lent_replies d.station n c answer bytes lends)
+left_out : {A : Type 0} (r : Result A Refusal) → without_value (answer_in r) ≡ answer_in (result_and r (Ok 0))
+unfolding without_value
+left_out (Ok value) = refl
+left_out (Err refusal) = refl
 
--- ---- zeros
+module _ (d : Desk) where
+  asked_happens : (c : StationCall) (answer : Answer) → RepliesTo d.station c (record { answer = answer; station = d.station }) → Happens d (Ask c) (record { answer = answer; desk = d })
+  asked_happens c answer replies = call_happens d (record { answer = answer; desk = d }) c (record { reply = replies; queues = refl })
 
--- the front of bytes that are all the same
-same_front : (x n m : ℕ) → n ≤ m → take n (replicate m x) ≡ replicate n x
-same_front x zero m h = refl
-same_front x (suc n) zero h = absurd (omega arith)
-same_front x (suc n) (suc m) h = ap (λ (l : List ℕ). x ∷ l) (same_front x n m (omega arith))
+  lent_happens :
+      (n : ℕ) (c : Call) (answer : Answer) (bytes : List ℕ) → Lends d.station n c answer bytes → Happens d (Ask (call_of n (Plan c))) (record { answer = answer; desk = d })
+  lent_happens n c answer bytes lends = asked_happens (call_of n (Plan c)) answer (lent_replies d.station n c answer bytes lends)
 
-same_length : (x n m : ℕ) → n ≤ m → n ≡ length (take n (replicate m x))
-same_length x n m h = sym (ap length (same_front x n m h) ∙ length-replicate n x)
+  -- as many zeros as there is room for are lent to a call
+  pub lent_zeros :
+      (n : ℕ) (c : List ℕ → Call) (answer : Answer) (bytes : List ℕ) (size room most : ℕ) → size ≡ min room most
+      → Lends d.station n (c (take {A = ℕ} size (replicate most 0))) answer bytes
+      → Happens d (Ask (call_of n (Plan (c (replicate (min room most) 0))))) (record { answer = answer; desk = d })
+  lent_zeros n c answer bytes size room most is lends =
+      let zeros : take {A = ℕ} (min room most) (replicate most 0) ≡ replicate (min room most) 0 = take-replicate (min room most) most 0 (min-le_right room most) in
+      lent_happens n (c (replicate (min room most) 0)) answer bytes (rw (is, zeros) at lends)
 
--- as many of them as there is room for
-pub same_room : (x room n most : ℕ) → room ≡ min n most → (room ≡ length (take room (replicate most x))) × (take room (replicate most x) ≡ replicate (min n most) x)
-same_room x room n most e =
-    let fits : room ≤ most = omega (arith, min-le_right n most) in
-    (same_length x room most fits, same_front x room most fits ∙ ap (λ (k : ℕ). replicate k x) e)
+  -- an answer whose value is left out
+  module _ {A : Type 0} (r : Result A Refusal) (s : Result ℕ Refusal) (is : s ≡ result_and r (Ok 0)) where
+    left : without_value (answer_in r) ≡ answer_in s
+    left = left_out r ∙ ap answer_in (sym is)
+
+    pub asked_left_out : (c : StationCall) → RepliesTo d.station c (record { answer = without_value (answer_in r); station = d.station }) → Happens d (Ask c) (record { answer = answer_in s; desk = d })
+    asked_left_out c replies = asked_happens c (answer_in s) (rw left at replies)
+
+    pub lent_left_out : (n : ℕ) (c : Call) (bytes : List ℕ) → Lends d.station n c (without_value (answer_in r)) bytes → Happens d (Ask (call_of n (Plan c))) (record { answer = answer_in s; desk = d })
+    lent_left_out n c bytes lends = lent_happens n c (answer_in s) bytes (rw left at lends)

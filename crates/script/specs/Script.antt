@@ -14,10 +14,9 @@ use Rattle.rules.specs.Desks.{Desk, fresh_desk, Event, Arrive, Step, Ask, desk_b
 use Rattle.pages.specs.Printed.{longest_page}
 use Rattle.rules.specs.declared.Edit.{Edit}
 use Rattle.rules.specs.Answers.{Answer, Accepted}
-use Rattle.command.specs.Reading.{at, row, rows, numbered, edit_in}
+use Rattle.command.specs.Reading.{at, Row, row, rows, numbered, edit_in}
 use Rattle.command.specs.declared.Command.{Command}
 use Rattle.command.specs.declared.Name.{Name}
-use Rattle.command.specs.declared.Row.{Row}
 
 -- what stands at the front of the bytes
 abbrev pub kind_in : List ℕ → ℕ
@@ -49,7 +48,7 @@ step_kind = 17
 
 -- which stand so in the table of words
 pub kinds :
-    map (λ n. map (λ (r : Row). r.1) (take 1 (drop n rows))) (load_kind ∷ queue_kind ∷ step_kind ∷ [])
+    map (λ n. map (λ (r : Row). r.name) (take 1 (drop n rows))) (load_kind ∷ queue_kind ∷ step_kind ∷ [])
     ≡ (Name.Load ∷ []) ∷ (Name.Queue ∷ []) ∷ (Name.Step ∷ []) ∷ []
 unfolding row rows
 kinds = refl

@@ -1,8 +1,9 @@
 // A list of calls, read from bytes and made one after the other from the fresh desk (specs/Script.antt).
 #![tactic(auto)]
 
-ghost use Rattle.std.specs.Prelude.{◌≡◌, ◌+◌, ◌≤◌, min, length, replicate};
+ghost use Rattle.std.specs.Prelude.{◌≡◌, ◌+◌, ◌<◌, ◌≤◌, min, length, replicate, MatchOption};
 ghost use Rattle.pages.specs.Printed.{longest_page};
+ghost use Rattle.rules.specs.Answers.{answer_in};
 ghost use Rattle.rules.specs.Calls.{show_of};
 ghost use Rattle.rules.specs.Demands.{Sound};
 ghost use Rattle.rules.specs.File.{longest_file};
@@ -11,218 +12,229 @@ ghost use Rattle.rules.specs.Offices.{Plan, AskRoughness};
 ghost use Rattle.rules.specs.Desks.{Step, Ask, desk_after};
 ghost use Rattle.rules.specs.DeskDemands.{desk_district};
 ghost use Rattle.rules.specs.Stations.{call_of};
-ghost use Rattle.station.specs.Kept.{office_in};
-ghost use Rattle.command.specs.Reading.{edit_in};
-ghost use Rattle.desk.specs.Kept.{KeepsDesk, Happens};
-ghost use Rattle.script.specs.Script.{command_in, body_in, queue_kind, commanded, queued_for, event_of, named_by, entries_of, events_of, last_answer, last_office};
 ghost use Rattle.rules.specs.declared.Which.{Which};
+ghost use Rattle.station.specs.Kept.{office_in};
+ghost use Rattle.desk.specs.Kept.{KeepsDesk, Happens, reply};
+ghost use Rattle.script.specs.Script.{number_at, command_in, body_in, queue_kind, entries_of, events_of, last_answer, last_office};
 
-use command::Command;
-use desk::{Desk, DeskReply};
+use command::{Command, Name};
+use desk::Desk;
 use pages::LONGEST_PAGE;
 use rules::records::LONGEST_FILE;
-use rules::{Answer, Roughness, Waiting, Why};
+use rules::{Answer, Waiting};
 
-// What the last call of a list replied, and which office it named.
-#[derive(Clone, Copy)]
-pub struct Ran {
-    pub last: DeskReply,
-    pub office: usize,
+// Kinds whose rows do not say all. A kind is any byte: past the last row it names no command.
+const LOAD: u8 = Name::Load as u8;
+
+const QUEUE: u8 = Name::Queue as u8;
+
+const STEP: u8 = Name::Step as u8;
+
+// So many bytes say a call; what follows them is its file or its edit.
+const CALL_BYTES: usize = 17;
+
+// ---- numbers and kinds of a call
+
+// The number in the four bytes from `at`.
+fn number(call: &[u8], at: usize) -> usize
+    requires { at + 4 ≤ length call.now }
+    ensures { result ≡ number_at at call.now }
+{
+    file::bytes::number(call, at, 4)
 }
 
-// Kinds whose rows do not say all.
-const LOAD: u8 = 0;
-
-const QUEUE: u8 = 16;
-
-const STEP: u8 = 17;
-
 // The command of a call, from its kind and its numbers.
+#[tactic(auto, unfolding(crate::specs::Script::command_in))]
 fn read(call: &[u8]) -> Command
     requires { 17 ≤ length call.now }
     ensures { result ≡ command_in call.now }
 {
-    let a = file::bytes::number(call, 5, 4);
-    let b = file::bytes::number(call, 9, 4);
-    let c = file::bytes::number(call, 13, 4);
-    command::numbered(call[0] as usize, [a, b, c, 0])
+    let numbers = [number(call, 5), number(call, 9), number(call, 13), 0];
+    command::numbered(usize::from(call[0]), numbers)
 }
 
 // How many bytes follow the 17 of a call.
+#[tactic(auto, unfolding(crate::specs::Script::body_in))]
 fn body_of(call: &[u8]) -> usize
     requires { 17 ≤ length call.now }
     ensures { result ≡ body_in call.now }
 {
-    let kind = call[0];
-    if kind == LOAD {
-        return file::bytes::number(call, 5, 4);
+    match call[0] {
+        LOAD => number(call, 5),
+        QUEUE => CALL_BYTES,
+        _ => 0,
     }
-    if kind == QUEUE {
-        return 17;
-    }
-    0
 }
 
-fn smaller(n: usize, most: usize) -> usize
-    ensures { result ≡ min n most }
-{
-    if n < most { n } else { most }
-}
+// ---- calls that leave the desk as it is
 
-// The reply of a call that leaves the desk as it is.
-fn answered(desk: Desk, answer: Answer) -> DeskReply
-    ensures { result ≡ record { answer = answer; desk = desk } }
+// An export into `room` zeros. A page differs in a length and a call: one function that takes both would be longer.
+fn exported(d: &Desk, n: usize, room: usize) -> Answer
+    ensures { Happens d.now (Ask (call_of n (Plan (ExportTo (replicate (min room longest_file) 0))))) (reply result d.now) }
 {
-    DeskReply { answer, desk }
-}
-
-// An export into `room` zeros.
-fn exported(d: Desk, n: usize, room: usize) -> DeskReply
-    ensures { Happens d (Ask (call_of n (Plan (ExportTo (replicate (min room longest_file) 0))))) result }
-{
-    let mut buffer = [0u8; LONGEST_FILE];
-    let size = smaller(room, LONGEST_FILE);
-    let answer = station::export(d.station, n, &mut buffer[..size]);
-    answered(d, answer)
+    let mut buffer = [0; LONGEST_FILE];
+    station::export(&d.station, n, &mut buffer[..room.min(LONGEST_FILE)])
 }
 
 // A page into `room` zeros.
-fn paged(d: Desk, n: usize, room: usize) -> DeskReply
-    ensures { Happens d (Ask (call_of n (Plan (PageTo (replicate (min room longest_page) 0))))) result }
+fn paged(d: &Desk, n: usize, room: usize) -> Answer
+    ensures { Happens d.now (Ask (call_of n (Plan (PageTo (replicate (min room longest_page) 0))))) (reply result d.now) }
 {
-    let mut buffer = [0u8; LONGEST_PAGE];
-    let size = smaller(room, LONGEST_PAGE);
-    let answer = station::page(d.station, n, &mut buffer[..size]);
-    answered(d, answer)
+    let mut buffer = [0; LONGEST_PAGE];
+    station::page(&d.station, n, &mut buffer[..room.min(LONGEST_PAGE)])
 }
 
 // A show, its programme left out.
-fn shown(d: Desk, n: usize) -> DeskReply
-    ensures { Happens d (Ask (call_of n (Plan Show))) result }
+fn shown(d: &Desk, n: usize) -> Answer
+    ensures { Happens d.now (Ask (call_of n (Plan Show))) (reply result d.now) }
 {
-    let shown = station::show(d.station, n);
-    let answer = shown.answer;
-    answered(d, answer)
+    station::show(&d.station, n).and(Ok(0))
 }
 
 // A why, its reason left out.
-fn asked(d: Desk, n: usize, segment: usize, strategy: usize) -> DeskReply
-    ensures { Happens d (Ask (call_of n (Plan (AskWhy segment strategy)))) result }
+fn asked(d: &Desk, n: usize, segment: usize, strategy: usize) -> Answer
+    ensures { Happens d.now (Ask (call_of n (Plan (AskWhy segment strategy)))) (reply result d.now) }
 {
-    let why = station::why(d.station, n, segment, strategy);
-    match why {
-        Why::Because(_) => answered(d, Answer::Accepted(0)),
-        Why::Refused(number) => answered(d, Answer::Refused(number)),
-    }
+    station::why(&d.station, n, segment, strategy).and(Ok(0))
 }
 
 // The question for roughness points, points and marker left out.
-fn rough(d: Desk, n: usize) -> DeskReply
-    ensures { Happens d (Ask (call_of n AskRoughness)) result }
+fn rough(d: &Desk, n: usize) -> Answer
+    ensures { Happens d.now (Ask (call_of n AskRoughness)) (reply result d.now) }
 {
-    let roughness = station::roughness(d.station, n);
-    match roughness {
-        Roughness::Points(_, _) => answered(d, Answer::Accepted(0)),
-        Roughness::Refused(number) => answered(d, Answer::Refused(number)),
+    station::roughness(&d.station, n).and(Ok(0))
+}
+
+// ---- calls that may change it
+
+// A step, its console left out; where nothing waits it is accepted.
+fn stepped(d: &mut Desk) -> Answer
+    ensures { Happens d.old Step (reply result d.new) }
+{
+    match desk::step(d) {
+        Some((_, answer)) => answer,
+        None => Ok(0),
     }
 }
 
-// One call of the office of that number; `first` is its first number.
-fn turn(d: Desk, n: usize, command: Command, first: usize, bytes: &[u8]) -> DeskReply
-    ensures { Happens d (Ask (call_of n (commanded command first bytes.now))) result }
-{
-    match command {
-        Command::Load => desk::load(d, n, bytes),
-        Command::Export => exported(d, n, first),
-        Command::Alter(e) => desk::alter(d, n, e),
-        Command::Page => paged(d, n, first),
-        Command::Why(i, j) => asked(d, n, i, j),
-        Command::Send(sent) => desk::send(d, n, sent),
-        Command::Roughness => rough(d, n),
-        _ => shown(d, n),
-    }
+// ---- one call
+
+#[derive(Clone, Copy)]
+struct Call<'a> {
+    kind: u8,
+    office: usize,
+    command: Command,
+    // The first of its numbers: an export's or a page's room, a console.
+    first: usize,
+    // What follows its 17 bytes.
+    body: &'a [u8],
+    ghost edit_follows: { kind ≡ queue_kind → 17 ≤ length body.now },
 }
 
-// An edit that is to wait at a console; it is read from the body.
-fn queued(d: Desk, n: usize, console: usize, body: &[u8]) -> DeskReply
-    requires { 17 ≤ length body.now }
-    ensures { Happens d (queued_for n console (edit_in (command_in body.now))) result }
-{
-    let command = read(body);
-    if let Command::Alter(edit) = command {
-        return desk::arrive(d, console, Waiting { office: n, edit });
-    }
-    shown(d, n)
-}
+impl<'a> Call<'a> {
+    ghost use Rattle.command.specs.Reading.{edit_in};
+    ghost use Rattle.script.specs.Script.{commanded, queued_for, named_by};
+    ghost use Rattle.script.specs.Calls.{event_by, IsFirst};
 
-// A step, its console left out.
-fn stepped(d: Desk) -> DeskReply
-    ensures { Happens d Step result }
-{
-    let stepped = desk::step(d);
-    let answer = stepped.answer;
-    let desk = stepped.desk;
-    DeskReply { answer, desk }
-}
-
-// One call, whose kind says what it is.
-fn happen(d: Desk, kind: u8, n: usize, command: Command, first: usize, body: &[u8]) -> DeskReply
-    requires { kind ≡ queue_kind → 17 ≤ length body.now }
-    ensures { Happens d (event_of kind n command first body.now) result }
-{
-    if kind == QUEUE {
-        return queued(d, n, first, body);
+    // The call that stands whole at the front of the bytes, and what follows it.
+    #[tactic(auto, using(crate::proofs::Front::queue_room, crate::proofs::Front::cut))]
+    fn next(bytes: &'a [u8]) -> Option<(Call<'a>, &'a [u8])>
+        ensures { MatchOption result (length bytes.now < 17 + body_in bytes.now) (λ r. IsFirst bytes.now r.0 r.1.now) }
+    {
+        let (head, behind) = bytes.split_at_checked(CALL_BYTES)?;
+        let (body, rest) = behind.split_at_checked(body_of(head))?;
+        let call = Call {
+            kind: head[0],
+            office: number(head, 1),
+            command: read(head),
+            first: number(head, 5),
+            body,
+        };
+        Some((call, rest))
     }
-    if kind == STEP {
-        return stepped(d);
-    }
-    turn(d, n, command, first, body)
-}
 
-// The office that is shown after it.
-fn named(kind: u8, office: usize) -> usize
-    ensures { result ≡ named_by kind office }
-{
-    if kind == STEP {
-        if office != 1 {
-            return 2;
+    // A call of its office; what is none is a show.
+    #[tactic(auto, unfolding(crate::specs::Script::commanded))]
+    fn ask(&self, d: &mut Desk) -> Answer
+        ensures { Happens d.old (Ask (call_of self.now.office (commanded self.now.command self.now.first self.now.body.now))) (reply result d.new) }
+    {
+        match self.command {
+            Command::Load => desk::load(d, self.office, self.body),
+            Command::Export => exported(d, self.office, self.first),
+            Command::Alter(edit) => desk::alter(d, self.office, edit),
+            Command::Page => paged(d, self.office, self.first),
+            Command::Why(segment, strategy) => asked(d, self.office, segment, strategy),
+            Command::Send(sent) => desk::send(d, self.office, sent),
+            Command::Roughness => rough(d, self.office),
+            _ => shown(d, self.office),
         }
     }
-    office
+
+    // An edit that is to wait at a console; it is read from what follows the call.
+    fn queue(&self, d: &mut Desk) -> Answer
+        requires { 17 ≤ length self.now.body.now }
+        ensures { Happens d.old (queued_for self.now.office self.now.first (edit_in (command_in self.now.body.now))) (reply result d.new) }
+    {
+        let (office, console) = (self.office, self.first);
+        match read(self.body) {
+            Command::Alter(edit) => desk::arrive(d, console, Waiting { office, edit }),
+            _ => shown(d, office),
+        }
+    }
+
+    // By its kind.
+    #[tactic(auto, using(std::proofs::lemmas::Bool::Decides::nat_tests), unfolding(crate::specs::Script::event_of))]
+    fn make(&self, d: &mut Desk) -> Answer
+        ensures { Happens d.old (event_by self.now) (reply result d.new) }
+    {
+        match self.kind {
+            QUEUE => self.queue(d),
+            STEP => stepped(d),
+            _ => self.ask(d),
+        }
+    }
+
+    // The office that is shown after it: a step names none.
+    #[tactic(auto, using(std::proofs::lemmas::Bool::Decides::nat_tests), unfolding(crate::specs::Script::named_by))]
+    fn named(&self) -> usize
+        ensures { result ≡ named_by self.now.kind self.now.office }
+    {
+        match self.kind {
+            STEP if self.office != 1 => 2,
+            _ => self.office,
+        }
+    }
 }
 
-// What the last of the calls that the bytes stand for replied, from the fresh desk, and which office it named. What is
+// ---- a list of calls
+
+// What the last call of a list is answered, the desk after it, and the office that it named.
+#[derive(Drop)]
+pub struct Ran {
+    pub desk: Desk,
+    pub answer: Answer,
+    pub office: usize,
+}
+
+// What the last of the calls that the bytes stand for is answered, from the fresh desk, and which office it named. What is
 // held is sound for each office.
+#[tactic(auto, using(crate::proofs::Turns::starts, crate::proofs::Turns::shorter, crate::proofs::Turns::turned))]
 pub fn run(script: &[u8]) -> Ran
-    ensures after { KeepsDesk result.last.desk (desk_after (events_of (entries_of script.now))) }
-    ensures last { result.last.answer ≡ last_answer (entries_of script.now) }
+    ensures after { KeepsDesk result.desk (desk_after (events_of (entries_of script.now))) }
+    ensures last { answer_in result.answer ≡ last_answer (entries_of script.now) }
     ensures named { result.office ≡ last_office (entries_of script.now) }
-    ensures claim { (w : Which) → Sound (desk_district w (events_of (entries_of script.now))) (show_of (office_in w result.last.desk.station).unit) }
+    ensures claim { (w : Which) → Sound (desk_district w (events_of (entries_of script.now))) (show_of (office_in w result.desk.station).unit) }
 {
-    let mut last = DeskReply {
-        answer: Answer::Accepted(0),
+    let mut ran = Ran {
         desk: desk::fresh(),
+        answer: Ok(0),
+        office: 1,
     };
-    let mut office: usize = 1;
-    let mut at = 0;
-    let mut left = script.len();
-    while 0 < left {
-        let rest = &script[at..];
-        if rest.len() < 17 {
-            return Ran { last, office };
-        }
-        let n = body_of(rest);
-        if rest.len() - 17 < n {
-            return Ran { last, office };
-        }
-        let kind = rest[0];
-        let d = last.desk;
-        let o = file::bytes::number(rest, 1, 4);
-        let first = file::bytes::number(rest, 5, 4);
-        last = happen(d, kind, o, read(rest), first, &rest[17..17 + n]);
-        office = named(kind, o);
-        at = at + 17 + n;
-        left = left - 1;
+    let mut rest = script;
+    while let Some((call, behind)) = Call::next(rest) {
+        ran.answer = call.make(&mut ran.desk);
+        ran.office = call.named();
+        rest = behind;
     }
-    Ran { last, office }
+    ran
 }

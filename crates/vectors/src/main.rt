@@ -9,10 +9,9 @@ ghost use Rattle.base.specs.Text.{Put};
 ghost use Rattle.listing.specs.Listing.{longest_listing};
 ghost use Rattle.vectors.specs.Worked.{worked};
 
-use frames::LONGEST_FRAME;
-use rules::refusals::NO_SUCH_OFFICE;
+use listing::LONGEST_LISTING;
+use rules::Which;
 use std::io;
-use std::io::{Read, Write};
 
 // What is printed for a list of calls, to the front of `out`.
 fn answer(script: &[u8], out: &mut [u8]) -> usize
@@ -20,39 +19,13 @@ fn answer(script: &[u8], out: &mut [u8]) -> usize
     ensures { Put (worked script.now) out.old out.new result }
 {
     let ran = script::run(script);
-    let last = ran.last;
-    let answer = last.answer;
-    let n = ran.office;
-    if station::is_office(n) {
-        let o = station::own(last.desk.station, n);
-        return listing::put_planned(out, answer, o.unit);
+    match Which::try_from(ran.office) {
+        Ok(w) => listing::put_planned(out, ran.answer, &station::own(&ran.desk.station, w).unit),
+        Err(refusal) => listing::put_refusal(out, refusal),
     }
-    listing::put_refusal(out, NO_SUCH_OFFICE)
 }
 
-// One frame; false where there is none.
-fn next_frame<R: Read, W: Write>(input: &mut R, output: &mut W) -> io::Result<bool> {
-    let mut script = [0u8; LONGEST_FRAME];
-    let frame = frames::read(input, &mut script);
-    if !frame.whole {
-        return Ok(false);
-    }
-    let n = frame.length;
-    let mut out = [0u8; listing::LONGEST_LISTING];
-    let length = answer(&script[..n], &mut out);
-    output.write_all(&out[..length])?;
-    Ok(true)
-}
-
-fn run<R: Read, W: Write>(input: &mut R, output: &mut W) -> io::Result<()> {
-    // A proved loop has to end, and nothing says that the input does: no run uses this number up.
-    let mut turns = u64::MAX;
-    while turns > 0 && next_frame(input, output)? {
-        turns -= 1;
-    }
-    Ok(())
-}
-
+#[tactic(auto, using(base::proofs::Text::put_within))]
 fn main(rt: HostRuntime) -> io::Result<()> {
-    run(&mut rt.stdin(), &mut rt.stdout())
+    frames::answered::<LONGEST_LISTING, _, _, _>(&mut rt.stdin(), &mut rt.stdout(), answer)
 }
