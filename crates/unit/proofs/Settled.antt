@@ -1,7 +1,7 @@
 -- How a call that changes the unit settles: refused, the unit stays as it was; accepted, it holds the new district.
-use Rattle.std.proofs.Common.{◌≡◌, ℕ, zero, suc, ◌-◌, refl, arith}
+use Rattle.std.proofs.Common.{◌≡◌, ℕ, suc, ◌-◌, arith}
 use Rattle.file.proofs.Numbered.{numbered}
-use Rattle.rules.specs.Answers.{number_of, answer_of, accepting, answer_in, Accepted, Refused}
+use Rattle.rules.specs.Answers.{number_of, answer_of, accepting, Accepted, Refused}
 use Rattle.rules.specs.Calls.{answered, unit_of}
 use Rattle.rules.specs.District.{District}
 use Rattle.rules.specs.declared.Unit.{Unit}
