@@ -4,23 +4,21 @@ use mathlib.Core.List.{List, [], ◌∷◌, ◌++◌}
 use mathlib.Core.Path.{◌≡◌, sym}
 use native.Mathlib.Numerals.{add-one}
 use native.Mathlib.Omega.{arith}
-use lib.ListN.{length, take, drop, get_or, set, length-append, drop_of_length-le}
-use lib.Seq.{take_all, take_at, take-suc-set, drop-cons, length-take-le}
+use lib.ListN.{length, drop, get_or, length-append, drop_of_length-le}
+use lib.Seq.{take_all, take_at, drop-cons}
 use Rattle.panel.specs.Console.{State, LineLeads}
 use Rattle.panel.specs.Lines.{kept_bytes, keeping, Feeds, end, answer, keep}
 
 -- ---- of a line
 
-module _ (buffer : List ℕ) (n b : ℕ) where
-  pub kept_more : n < length buffer → length buffer ≡ kept_bytes → take (n + 1) (set buffer n b) ≡ keeping (take n buffer) b
+module _ (line : List ℕ) (b : ℕ) where
+  pub kept_more : length line < kept_bytes → line ++ (b ∷ []) ≡ keeping line b
   unfolding keeping
-  kept_more h room =
-      let few : length (take n buffer ++ (b ∷ [])) ≤ kept_bytes = omega (arith, length-append (take n buffer) (b ∷ []), length-take-le n buffer (omega arith)) in
-      rw (add-one, take-suc-set buffer n b h, take_all kept_bytes (take n buffer ++ (b ∷ [])) few)
+  kept_more h = sym (take_all kept_bytes (line ++ (b ∷ [])) (omega (arith, length-append line (b ∷ []))))
 
-  pub kept_full : length buffer ≤ n → n ≤ length buffer → length buffer ≡ kept_bytes → take n buffer ≡ keeping (take n buffer) b
+  pub kept_full : length line ≡ kept_bytes → line ≡ keeping line b
   unfolding keeping
-  kept_full h within room = sym (take_at (take n buffer) (b ∷ []) kept_bytes (omega (arith, length-take-le n buffer within)))
+  kept_full h = sym (take_at line (b ∷ []) kept_bytes h)
 
 -- ---- of the input
 

@@ -8,31 +8,33 @@ use lib.Dec.{leb}
 use lib.ListN.{length, length-append}
 use borrow.Author.Tests.{leb-true}
 use Rattle.base.specs.Text.{text, Put}
-use Rattle.listing.specs.Listing.{refusal, done, failed}
-use Rattle.rules.specs.Answers.{no_such_office, buffer_too_short, unless, answer_of, Accepted}
+use Rattle.listing.specs.Listing.{refusal as Listing·refusal, done, stepped as Listing·stepped, stepped_in, failed}
+use Rattle.rules.specs.Answers.{buffer_too_short, unless, answer_of, Accepted}
 use Rattle.rules.specs.Calls.{export_refusal, exported, export_of}
 use Rattle.rules.specs.File.{encode}
 use Rattle.rules.specs.Lists.{ExportTo, outcome_of}
 use Rattle.rules.specs.Offices.{Held, Plan, office_outcome}
 use Rattle.rules.specs.Desks.{Desk, Event}
-use Rattle.rules.specs.Stations.{Both, own, number_of, call_of, brings_tables, StationOutcome, station_outcome}
+use Rattle.rules.specs.Stations.{Both, own, office_of, call_of, brings_tables, StationOutcome, station_outcome}
 use Rattle.rules.specs.declared.Unit.{Unit}
 use Rattle.command.proofs.Reading.{path_fits}
 use Rattle.command.specs.Reading.{path_of, command_in}
 use Rattle.command.specs.declared.Command.{Command}
-use Rattle.office.specs.declared.Office.{Office}
-use Rattle.station.proofs.Numbers.{office_named, nobody_named, of_unit}
+use Rattle.std.specs.Prelude.{Option, None, Some, Result, Ok, Err}
+use denote.Ref.{Bor}
+use Rattle.rules.specs.declared.refusals.Refusal.{Refusal}
+use Rattle.rules.specs.Answers.{number_of as refusal_number}
+use Rattle.station.proofs.Numbers.{some_named}
 use Rattle.station.proofs.Questions.{told_nobody, told_named}
-use Rattle.station.proofs.Replies.{refused_not}
-use Rattle.station.specs.Kept.{is_office, office_in, KeepsBoth}
-use Rattle.station.specs.declared.Station.{Station}
-use Rattle.desk.specs.Kept.{KeepsDesk, ReportsEvent}
-use Rattle.desk.specs.declared.DeskReply.{DeskReply}
+use Rattle.station.specs.Kept.{KeepsBoth}
+use Rattle.desk.specs.Kept.{KeepsDesk, DeskReply, ReportsEvent, Steps, stepped}
+use Rattle.desk.specs.declared.Desk.{Desk as Desk·Held}
+use Rattle.desk.proofs.Steps.{step_console, step_happens}
+use Rattle.rules.specs.declared.Console.{Console as Console·Number}
 use Rattle.panel.specs.Console as Console
-use Rattle.panel.specs.Console.{State, state_of, answered, happened, printed_for, printed, said, after, LineLeads, KeepsState, Says, Tells, Turns}
+use Rattle.panel.specs.Console.{State, state_of, answered, happened, printed_for, printed, said, after, LineLeads, KeepsState, Turn, turn, UnitNamed, Tells, Turns}
 use Rattle.panel.specs.Lines.{Keeping, Leads}
 use Rattle.panel.specs.declared.Console.{Console}
-use Rattle.panel.specs.declared.Turn.{Turn}
 use Rattle.rules.specs.declared.Which.{Which}
 
 -- ---- lengths
@@ -49,18 +51,19 @@ accepted_fits size room n e = go (leb size room) refl e
     go true l e =
         let same : size ≡ n = cc in
         omega (arith, leb-true size room l)
-    go false l e = refused_not e
+    go false l e = cc
 
 pub export_fits : (b : Both Held) (n : ℕ) (buffer : List ℕ) (m : ℕ) → (station_outcome b (call_of n (Plan (ExportTo buffer)))).answer ≡ Accepted m → m ≤ length buffer
 unfolding brings_tables office_outcome outcome_of export_of exported export_refusal
-export_fits b n buffer m e = go (is_office n) refl
+export_fits b n buffer m e = go (office_of n) refl
   where
-    go : (t : Bool) → is_office n ≡ t → m ≤ length buffer
-    go true is =
-        let o = office_named n is in
-        let alone = told_named b n (Plan (ExportTo buffer)) (λ d. refl) o.which o.number _ _ refl in
-        accepted_fits (length (encode (own o.which b).unit.district)) (length buffer) m (sym (answer_of_lem alone) ∙ e)
-    go false is = refused_not (sym (answer_of_lem (told_nobody b n (Plan (ExportTo buffer)) is)) ∙ e)
+    go : (o : Option Which) → office_of n ≡ o → m ≤ length buffer
+    go None is =
+        let refused = sym (answer_of_lem (told_nobody b n (Plan (ExportTo buffer)) is)) ∙ e in
+        cc
+    go (Some w) is =
+        let alone = told_named b n (Plan (ExportTo buffer)) (λ d. refl) w (some_named n w is) _ _ refl in
+        accepted_fits (length (encode (own w b).unit.district)) (length buffer) m (sym (answer_of_lem alone) ∙ e)
 
 pub failed_length : (what path : List ℕ) → length (failed what path) ≡ length what + length path + 1
 unfolding failed text
@@ -72,36 +75,54 @@ path_short line path most e h = omega (arith, ap length e, path_fits line)
 
 -- ---- what is printed of an office's unit
 
-module _ (print : Unit → List ℕ) (s : Station) (b : Both Held) (n : ℕ) (k : KeepsBoth s b) where
-  pub printed_own :
-      (o : Office) → ((w : Which) → n ≡ number_of w → o ≡ office_in w s) → is_office n ≡ true → print o.unit ≡ printed print b n
-  printed_own o is e = of_unit print (λ w. printed_for w print b) s n o is e b k (λ w. refl)
+module _ (print : Unit → List ℕ) (c : Console) (b : Both Held) (k : KeepsBoth c.desk.station b) where
+  pub printed_own : (unit : Bor Unit) → UnitNamed c (Ok unit) → print unit.now ≡ printed print b c.office
+  unfolding UnitNamed
+  printed_own unit named = rw (named.1.0, named.1.1) (ap print (k named.0).unit)
 
-  pub printed_none : is_office n ≡ false → refusal no_such_office ≡ printed print b n
-  printed_none e = rw (nobody_named n e)
+  pub printed_none : (refusal : Refusal) → UnitNamed c (Err refusal) → Listing·refusal (refusal_number refusal) ≡ printed print b c.office
+  unfolding UnitNamed
+  printed_none refusal named = rw (named.0, named.1)
 
 -- ---- what is told
 
 -- nothing changes
 pub stays :
     {c : Console} {h : Desk} {bs old new : List ℕ} {n : ℕ} → KeepsDesk c.desk h → Put bs old new n
-    → Tells (state_of h c.office) bs old new (record { console = c; length = n })
+    → Tells (state_of h c.office) bs old new (turn c n)
 stays k p = record { keeps = record { desk = k; office = refl }; put = p }
 
 -- and nothing is said
-pub silent : {c : Console} {h : Desk} {old : List ℕ} → KeepsDesk c.desk h → Tells (state_of h c.office) [] old old (record { console = c; length = 0 })
+pub silent : {c : Console} {h : Desk} {old : List ℕ} → KeepsDesk c.desk h → Tells (state_of h c.office) [] old old (turn c 0)
 silent k = stays k record { count = refl; bytes = refl }
-
-pub tells : {c : Console} {s : State} {bs old new : List ℕ} {r : Turn} → Says c bs old new r → KeepsState c s → Tells s bs old new r
-tells p k = record { keeps = rw p.console k; put = p.put }
 
 -- the reply to an event
 pub replied :
-    {n : ℕ} {h : Desk} {e : Event} {reply : DeskReply} {old new : List ℕ} {r : Turn}
-    → ReportsEvent h e reply
-    → Says (record { desk = reply.desk; office = n }) (done reply.answer) old new r
-    → Tells (happened (state_of h n) e) (done (answered (state_of h n) e)) old new r
-replied p q = tells (rw p.answer at q) record { desk = p.desk; office = refl }
+    {c : Console} {h : Desk} {e : Event} {reply : DeskReply} {old new : List ℕ} {n : ℕ}
+    → ReportsEvent h e reply → c.desk ≡ reply.desk → Put (done reply.answer) old new n
+    → Tells (happened (state_of h c.office) e) (done (answered (state_of h c.office) e)) old new (turn c n)
+replied p same put = record { keeps = record { desk = rw same p.desk; office = refl }; put = rw p.answer at put }
+
+-- what is said of a step is said of what it gives
+step_said : (r : Option (Console·Number × Result ℕ Refusal)) (d : Desk·Held) → stepped_in r ≡ Listing·stepped (stepped r d).console (stepped r d).answer
+step_said None d = refl
+step_said (Some t) d = refl
+
+step_desk : (r : Option (Console·Number × Result ℕ Refusal)) (d : Desk·Held) → (stepped r d).desk ≡ d
+step_desk None d = refl
+step_desk (Some t) d = refl
+
+pub step_told :
+    {c : Console} {d : Desk·Held} {h : Desk} {old new : List ℕ} {n : ℕ} (r : Option (Console·Number × Result ℕ Refusal)) → Steps d (stepped r c.desk)
+    → KeepsDesk d h → Put (stepped_in r) old new n → Tells (after (state_of h c.office) Command.Step) (said (state_of h c.office) Command.Step) old new (turn c n)
+unfolding said after
+step_told {c} {d} {h} r steps k put =
+    let happens = step_happens d (stepped r c.desk) steps h k in
+    let console = step_console d (stepped r c.desk) steps h k in
+    record {
+      keeps = record { desk = rw (step_desk r c.desk) at happens.desk; office = refl };
+      put = rw (step_said r c.desk, console, happens.answer) at put;
+    }
 
 -- ---- where a line leads
 

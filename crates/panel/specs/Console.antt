@@ -1,6 +1,6 @@
 -- What the console answers to a line, and what is held after it.
-use Rattle.std.specs.Prelude.{ℕ, List, [], ◌≡◌, length}
-use Rattle.std.specs.Prelude.{Option, None, Some}
+use Rattle.std.specs.Prelude.{ℕ, List, [], ◌≡◌, length, Option, None, Some, Result, Ok, Err}
+use denote.Ref.{Bor}
 use Rattle.base.specs.Text.{text, Put}
 use Rattle.rules.specs.Answers.{no_such_office, Answer, Accepted}
 use Rattle.rules.specs.File.{longest_file}
@@ -14,6 +14,9 @@ use Rattle.rules.specs.Desks.{Desk, fresh_desk, step_of, Event, Arrive, Ask, des
 use Rattle.rules.specs.Survey.{survey_of}
 use Rattle.rules.specs.declared.Edit.{Edit}
 use Rattle.rules.specs.declared.Unit.{Unit}
+use Rattle.rules.specs.declared.refusals.Refusal.{Refusal}
+use Rattle.rules.specs.declared.refusals.Refusal.TheVariants.{NoSuchOffice}
+use Rattle.station.specs.Kept.{office_in}
 use Rattle.command.specs.Reading.{path_of, command_in}
 use Rattle.command.specs.declared.Command.{Command}
 use Rattle.command.specs.declared.Command.TheVariants.{Nothing, Unknown, Load, Export, Alter, Show, Points, Page, Why, Send, Roughness, Office, Queue, Step}
@@ -22,7 +25,6 @@ use Rattle.pages.specs.Printed.{page_held, longest_page}
 use Rattle.desk.specs.Kept.{KeepsDesk}
 use Rattle.station.specs.Questions.{why_for, roughness_for}
 use Rattle.panel.specs.declared.Console.{Console}
-use Rattle.panel.specs.declared.Turn.{Turn}
 use Rattle.rules.specs.declared.Which.{Which}
 
 -- an answer has at most as many bytes as the longest page
@@ -137,10 +139,18 @@ pub record KeepsState (c : Console) (s : State) : Type 0 where
   pub desk : KeepsDesk c.desk s.desk
   pub office : c.office ≡ s.office
 
--- the console c, and bs over the front of a buffer that held `old` and then holds `new`
-pub record Says (c : Console) (bs old new : List ℕ) (r : Turn) : Type 0 where
-  pub console : r.console ≡ c
-  pub put : Put bs old new r.length
+-- the console after some input, and how many bytes its answer has
+pub record Turn : Type 0 where
+  pub console : Console
+  pub length : ℕ
+
+abbrev pub turn : Console → ℕ → Turn
+turn c n = record { console = c; length = n }
+
+-- the unit of the office that calls name, or what refuses a number that no office has
+unfoldable pub UnitNamed : Console → Result (Bor Unit) Refusal → Type 0
+UnitNamed c (Ok unit) = (w : Which) × ((office_of c.office ≡ Some w) × (unit.now ≡ (office_in w c.desk.station).unit))
+UnitNamed c (Err refusal) = (office_of c.office ≡ None) × (refusal ≡ NoSuchOffice)
 
 -- a console that keeps s
 pub record Tells (s : State) (bs old new : List ℕ) (r : Turn) : Type 0 where

@@ -1,5 +1,5 @@
 -- The lines of the input, one after another, from a desk that events lead to.
-use Rattle.std.specs.Prelude.{ℕ, ◌+◌, ◌≤◌, List, [], ◌∷◌, ◌++◌, ◌≡◌, length, take}
+use Rattle.std.specs.Prelude.{ℕ, ◌+◌, List, [], ◌∷◌, ◌++◌, ◌≡◌, take}
 use Rattle.rules.specs.Calls.{show_of}
 use Rattle.rules.specs.Demands.{Sound}
 use Rattle.rules.specs.Desks.{Event, desk_after}
@@ -8,7 +8,6 @@ use Rattle.desk.specs.Kept.{KeepsDesk}
 use Rattle.command.specs.Reading.{longest_line}
 use Rattle.panel.specs.Console.{State, LineLeads, KeepsState}
 use Rattle.panel.specs.declared.Console.{Console}
-use Rattle.panel.specs.declared.Turn.{Turn}
 use Rattle.rules.specs.declared.Which.{Which}
 
 -- a console whose desk keeps what a list of events leads to
@@ -42,11 +41,6 @@ kept_bytes = longest_line + 1
 unfoldable pub keeping : List ℕ → ℕ → List ℕ
 keeping line b = take kept_bytes (line ++ (b ∷ []))
 
--- the first n bytes of a buffer are the line with one byte more
-pub record Grows (line : List ℕ) (b : ℕ) (buffer : List ℕ) (n : ℕ) : Type 0 where
-  pub within : n ≤ length buffer
-  pub bytes : take n buffer ≡ keeping line b
-
 -- bytes lead from a state and what stands of a line to another and what stands of a line then: each line feed has the line answered
 pub data Feeds : State → List ℕ → List ℕ → State → List ℕ → Type 0 where
   end : {s : State} {line : List ℕ} → Feeds s line [] s line
@@ -60,8 +54,7 @@ pub data Feeds : State → List ℕ → List ℕ → State → List ℕ → Type
 abbrev pub FedTo : State → List ℕ → List ℕ → List ℕ → State → Type 0
 FedTo s line bytes last t = Feeds s line bytes t last
 
--- the console after the bytes, with the line at the front of the buffer
-pub record Fed (c : Console) (line bytes buffer : List ℕ) (r : Turn) : Type 0 where
-  pub within : r.length ≤ length buffer
-  pub fed : (s : State) → KeepsState c s → Keeping (FedTo s line bytes (take r.length buffer)) r.console
-  pub reached : ByEvents r.console
+-- the console p after the bytes, with what stands of a line then
+pub record Fed (c : Console) (line bytes left : List ℕ) (p : Console) : Type 0 where
+  pub fed : (s : State) → KeepsState c s → Keeping (FedTo s line bytes left) p
+  pub reached : ByEvents p

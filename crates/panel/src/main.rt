@@ -5,28 +5,26 @@
 mod files;
 mod output;
 
-ghost use Rattle.std.specs.Prelude.{◌≤◌, ◌≡◌, length, take};
+ghost use Rattle.std.specs.Prelude.{◌≤◌, ◌≡◌, length};
 ghost use Rattle.base.specs.Text.{Put};
-ghost use Rattle.command.specs.declared.Command.TheVariants.{Step};
-ghost use Rattle.listing.specs.Listing.{shown, done, failed as Listing·failed};
+ghost use Rattle.listing.specs.Listing.{shown};
 ghost use Rattle.pages.specs.Printed.{page_held};
 ghost use Rattle.rules.specs.Desks as Desks;
 ghost use Rattle.rules.specs.Offices.{Held};
 ghost use Rattle.rules.specs.Stations.{Both};
 ghost use Rattle.station.specs.Kept.{KeepsBoth};
 ghost use Rattle.desk.specs.Kept.{KeepsDesk};
-ghost use Rattle.panel.specs.Console.{longest_answer, State, start as Console·start, state_of, printed, said, after, Loads, Exports, LineLeads, KeepsState, Says, Tells, Turns};
-ghost use Rattle.panel.specs.Lines.{kept_bytes, ByEvents, Answered, Grows, Fed};
+ghost use Rattle.panel.specs.Console.{longest_answer, State, start as Console·start, state_of, printed, said, after, Loads, Exports, LineLeads, KeepsState, turn, UnitNamed, Tells, Turns};
+ghost use Rattle.panel.specs.Lines.{kept_bytes, keeping, ByEvents, Answered, Fed};
 
+use arrayvec::ArrayVec;
 use command::Command;
-use desk::{Desk, DeskReply};
+use desk::Desk;
 use files::Failure;
 use input::MOST_READ;
 use output::Output;
 use rules::records::LONGEST_FILE;
-use rules::refusals::NO_SUCH_OFFICE;
-use rules::{Answer, Waiting};
-use station::Station;
+use rules::{Refusal, Unit, Waiting, Which};
 use std::io;
 use std::io::{Read, Write};
 use std::random::RandomSource;
@@ -39,199 +37,132 @@ const KEPT: usize = command::LONGEST_LINE + 1;
 const LINE_FEED: u8 = 10;
 
 // The desk, and the number of the office that calls name.
-#[derive(Clone, Copy)]
+#[derive(Drop)]
 pub struct Console {
     pub desk: Desk,
     pub office: usize,
-}
-
-// The console after some input, and how many bytes an answer has, or a line that has not ended.
-#[derive(Clone, Copy)]
-pub struct Turn {
-    pub console: Console,
-    pub length: usize,
 }
 
 // Before the first line.
 fn start() -> Console
     ensures { KeepsState result Console·start }
 {
-    let desk = desk::fresh();
-    Console { desk, office: 1 }
+    Console {
+        desk: desk::fresh(),
+        office: 1,
+    }
 }
 
 // ---- commands without a file
 
-// What an event replied, where calls name office n.
-fn conclude(n: usize, reply: DeskReply, out: &mut [u8]) -> Turn
-    requires { longest_answer ≤ length out.old }
-    ensures { Says (record { desk = reply.desk; office = n }) (done reply.answer) out.old out.new result }
+// The unit of the office that calls name.
+#[tactic(auto, using(station::proofs::Numbers::naming), unfolding(crate::specs::Console::UnitNamed))]
+fn unit(c: &Console) -> Result<&Unit, Refusal>
+    ensures { UnitNamed c.now result }
 {
-    let answer = reply.answer;
-    let desk = reply.desk;
-    let length = listing::put_done(out, answer);
-    Turn {
-        console: Console { desk, office: n },
-        length,
+    let w = Which::try_from(c.office)?;
+    Ok(&station::own(&c.desk.station, w).unit)
+}
+
+// Its programme.
+fn show(c: &Console, out: &mut [u8]) -> usize
+    requires { longest_answer ≤ length out.old }
+    ensures { (b : Both Held) → KeepsBoth c.now.desk.station b → Put (printed shown b c.now.office) out.old out.new result }
+{
+    match unit(c) {
+        Ok(unit) => listing::put_shown(out, unit),
+        Err(refusal) => listing::put_refusal(out, refusal),
     }
 }
 
-// A step, whatever office calls name.
-fn step(d: Desk, office: usize, out: &mut [u8]) -> Turn
+// Its page.
+fn page(c: &Console, out: &mut [u8]) -> usize
     requires { longest_answer ≤ length out.old }
-    ensures { (h : Desks.Desk) → KeepsDesk d h → Tells (after (state_of h office) Step) (said (state_of h office) Step) out.old out.new result }
+    ensures { (b : Both Held) → KeepsBoth c.now.desk.station b → Put (printed page_held b c.now.office) out.old out.new result }
 {
-    let stepped = desk::step(d);
-    let answer = stepped.answer;
-    let desk = stepped.desk;
-    let length = listing::put_stepped(out, stepped.console, answer);
-    Turn {
-        console: Console { desk, office },
-        length,
+    match unit(c) {
+        Ok(unit) => pages::put_page(out, unit),
+        Err(refusal) => listing::put_refusal(out, refusal),
     }
 }
 
-// The programme of office n.
-fn show(s: Station, n: usize, out: &mut [u8]) -> usize
+fn obey(c: &mut Console, command: Command, out: &mut [u8]) -> usize
     requires { longest_answer ≤ length out.old }
-    ensures { (b : Both Held) → KeepsBoth s b → Put (printed shown b n) out.old out.new result }
+    ensures { (h : Desks.Desk) → KeepsDesk c.old.desk h → Tells (after (state_of h c.old.office) command) (said (state_of h c.old.office) command) out.old out.new (turn c.new result) }
 {
-    if station::is_office(n) {
-        let o = station::own(s, n);
-        return listing::put_shown(out, o.unit);
-    }
-    listing::put_refusal(out, NO_SUCH_OFFICE)
-}
-
-// The page of office n.
-fn page(s: Station, n: usize, out: &mut [u8]) -> usize
-    requires { longest_answer ≤ length out.old }
-    ensures { (b : Both Held) → KeepsBoth s b → Put (printed page_held b n) out.old out.new result }
-{
-    if station::is_office(n) {
-        let o = station::own(s, n);
-        return pages::put_page(out, o.unit);
-    }
-    listing::put_refusal(out, NO_SUCH_OFFICE)
-}
-
-fn silent(c: Console) -> Turn
-    ensures { result ≡ record { console = c; length = 0 } }
-{
-    Turn {
-        console: c,
-        length: 0,
-    }
-}
-
-fn obey(c: Console, command: Command, out: &mut [u8]) -> Turn
-    requires { longest_answer ≤ length out.old }
-    ensures { (h : Desks.Desk) → KeepsDesk c.desk h → Tells (after (state_of h c.office) command) (said (state_of h c.office) command) out.old out.new result }
-{
-    let d = c.desk;
-    let s = d.station;
-    let n = c.office;
     match command {
-        Command::Alter(e) => conclude(n, desk::alter(d, n, e), out),
-        Command::Send(sent) => conclude(n, desk::send(d, n, sent), out),
+        Command::Alter(e) => listing::put_done(out, desk::alter(&mut c.desk, c.office, e)),
+        Command::Send(sent) => listing::put_done(out, desk::send(&mut c.desk, c.office, sent)),
         Command::Queue(m, edit) => {
-            conclude(n, desk::arrive(d, m, Waiting { office: n, edit }), out)
+            let waiting = Waiting {
+                office: c.office,
+                edit,
+            };
+            listing::put_done(out, desk::arrive(&mut c.desk, m, waiting))
         }
-        Command::Step => step(d, n, out),
-        Command::Office(m) => Turn {
-            console: Console { desk: d, office: m },
-            length: listing::put(out, b"ok\n"),
-        },
-        Command::Show => Turn {
-            console: c,
-            length: show(s, n, out),
-        },
-        Command::Page => Turn {
-            console: c,
-            length: page(s, n, out),
-        },
-        Command::Why(i, j) => Turn {
-            console: c,
-            length: listing::put_why(out, station::why(s, n, i, j)),
-        },
-        Command::Roughness => Turn {
-            console: c,
-            length: listing::put_roughness(out, station::roughness(s, n)),
-        },
-        Command::Points(code, degree, extent, seal) => Turn {
-            console: c,
-            length: listing::put_valued(
-                out,
-                b"points ",
-                survey::survey_points(code, degree, extent, seal),
-            ),
-        },
-        Command::Unknown => Turn {
-            console: c,
-            length: listing::put(out, b"unknown command\n"),
-        },
-        Command::Nothing => silent(c),
-        Command::Load => silent(c),
-        Command::Export => silent(c),
+        Command::Step => listing::put_stepped(out, desk::step(&mut c.desk)),
+        Command::Office(m) => {
+            c.office = m;
+            listing::put(out, b"ok\n")
+        }
+        Command::Show => show(c, out),
+        Command::Page => page(c, out),
+        Command::Why(i, j) => {
+            listing::put_why(out, station::why(&c.desk.station, c.office, i, j))
+        }
+        Command::Roughness => {
+            listing::put_roughness(out, station::roughness(&c.desk.station, c.office))
+        }
+        Command::Points(code, degree, extent, seal) => listing::put_valued(
+            out,
+            b"points ",
+            survey::survey_points(code, degree, extent, seal),
+        ),
+        Command::Unknown => listing::put(out, b"unknown command\n"),
+        Command::Nothing => 0,
+        Command::Load => 0,
+        Command::Export => 0,
     }
 }
 
 // ---- commands with a file
 
-fn failed(c: Console, what: &[u8], path: &[u8], out: &mut [u8]) -> Turn
-    requires { (length what.now ≤ 13) × (length path.now ≤ kept_bytes) × (longest_answer ≤ length out.old) }
-    ensures { Says c (Listing·failed what.now path.now) out.old out.new result }
-{
-    Turn {
-        console: c,
-        length: listing::put_failed(out, what, path),
-    }
-}
-
-fn load(rt: &impl Files, c: Console, path: &[u8], out: &mut [u8]) -> Turn
+fn load(rt: &impl Files, c: &mut Console, path: &[u8], out: &mut [u8]) -> usize
     requires { (length path.now ≤ kept_bytes) × (longest_answer ≤ length out.old) }
-    ensures { (h : Desks.Desk) → KeepsDesk c.desk h → Turns (Loads (state_of h c.office) path.now) out.old out.new result }
+    ensures { (h : Desks.Desk) → KeepsDesk c.old.desk h → Turns (Loads (state_of h c.old.office) path.now) out.old out.new (turn c.new result) }
 {
     let mut file = [0u8; MOST_READ];
     match files::read(rt, path, &mut file) {
-        Ok(count) => {
-            let n = c.office;
-            conclude(n, desk::load(c.desk, n, &file[..count]), out)
-        }
-        Err(Failure::Open) => failed(c, b"cannot open ", path, out),
-        Err(Failure::Read) => failed(c, b"cannot read ", path, out),
+        Ok(count) => listing::put_done(out, desk::load(&mut c.desk, c.office, &file[..count])),
+        Err(Failure::Open) => listing::put_failed(out, b"cannot open ", path),
+        Err(Failure::Read) => listing::put_failed(out, b"cannot read ", path),
     }
 }
 
-fn export<H: Files + RandomSource>(rt: &H, c: Console, path: &[u8], out: &mut [u8]) -> Turn
-    requires { (length path.now ≤ kept_bytes) × (longest_answer ≤ length out.old) × ByEvents c }
-    ensures { (h : Desks.Desk) → KeepsDesk c.desk h → Turns (Exports (state_of h c.office) path.now) out.old out.new result }
+fn export<H: Files + RandomSource>(rt: &H, c: &Console, path: &[u8], out: &mut [u8]) -> usize
+    requires { (length path.now ≤ kept_bytes) × (longest_answer ≤ length out.old) × ByEvents c.now }
+    ensures { (h : Desks.Desk) → KeepsDesk c.now.desk h → Turns (Exports (state_of h c.now.office) path.now) out.old out.new (turn c.now result) }
 {
     let mut file = [0u8; LONGEST_FILE];
-    let d = c.desk;
-    let answer = station::export(d.station, c.office, &mut file);
-    if let Answer::Accepted(n) = answer {
+    let answer = station::export(&c.desk.station, c.office, &mut file);
+    if let Ok(n) = answer {
         if files::save(rt, path, &file[..n]).is_err() {
-            return failed(c, b"cannot write ", path, out);
+            return listing::put_failed(out, b"cannot write ", path);
         }
     }
-    Turn {
-        console: c,
-        length: listing::put_valued(out, b"ok ", answer),
-    }
+    listing::put_valued(out, b"ok ", answer)
 }
 
 // ---- lines
 
-fn respond<H: Files + RandomSource>(rt: &H, c: Console, line: &[u8], out: &mut [u8]) -> Turn
-    requires { (length line.now ≤ kept_bytes) × (longest_answer ≤ length out.old) × ByEvents c }
-    ensures { (s : State) → KeepsState c s → Turns (LineLeads s line.now) out.old out.new result }
+fn respond<H: Files + RandomSource>(rt: &H, c: &mut Console, line: &[u8], out: &mut [u8]) -> usize
+    requires { (length line.now ≤ kept_bytes) × (longest_answer ≤ length out.old) × ByEvents c.old }
+    ensures { (s : State) → KeepsState c.old s → Turns (LineLeads s line.now) out.old out.new (turn c.new result) }
 {
-    let command = command::parse(line);
-    match command {
+    match command::parse(line) {
         Command::Load => load(rt, c, command::path(line), out),
         Command::Export => export(rt, c, command::path(line), out),
-        _ => obey(c, command, out),
+        command => obey(c, command, out),
     }
 }
 
@@ -239,57 +170,46 @@ fn respond<H: Files + RandomSource>(rt: &H, c: Console, line: &[u8], out: &mut [
 fn answer<H: Files + RandomSource, W: Write>(
     rt: &H,
     output: &mut Output<W>,
-    c: Console,
+    c: &mut Console,
     line: &[u8],
-) -> Console
-    requires { (length line.now ≤ kept_bytes) × ByEvents c }
-    ensures { Answered c line.now result }
+)
+    requires { (length line.now ≤ kept_bytes) × ByEvents c.old }
+    ensures { Answered c.old line.now c.new }
 {
     let mut out = [0u8; pages::LONGEST_PAGE];
-    let turn = respond(rt, c, line, &mut out);
-    let n = turn.length;
+    let n = respond(rt, c, line, &mut out);
     output.put(&out[..n]);
-    turn.console
 }
 
 // A byte goes to the line, unless as many are kept as tell that it is too long.
-fn keep(line: &mut [u8], kept: usize, byte: u8) -> usize
-    requires { (kept ≤ length line.old) × (length line.old ≡ kept_bytes) }
-    ensures { Grows (take kept line.old) byte line.new result }
+fn keep(line: &mut ArrayVec<u8, KEPT>, byte: u8)
+    ensures { line.new.items ≡ keeping line.old.items byte }
 {
-    if kept < line.len() {
-        line[kept] = byte;
-        return kept + 1;
+    if line.is_full() {
+        return;
     }
-    kept
+    line.push(byte);
 }
 
 // What was read goes to the line, and each line that ends is answered.
 fn feed<H: Files + RandomSource, W: Write>(
     rt: &H,
     output: &mut Output<W>,
-    c: Console,
-    line: &mut [u8],
-    kept: usize,
+    c: &mut Console,
+    line: &mut ArrayVec<u8, KEPT>,
     bytes: &[u8],
-) -> Turn
-    requires { (kept ≤ length line.old) × (length line.old ≡ kept_bytes) × ByEvents c }
-    ensures { Fed c (take kept line.old) bytes.now line.new result }
+)
+    requires { ByEvents c.old }
+    ensures { Fed c.old line.old.items bytes.now line.new.items c.new }
 {
-    let mut console = c;
-    let mut length = kept;
-    let mut i = 0;
-    while i < bytes.len() {
-        if bytes[i] == LINE_FEED {
-            let next = answer(rt, output, console, &line[..length]);
-            console = next;
-            length = 0;
+    for &byte in bytes {
+        if byte == LINE_FEED {
+            answer(rt, output, c, line.as_slice());
+            line.clear();
         } else {
-            length = keep(line, length, bytes[i]);
+            keep(line, byte);
         }
-        i += 1;
     }
-    Turn { console, length }
 }
 
 // Answers each line of the input. A read that fails is the end of the input too, and is told of at the end.
@@ -300,29 +220,21 @@ fn converse<H: Files + RandomSource, R: Read, W: Write>(
 ) -> io::Result<()> {
     let mut ended = Ok(());
     let mut console = start();
-    let mut line = [0u8; KEPT];
-    let mut length: usize = 0;
-    let mut turns = u64::MAX;
-    while turns > 0 {
+    let mut line = ArrayVec::new();
+    // A proved loop has to end, and nothing says that the input does: no run uses this number up.
+    for _ in 0..u64::MAX {
         let mut bytes = [0u8; MOST_READ];
-        let n = match input.read(&mut bytes) {
-            Ok(n) => n,
+        match input.read(&mut bytes) {
+            Ok(0) => break,
+            Ok(n) => feed(rt, output, &mut console, &mut line, &bytes[..n]),
             Err(e) => {
                 ended = Err(e);
-                0
+                break;
             }
-        };
-        if n == 0 {
-            break;
         }
-        let turn = feed(rt, output, console, &mut line, length, &bytes[..n]);
-        let next = turn.console;
-        console = next;
-        length = turn.length;
-        turns -= 1;
     }
-    if length > 0 {
-        answer(rt, output, console, &line[..length]);
+    if !line.is_empty() {
+        answer(rt, output, &mut console, line.as_slice());
     }
     ended
 }

@@ -6,20 +6,20 @@ use Rattle.panel.proofs.Says.{path_short, turns_file, turns_other}
 use Rattle.panel.proofs.respond.Goals as goal
 
 pub load-requires : goal.load-requires
-load-requires g c = (path_short _ _ _ c.path.ensures c.requires.0, omega arith)
+load-requires g c = (path_short _ _ _ c.path.ensures c.requires.0, omega (arith, c.requires.1))
 
 pub export-requires : goal.export-requires
-export-requires g c = (path_short _ _ _ c.path-in-Export.ensures c.requires.0, omega arith, c.requires.2)
+export-requires g c = (path_short _ _ _ c.path-in-Export.ensures c.requires.0, omega (arith, c.requires.1), c.requires.2)
 
 pub returns-in-Load : goal.returns-in-Load
 returns-in-Load g c =
-    λ s k. let is = sym c.parse-command.ensures ∙ c.in-Load.is in
+    λ s k. let is = sym c.parse.ensures ∙ c.in-Load.is in
     turns_file Loads k c.path.ensures (λ t bs l. load is l) c.load.ensures
 
 pub returns-in-Export : goal.returns-in-Export
 returns-in-Export g c =
-    λ s k. let is = sym c.parse-command.ensures ∙ c.in-Export.is in
+    λ s k. let is = sym c.parse.ensures ∙ c.in-Export.is in
     turns_file Exports k c.path-in-Export.ensures (λ t bs x. export is x) c.export.ensures
 
 pub returns-in_default : goal.returns-in_default
-returns-in_default g c = λ s k. turns_other k c.parse-command.ensures c.in_default.not-Load c.in_default.not-Export c.obey.ensures
+returns-in_default g c = λ s k. turns_other k c.parse.ensures c.in_default.not-Load c.in_default.not-Export c.obey.ensures
