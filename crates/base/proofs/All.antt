@@ -1,12 +1,9 @@
 -- Laws of tests over 1 to n.
-use Prim.Native.Nat.{ℕ, zero, suc, ◌+◌, ◌-◌, ◌≤◌, ◌<◌}
+use Prim.Native.Nat.{ℕ, zero, suc, ◌+◌, ◌≤◌}
 use mathlib.Core.Path.{◌≡◌, refl, subst}
 use mathlib.Core.Bool.{Bool, true, false, and-false}
 use native.Mathlib.Numerals.{add-one}
 use native.Mathlib.Omega.{arith}
-use mathlib.Core.List.{List}
-use lib.ListN.{get_or, length, set}
-use lib.Seq.{get_or-set_same, get_or-set_other}
 use Rattle.base.specs.Over.{all}
 use Rattle.base.proofs.Sums.{up_to}
 
@@ -51,17 +48,3 @@ all_true (suc n) f h = rw (all_true n f (λ k l u. h k l (omega arith))) (h (suc
 module _ (P : ℕ → Type 0) where
   pub each_none : (k : ℕ) → 1 ≤ k → k ≤ 0 → P k
   each_none k l h = absurd (omega arith)
-
-  pub each_next : (n : ℕ) → ((k : ℕ) → 1 ≤ k → k ≤ n → P k) → P (n + 1) → (k : ℕ) → 1 ≤ k → k ≤ n + 1 → P k
-  each_next n before here k l h =
-      let up : k ≤ suc n = omega arith in
-      up_to up (λ q. let e : n + 1 ≡ k = omega arith in subst P e here) (λ u. before k l u)
-
--- a list that is filled from the front: entry k stands at place k - 1
-pub each_set : (P : ℕ → ℕ → Type 0) (l : List ℕ) (n v : ℕ) → n < length l → ((k : ℕ) → 1 ≤ k → k ≤ n → P k (get_or l (k - 1) 0)) → P (n + 1) v
-    → (k : ℕ) → 1 ≤ k → k ≤ n + 1 → P k (get_or (set l n v) (k - 1) 0)
-each_set P l n v inside before here =
-    let last : n + 1 - 1 ≡ n = omega arith in
-    each_next (λ k. P k (get_or (set l n v) (k - 1) 0)) n
-    (λ k low high. let ne : k - 1 ≡ n → ⊥ = λ e. omega arith in rw (get_or-set_other l n (k - 1) v 0 ne) (before k low high))
-    (rw (last, get_or-set_same l n v 0 inside) here)

@@ -3,10 +3,9 @@ use Prim.Native.Nat.{ℕ, zero, suc, ◌+◌, ◌*◌, ◌/◌, ◌%◌, ◌^◌
 use mathlib.Core.Path.{◌≡◌, refl, sym, ap, ◌∙◌}
 use mathlib.Core.List.{List, [], ◌∷◌, ◌++◌}
 use native.Mathlib.Nat.{pow-succ'}
-use native.Mathlib.Numerals.{add-one}
 use native.Mathlib.Omega.{arith}
-use lib.ListN.{length, get_or, take, drop}
-use lib.Seq.{drop-cons, length-take-le, get_or-drop, get_or-append-add}
+use lib.ListN.{length, take, drop}
+use lib.Seq.{length-take-le, get_or-drop, get_or-append-add}
 use Rattle.base.specs.Bytes.{Bytes, bytes_of, number_of}
 
 pub length_bytes : (w v : ℕ) → length (bytes_of w v) ≡ w
@@ -31,18 +30,6 @@ bytes_number (b ∷ bs) h =
     let d : (b + 256 * number_of bs) / 256 ≡ number_of bs = omega arith in
     rw (m, d, bytes_number bs (λ i. h (suc i)))
 
-pub number_below : (bs : List ℕ) → Bytes bs → number_of bs < 256 ^ length bs
-number_below [] h = omega arith
-number_below (b ∷ bs) h =
-    let hb : b < 256 = h zero in
-    let e = pow-succ' 256 (length bs) in
-    let k = number_below bs (λ i. h (suc i)) in
-    omega arith
-
--- one byte more, from below
-pub number_more : (l : List ℕ) (i k : ℕ) → i < length l → number_of (take (suc k) (drop i l)) ≡ get_or l i 0 + 256 * number_of (take k (drop (i + 1) l))
-number_more l i k h = rw (drop-cons l i 0, add-one)
-
 -- ---- parts of bytes
 
 pub bytes_drop : (n : ℕ) (bs : List ℕ) → Bytes bs → Bytes (drop n bs)
@@ -60,6 +47,3 @@ bytes_take (suc n) (b ∷ bs) h (suc i) = bytes_take n bs (λ j. h (suc j)) i
 -- the first w bytes are those of the number that they stand for, which is below 256 ^ w
 pub front_bytes : (w : ℕ) (bs : List ℕ) → Bytes bs → w ≤ length bs → bytes_of w (number_of (take w bs)) ≡ take w bs
 front_bytes w bs h l = ap (λ (k : ℕ). bytes_of k (number_of (take w bs))) (sym (length-take-le w bs l)) ∙ bytes_number (take w bs) (bytes_take w bs h)
-
-pub front_below : (w : ℕ) (bs : List ℕ) → Bytes bs → w ≤ length bs → number_of (take w bs) < 256 ^ w
-front_below w bs h l = rw (length-take-le w bs l) at (number_below (take w bs) (bytes_take w bs h))

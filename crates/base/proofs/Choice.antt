@@ -1,11 +1,11 @@
 -- Laws of choices by tests. `search picks` finds the case of a definition that goes by tests.
 use Prim.Native.Nat.{ℕ, ◌≤◌, ◌<◌}
 use mathlib.Core.Path.{◌≡◌, refl, sym, ◌∙◌}
-use mathlib.Core.Bool.{Bool, true, false, not, ◌&&◌, ◌||◌, and-false, true≢false}
+use mathlib.Core.Bool.{Bool, true, false, ◌&&◌, ◌||◌, and-false, true≢false}
 use mathlib.Core.Logic.{◌⊎◌, inl, inr}
 use native.Mathlib.Omega.{arith}
 use borrow.Author.Tests.{lt-ltb, le-ltb, le-leb, lt-leb, leb-true, leb-false, eq-eqb, ne_eqb}
-use lib.Dec.{leb, ltb, eqb}
+use lib.Dec.{leb, eqb}
 use Rattle.base.specs.Choice.{pick}
 use Rattle.base.specs.Over.{between}
 
@@ -57,14 +57,6 @@ leb_same a b c d to from = known (leb a b) refl (leb c d) refl
     known true e y f = e ∙ sym (le-leb c d (to (leb-true a b e)))
     known false e true f = le-leb a b (from (leb-true c d f)) ∙ sym f
     known false e false f = e ∙ sym f
-
--- above a limit is not within it
-pub over_is : {x y limit n : ℕ} → x ≡ limit → y ≡ n → ltb x y ≡ not (leb n limit)
-over_is {x} {y} {limit} {n} p q = rw (p, q) (known (leb n limit) refl)
-  where
-    known : (t : Bool) → leb n limit ≡ t → ltb limit n ≡ not (leb n limit)
-    known true e = rw e (le-ltb limit n (leb-true n limit e))
-    known false e = rw e (lt-ltb limit n (leb-false n limit e))
 
 -- finds the case of a choice between such tests
 pub ruleset cases = (refl, pick_yes, pick_no, both, first_fails, second_fails, le-leb, lt-leb, eq-eqb, ne_eqb, lt_eqb, gt_eqb, arith)

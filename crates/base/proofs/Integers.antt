@@ -55,42 +55,25 @@ pub abs_min : (x y : ℤ) {n : ℕ} → nat_abs x ≤ n → nat_abs y ≤ n → 
 unfolding min_z
 abs_min x y {n} p q = pick_all (λ (z : ℤ). nat_abs z ≤ n) (le_z x y) x y p q
 
-pub min_first : (x y : ℤ) → le_z x y ≡ true → min_z x y ≡ x
-unfolding min_z
-min_first x y e = rw e
-
-pub min_second : (x y : ℤ) → le_z x y ≡ false → min_z x y ≡ y
-unfolding min_z
-min_second x y e = rw e
-
 pub abs_max : (x y : ℤ) {n : ℕ} → nat_abs x ≤ n → nat_abs y ≤ n → nat_abs (max_z x y) ≤ n
 unfolding max_z
 abs_max x y {n} p q = pick_all (λ (z : ℤ). nat_abs z ≤ n) (le_z x y) y x q p
 
-pub max_second : (x y : ℤ) → le_z x y ≡ true → max_z x y ≡ y
-unfolding max_z
-max_second x y e = rw e
-
-pub max_first : (x y : ℤ) → le_z x y ≡ false → max_z x y ≡ x
-unfolding max_z
-max_first x y e = rw e
-
 -- the smaller of two is at most the second, the greater at least the first,
+picked : (x y : ℤ) → (pick (le_z x y) x y ≤ℤ y) × (x ≤ℤ pick (le_z x y) y x)
+picked x y = go (le_z x y) refl
+  where
+    go : (t : Bool) → le_z x y ≡ t → (pick t x y ≤ℤ y) × (x ≤ℤ pick t y x)
+    go true e = (le_z_yes (rw e tt), le_z_yes (rw e tt))
+    go false e = (≤ℤ_refl y, ≤ℤ_refl x)
+
 pub min_le : (x y : ℤ) → min_z x y ≤ℤ y
 unfolding min_z
-min_le x y = go (le_z x y) refl
-  where
-    go : (t : Bool) → le_z x y ≡ t → pick t x y ≤ℤ y
-    go true e = le_z_yes (rw e tt)
-    go false e = ≤ℤ_refl y
+min_le x y = (picked x y).0
 
 pub max_ge : (x y : ℤ) → x ≤ℤ max_z x y
 unfolding max_z
-max_ge x y = go (le_z x y) refl
-  where
-    go : (t : Bool) → le_z x y ≡ t → x ≤ℤ pick t y x
-    go true e = le_z_yes (rw e tt)
-    go false e = ≤ℤ_refl x
+max_ge x y = (picked x y).1
 
 -- and at most what both are at most
 pub max_le : (x y z : ℤ) → x ≤ℤ z → y ≤ℤ z → max_z x y ≤ℤ z
@@ -162,9 +145,6 @@ sum_z_abs (suc n) m f h =
 -- a sum is in range, and so it is with one more term, where no term is beyond m
 pub sum_z_fits : (w : Width) (n m : ℕ) (f : ℕ → ℤ) → ((k : ℕ) → 1 ≤ k → k ≤ n → nat_abs (f k) ≤ m) → n * m < 2 ^ hbits w → SFits w (sum_z n f)
 sum_z_fits w n m f h p = sfits_abs (lt_of_le_of_lt (sum_z_abs n m f h) p)
-
-pub next_fits : (w : Width) (n m : ℕ) (f : ℕ → ℤ) → ((k : ℕ) → 1 ≤ k → k ≤ n + 1 → nat_abs (f k) ≤ m) → (n + 1) * m < 2 ^ hbits w → SFits w (sum_z n f +ℤ f (n + 1))
-next_fits w n m f h p = rw (sum_z_next n f refl) (sum_z_fits w (n + 1) m f h p)
 
 distribute : (g : ℤ) (a b : ℕ) → g *ℤ pos a +ℤ g *ℤ pos b ≡ g *ℤ pos (a + b)
 distribute (pos m) a b = ap pos (sym (mul-add m a b))

@@ -4,7 +4,7 @@ use mathlib.Core.Path.{◌≡◌, refl, sym, ap, ap₂, ◌∙◌}
 use mathlib.Core.List.{List, [], ◌∷◌, ◌++◌, append_assoc, append-nil}
 use native.Mathlib.Numerals.{add-one}
 use native.Mathlib.Omega.{arith}
-use lib.ListN.{length, get_or, set, take, drop, length-append, length-drop, drop_of_length-le}
+use lib.ListN.{length, get_or, set, take, drop, drop_of_length-le}
 use lib.Seq.{take_at, drop_at, drop-drop}
 use Rattle.base.specs.Over.{listed_from}
 
@@ -49,9 +49,6 @@ module _ {A : Type 0} (f : ℕ → A) where
   fill_part n k m d ys e =
       let a : listed_from n m f ++ ys ≡ listed_from (n + k) m f = ap (λ (l : List A). listed_from n m f ++ l) e ∙ listed_append n k m in
       part_next (listed_from n m f) ys d n k (listed_length n m) ∙ ap (λ (l : List A). l ++ drop (n + k) d) a
-
-  pub fill_length : (n m : ℕ) (d : List A) → n ≤ length d → length (listed_from n m f ++ drop n d) ≡ length d
-  fill_length n m d h = rw (length-append, listed_length n m, length-drop) (omega arith)
 
   pub fill_end : (n k m : ℕ) (d : List A) → n ≡ k → length d ≤ n → listed_from n m f ++ drop n d ≡ listed_from k m f
   fill_end n k m d e h = rw (drop_of_length-le d h) (append-nil (listed_from n m f) ∙ ap (λ (x : ℕ). listed_from x m f) e)

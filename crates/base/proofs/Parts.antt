@@ -6,13 +6,12 @@ use Rattle.std.specs.Prelude.{Option, None, Some}
 use mathlib.Core.Path.{◌≡◌, refl, sym, ap, ◌∙◌}
 use native.Mathlib.Omega.{arith}
 use lib.Dec.{ltb, eqb}
-use lib.ListN.{length, get_or, take, drop, length-append, drop_of_length-le}
+use lib.ListN.{length, take, drop, length-append, drop_of_length-le}
 use lib.Seq.{take-nil, take_at, drop_at}
-use borrow.Author.Tests.{le-ltb, lt-ltb, le-leb, lt-leb, eq-eqb, ne_eqb, ltb-false}
+use borrow.Author.Tests.{le-ltb, lt-ltb, ltb-false}
 use Rattle.base.specs.Choice.{pick, only}
 use Rattle.base.specs.Over.{between}
-use Rattle.base.specs.Text.{up_to, on_from, skipped, value_from, going_on, held}
-use Rattle.base.proofs.Same.{drop_next}
+use Rattle.base.specs.Text.{up_to, on_from, value_from, going_on, held}
 
 -- the next m behind n are there in the first n + m
 pub drop_take : (n m : ℕ) (bs : List ℕ) → drop n (take (n + m) bs) ≡ take m (drop n bs)
@@ -21,31 +20,6 @@ drop_take (suc n) m [] = let e : suc n + m ≡ suc (n + m) = omega arith in rw e
 drop_take (suc n) m (b ∷ bs) = let e : suc n + m ≡ suc (n + m) = omega arith in rw e (drop_take n m bs)
 
 -- ---- up to the first b, and on from it
-
-module _ (b : ℕ) (bs : List ℕ) (i : ℕ) (h : i < length bs) where
-  pub up_next : ¬ (get_or bs i 0 ≡ b) → up_to b (drop i bs) ≡ get_or bs i 0 ∷ up_to b (drop (i + 1) bs)
-  unfolding up_to
-  up_next k = rw (drop_next bs i h, ne_eqb (get_or bs i 0) b k)
-
-  pub up_stop : get_or bs i 0 ≡ b → up_to b (drop i bs) ≡ []
-  unfolding up_to
-  up_stop e = rw (drop_next bs i h, eq-eqb (get_or bs i 0) b e)
-
-  pub skip_next : get_or bs i 0 ≡ b → skipped b (drop i bs) ≡ skipped b (drop (i + 1) bs)
-  unfolding skipped
-  skip_next e = rw (drop_next bs i h, eq-eqb (get_or bs i 0) b e)
-
-  pub skip_stop : ¬ (get_or bs i 0 ≡ b) → skipped b (drop i bs) ≡ drop i bs
-  unfolding skipped
-  skip_stop k = rw (drop_next bs i h, ne_eqb (get_or bs i 0) b k)
-
-pub up_end : (b : ℕ) (bs : List ℕ) (i : ℕ) → length bs ≤ i → up_to b (drop i bs) ≡ []
-unfolding up_to
-up_end b bs i h = rw (drop_of_length-le bs {i = i} h)
-
-pub skip_end : (b : ℕ) (bs : List ℕ) (i : ℕ) → length bs ≤ i → skipped b (drop i bs) ≡ drop i bs
-unfolding skipped
-skip_end b bs i h = rw (drop_of_length-le bs {i = i} h)
 
 pub up_on : (b : ℕ) (bs : List ℕ) → up_to b bs ++ on_from b bs ≡ bs
 unfolding up_to on_from
@@ -66,10 +40,6 @@ module _ (b : ℕ) (bs : List ℕ) where
   pub on_dropped : (n : ℕ) → n ≡ length (up_to b bs) → drop n bs ≡ on_from b bs
   on_dropped n e = ap (drop n) (sym (up_on b bs)) ∙ drop_at (up_to b bs) (on_from b bs) n (sym e)
 
-  -- a slice that holds it is as long
-  pub up_size : (n : ℕ) → n ≡ length (up_to b bs) → n ≡ length (take n bs)
-  up_size n e = e ∙ sym (ap length (up_taken n e))
-
 -- ---- digits
 
 -- a value that 64 bits do not hold is held no more, whatever follows
@@ -81,20 +51,6 @@ held_over v (b ∷ bs) h = go (between 48 57 b) (held_over (v * 10 + (b - 48)) b
     go : (t : Bool) → held (value_from (v * 10 + (b - 48)) bs) ≡ None → held (pick t (value_from (v * 10 + (b - 48)) bs) None) ≡ None
     go true e = e
     go false e = refl
-
-module _ (v : ℕ) (bs : List ℕ) (i : ℕ) (h : i < length bs) where
-  -- the next byte is a digit, or none
-  pub value_next : 48 ≤ get_or bs i 0 → get_or bs i 0 ≤ 57 → value_from v (drop i bs) ≡ value_from (v * 10 + (get_or bs i 0 - 48)) (drop (i + 1) bs)
-  unfolding value_from
-  value_next l k = rw (drop_next bs i h, le-leb 48 (get_or bs i 0) l, le-leb (get_or bs i 0) 57 k)
-
-  pub value_low : get_or bs i 0 < 48 → value_from v (drop i bs) ≡ None
-  unfolding value_from
-  value_low l = rw (drop_next bs i h, lt-leb 48 (get_or bs i 0) l)
-
-  pub value_high : 48 ≤ get_or bs i 0 → 57 < get_or bs i 0 → value_from v (drop i bs) ≡ None
-  unfolding value_from
-  value_high l k = rw (drop_next bs i h, le-leb 48 (get_or bs i 0) l, lt-leb (get_or bs i 0) 57 k)
 
 -- at the end it is the value, which 64 bits hold
 pub value_end : (v : ℕ) (bs : List ℕ) (i : ℕ) → v < 2 ^ 64 → length bs ≤ i → held (value_from v (drop i bs)) ≡ Some v

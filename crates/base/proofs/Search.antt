@@ -1,10 +1,9 @@
 -- Laws of the search for the first of many.
-use Prim.Native.Nat.{ℕ, zero, suc, ◌+◌, ◌≤◌, ◌<◌}
-use mathlib.Core.Path.{◌≡◌, refl, ap, subst, ◌∙◌}
+use Prim.Native.Nat.{ℕ, zero, suc, ◌≤◌, ◌<◌}
+use mathlib.Core.Path.{◌≡◌, refl, subst}
 use mathlib.Core.Logic.{◌⊎◌, inl, inr, ⊎_elim}
 use mathlib.Core.Bool.{Bool, true, false}
 use Rattle.std.specs.Prelude.{Option, None, Some}
-use native.Mathlib.Numerals.{add-one}
 use native.Mathlib.Omega.{arith}
 use Rattle.base.specs.Choice.{only}
 use Rattle.base.specs.Search.{first, or_else}
@@ -29,14 +28,6 @@ or_else_found None y e = inr (refl, e)
 pub or_else_assoc : {A : Type 0} (x y z : Option A) → or_else (or_else x y) z ≡ or_else x (or_else y z)
 or_else_assoc (Some a) y z = refl
 or_else_assoc None y z = refl
-
--- of two searches that come to the same
-pub or_by : {A : Type 0} {x a b p q : Option A} → x ≡ or_else a b → a ≡ p → b ≡ q → x ≡ or_else p q
-or_by e f g = rw (e, f, g)
-
--- by a test that is the same
-pub only_by : {A : Type 0} (a : A) {x : Option A} {s t : Bool} → x ≡ only s a → s ≡ t → x ≡ only t a
-only_by a e f = e ∙ ap (λ (b : Bool). only b a) f
 
 pub only_none : {A : Type 0} (t : Bool) (x : A) → only t x ≡ None → t ≡ false
 only_none true x e = cc
@@ -69,19 +60,6 @@ first_at (suc n) f e k l h =
     up_to h
     (λ q. rw q (or_else_right (first n f) (f (suc n)) e))
     (λ u. first_at n f (or_else_left (first n f) (f (suc n)) e) k l u)
-
--- a search that goes on to the end: what is found up to a number, and with one number more
-module _ {A : Type 0} (f : ℕ → Option A) where
-  pub first_start : None ≡ first 0 f
-  unfolding first
-  first_start = refl
-
-  pub first_next : (n : ℕ) {x y : Option A} → x ≡ first n f → y ≡ f (n + 1) → or_else x y ≡ first (n + 1) f
-  unfolding first
-  first_next n p q = rw (p, q, add-one)
-
-  pub first_end : (n m : ℕ) {x : Option A} → x ≡ first m f → m ≤ n → n ≤ m → x ≡ first n f
-  first_end n m e l h = let q : n ≡ m = omega arith in rw q e
 
 -- where a search for the first ended: something is there, and nothing before it
 pub record Ended {A : Type 0} (n : ℕ) (f : ℕ → Option A) (a : A) : Type 0 where

@@ -120,9 +120,6 @@ pub most_next : (n : ℕ) (f : ℕ → ℕ) {t : ℕ} → t ≡ most n f → max
 unfolding most
 most_next n f e = rw (add-one, e)
 
-pub most_end : (n m : ℕ) (f : ℕ → ℕ) {t : ℕ} → t ≡ most m f → m ≤ n → n ≤ m → t ≡ most n f
-most_end n m f e l h = let q : n ≡ m = omega arith in rw q e
-
 pub most_part : (n : ℕ) (f : ℕ → ℕ) (k : ℕ) → 1 ≤ k → k ≤ n → f k ≤ most n f
 unfolding most
 most_part zero f k l h = absurd (omega arith)

@@ -1,38 +1,12 @@
 -- Laws of a deck: what is first refused, and one segment more.
-use Rattle.std.proofs.Common.{ℕ, zero, suc, ◌≡◌, ◌+◌, ◌≤◌, ◌<◌, true, false, List, [], ◌∷◌, ◌++◌, refl, sym, ap, ◌∙◌, lit≤, add-one, arith}
+use Rattle.std.proofs.Common.{ℕ, zero, suc, ◌≡◌, ◌+◌, ◌≤◌, ◌<◌, true, false, List, [], ◌∷◌, ◌++◌, refl, sym, ap, ◌∙◌, add-one, arith}
 use Rattle.base.proofs.Sums.{up_to}
 use Rattle.base.proofs.Listed.{listed_append}
 use Rattle.base.specs.Over.{listed_from}
-use Rattle.rules.specs.Answers.{number_of, wrong_line, or_later, first_refusal}
+use Rattle.rules.specs.Answers.{wrong_line, or_later, first_refusal}
 use Rattle.rules.specs.Deck.{no_counts, rows_before_counts, rows_before_segment, numbers_on, line_at, is_line, card_refusal, title_refusal, counts_refusal, counts_in, segment_refusal, segment_in, deck_refusal}
 use Rattle.rules.specs.District.{most_segments, segments_of}
 use Rattle.cards.proofs.Ranges.{segments_few}
-use Rattle.rules.specs.declared.refusals.Refusal.{Refusal}
-use Rattle.rules.specs.declared.refusals.Refusal.TheVariants.{CutShort, OtherKind, OtherLength, OutOfRange, BytesFollow, NoSuchSegment, NoSuchNumber, NewOutOfRange, BufferTooShort, NoSuchPoints, NoRoomForPage, NoReading, WindowEmpty, LeaderNotBelow, LeaderSet, NoSuchOffice, TablesInUse, WrongField, WrongLine, NoSuchConsole, QueueFull}
-
--- a refusal has a number of 1 at least: 0 is none
-pub numbered : (r : Refusal) → 1 ≤ number_of r
-numbered CutShort = lit≤ tt
-numbered OtherKind = lit≤ tt
-numbered OtherLength = lit≤ tt
-numbered OutOfRange = lit≤ tt
-numbered BytesFollow = lit≤ tt
-numbered NoSuchSegment = lit≤ tt
-numbered NoSuchNumber = lit≤ tt
-numbered NewOutOfRange = lit≤ tt
-numbered BufferTooShort = lit≤ tt
-numbered NoSuchPoints = lit≤ tt
-numbered NoRoomForPage = lit≤ tt
-numbered NoReading = lit≤ tt
-numbered WindowEmpty = lit≤ tt
-numbered LeaderNotBelow = lit≤ tt
-numbered LeaderSet = lit≤ tt
-numbered NoSuchOffice = lit≤ tt
-numbered TablesInUse = lit≤ tt
-numbered WrongField = lit≤ tt
-numbered WrongLine = lit≤ tt
-numbered NoSuchConsole = lit≤ tt
-numbered QueueFull = lit≤ tt
 
 -- ---- the first refusal
 

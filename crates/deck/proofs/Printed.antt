@@ -13,11 +13,11 @@ use Rattle.rules.specs.District.{most_segments, segments_of}
 use Rattle.listing.specs.Listing.{named, lines_from, refusal, or_refusal}
 use Rattle.listing.proofs.Lengths.{named_few}
 use Rattle.listing.proofs.Lines.{lines_few, lines_alike}
-use Rattle.rules.specs.Answers.{number_of}
+use Rattle.rules.specs.Answers.{refusal_number}
 use Rattle.rules.specs.declared.refusals.Refusal.{Refusal}
 use Rattle.cards.specs.Cards.{Says}
 use Rattle.cards.specs.declared.Deck.{Deck}
-use Rattle.cards.proofs.Decks.{numbered}
+use Rattle.rules.proofs.RefusalNumbers.{numbered}
 use Rattle.cards.proofs.Ranges.{segments_few}
 use Rattle.cards.proofs.Unread.{counts_kept, segment_kept, deck_kept}
 use Rattle.deck.specs.Printed.{numbers_line, counts_line, segment_line, card_lines, printed, NotRead, numbers_at, held_lines, longest_numbers_line, longest_printed}
@@ -100,9 +100,9 @@ unfolding or_refusal
 refused_is zero bytes h = absurd (omega arith)
 refused_is (suc n) bytes h = refl
 
-pub printed_refused : (deck : List ℕ) (r : Refusal) → number_of r ≡ deck_refusal deck → printed deck ≡ refusal (number_of r)
+pub printed_refused : (deck : List ℕ) (r : Refusal) → refusal_number r ≡ deck_refusal deck → printed deck ≡ refusal (refusal_number r)
 unfolding printed
-printed_refused deck r e = rw (← e) (refused_is (number_of r) _ (numbered r))
+printed_refused deck r e = rw (← e) (refused_is (refusal_number r) _ (numbered r))
 
 -- ---- what it does not depend on
 

@@ -5,7 +5,7 @@ use Rattle.std.specs.Prelude.{None}
 use Rattle.rules.specs.Desks as Desks
 use Rattle.rules.specs.Desks.{console_of, arrival_refusal, arrival_of, Arrive, desk_by, answer_to}
 use Rattle.rules.specs.Answers.{no_such_office, Refused}
-use Rattle.rules.specs.Stations.{number_of, office_of}
+use Rattle.rules.specs.Stations.{office_number, office_of}
 use Rattle.rules.specs.declared.Waiting.{Waiting}
 use Rattle.desks.proofs.EveryArrival.{every_arrival}
 use Rattle.queues.specs.Waits.{queues_in, Arrival, Admits}
@@ -20,7 +20,7 @@ module _ (d : Desk) (n : ℕ) (w : Waiting) where
   -- no office has the number
   pub nobody_arrives : office_of w.office ≡ None → Arrives d n w (record { answer = Refused no_such_office; desk = d })
   nobody_arrives nobody =
-      let not_named : (o : Which) → ¬ (w.office ≡ number_of o) = λ o e. let some = named_some w.office o e in cc in
+      let not_named : (o : Which) → ¬ (w.office ≡ office_number o) = λ o e. let some = named_some w.office o e in cc in
       let is = (every_arrival (queues_in d.queues) n w).nobody (not_named First) (not_named Second) in
       record {
         answer = sym (ap (λ (a : Desks.Arrival). a.answer) is);
@@ -31,7 +31,7 @@ module _ (d : Desk) (n : ℕ) (w : Waiting) where
 
   -- by what the queues reply
   pub arrives :
-      (o : Which) → w.office ≡ number_of o → (a : Arrival) → Admits d.queues (console_of n) w a
+      (o : Which) → w.office ≡ office_number o → (a : Arrival) → Admits d.queues (console_of n) w a
       → Arrives d n w (record { answer = a.answer; desk = record { station = d.station; queues = a.queues } })
   unfolding arrival_of arrival_refusal
   arrives o office a admits =

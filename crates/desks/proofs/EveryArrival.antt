@@ -10,7 +10,7 @@ use lib.ListN.{length}
 use Rattle.base.specs.Choice.{pick}
 use Rattle.rules.specs.Answers.{no_such_office, no_such_console, queue_full, unless, answer_of, accepting, Accepted}
 use Rattle.rules.specs.Offices.{Held}
-use Rattle.rules.specs.Stations.{Both, office_of, number_of}
+use Rattle.rules.specs.Stations.{Both, office_of, office_number}
 use Rattle.rules.specs.Desks.{console_number, console_of, Queues, queue_of, with_queue, most_waiting, refusal_at, refusal_behind, arrival_refusal, queued_at, arrival_by, arrival_of, Arrival, Desk, accepted_by, Arrive}
 use Rattle.rules.specs.DeskDemands.{not_queued, ArrivalSettled, EveryArrival}
 use Rattle.rules.specs.declared.Console.{Console}

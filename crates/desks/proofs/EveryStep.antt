@@ -27,7 +27,7 @@ module _ (d : Desk) (t : Option Taken) (is : taken d.queues ≡ t) where
   carried_with c = ap (taken_for c) is
 
 idles : (d : Desk) → taken d.queues ≡ None → Idles d
-idles d is = record { step = step_with_lem d None is; call = call_with d None is; None = carried_with d None is }
+idles d is = record { step = step_with_lem d None is; call = call_with d None is; none = carried_with d None is }
 
 carries : (d : Desk) (c : Console) (w : Waiting) (ws : List Waiting) → taken d.queues ≡ Some (taken_of d.queues c w ws) → Carries d c w ws
 carries d c w ws is =

@@ -133,10 +133,6 @@ module _ (leader : ℕ → ℕ) where
   unfolding respects
   pruned_respects n c lower = all_true n (heeds leader (strategy_at (pruned leader n c))) (pruned_heeds n c lower)
 
-  pub respected_at : (n : ℕ) (c : List ℕ) → respects leader n c ≡ true → (k : ℕ) → 1 ≤ k → k ≤ n → heeds leader (strategy_at c) k ≡ true
-  unfolding respects
-  respected_at n c ok = all_at n (heeds leader (strategy_at c)) ok
-
   -- a segment that may have something gets it
   pub give_respects :
       (n : ℕ) (c : List ℕ) (i j : ℕ) → 1 ≤ i → i ≤ length c → 1 ≤ j → led leader (strategy_at c) i ≡ true → respects leader n c ≡ true

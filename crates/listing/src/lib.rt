@@ -5,7 +5,7 @@
 ghost use Rattle.std.specs.Prelude.{◌≡◌, ◌+◌, ◌≤◌, length, take};
 ghost use Rattle.base.specs.Text.{decimal, Writes, Put};
 ghost use Rattle.listing.specs.Listing.{named, ended, line, segment_line, segment_lines, steps_line, results, listing, shown, refusal as refusal_line, done, carried, stepped_in, planned, valued, pair_line, over_line, reason_line, explained, told, failed, longest_refusal, longest_stepped, longest_reason, longest_roughness, longest_listing};
-ghost use Rattle.rules.specs.Answers.{number_of, answer_in};
+ghost use Rattle.rules.specs.Answers.{refusal_number, answer_in};
 ghost use Rattle.rules.specs.Desks.{console_number};
 
 use rules::places::{MOST_SEGMENTS, SEGMENT_COUNT};
@@ -141,7 +141,7 @@ pub fn put_shown(out: &mut [u8], u: &Unit) -> usize
 #[tactic(auto, using(crate::proofs::Lengths::refusal_few), unfolding(crate::specs::Listing::refusal, base::specs::Text::text))]
 pub fn put_refusal(out: &mut [u8], refusal: Refusal) -> usize
     requires { longest_refusal ≤ length out.old }
-    ensures { Put (refusal_line (number_of refusal)) out.old out.new result }
+    ensures { Put (refusal_line (refusal_number refusal)) out.old out.new result }
 {
     put_line(out, b"refused ", usize::from(refusal))
 }

@@ -3,7 +3,7 @@ use Rattle.std.specs.Prelude.{ℕ, ◌+◌, ◌*◌, List, Result, Ok, Err}
 use Rattle.listing.specs.Listing.{refusal}
 use Rattle.rules.specs.District.{most_segments}
 use Rattle.rules.specs.Page.{page}
-use Rattle.rules.specs.Answers.{Answer, Accepted, Refused, number_of}
+use Rattle.rules.specs.Answers.{Answer, Accepted, Refused, refusal_number}
 use Rattle.rules.specs.declared.refusals.Refusal.{Refusal}
 use Rattle.rules.specs.declared.Unit.{Unit}
 
@@ -19,7 +19,7 @@ paged (Refused n) u = refusal n
 -- the same of the code's result, which has no unit where it is refused
 abbrev pub loaded_page : Result Unit Refusal → List ℕ
 loaded_page (Ok u) = page_held u
-loaded_page (Err r) = refusal (number_of r)
+loaded_page (Err r) = refusal (refusal_number r)
 
 -- 80 characters and a line feed
 abbrev pub line_bytes : ℕ

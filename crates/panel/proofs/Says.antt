@@ -23,7 +23,7 @@ use Rattle.command.specs.declared.Command.{Command}
 use Rattle.std.specs.Prelude.{Option, None, Some, Result, Ok, Err}
 use denote.Ref.{Bor}
 use Rattle.rules.specs.declared.refusals.Refusal.{Refusal}
-use Rattle.rules.specs.Answers.{number_of as refusal_number}
+use Rattle.rules.specs.Answers.{refusal_number as refusal_number}
 use Rattle.station.proofs.Numbers.{some_named}
 use Rattle.station.proofs.Questions.{told_nobody, told_named}
 use Rattle.station.specs.Kept.{KeepsBoth}

@@ -11,16 +11,16 @@ use Rattle.rules.specs.Calls.{explained}
 use Rattle.rules.specs.declared.refusals.Refusal.{Refusal}
 use Rattle.rules.specs.declared.Reason.{Reason}
 use Rattle.rules.specs.declared.Reason.TheVariants.{NoGreaterTotal}
-use Rattle.rules.specs.Answers.{Accepted, Refused, number_of, answer_of}
-use Rattle.file.proofs.Numbered.{numbered}
+use Rattle.rules.specs.Answers.{Accepted, Refused, refusal_number, answer_of}
+use Rattle.rules.proofs.RefusalNumbers.{numbered}
 
 refused_is : (n : ℕ) (q : Reason) → 1 ≤ n → Refused n ≡ explained n q
 unfolding explained answer_of
 refused_is zero q some = absurd (omega arith)
 refused_is (suc n) q some = refl
 
-pub refused_as : (refusal : Refusal) {n : ℕ} (q : Reason) → number_of refusal ≡ n → Refused (number_of refusal) ≡ explained n q
-refused_as refusal q e = rw (← e) (refused_is (number_of refusal) q (numbered refusal))
+pub refused_as : (refusal : Refusal) {n : ℕ} (q : Reason) → refusal_number refusal ≡ n → Refused (refusal_number refusal) ≡ explained n q
+refused_as refusal q e = rw (← e) (refused_is (refusal_number refusal) q (numbered refusal))
 
 pub because : {n : ℕ} {q r : Reason} → 0 ≡ n → r ≡ q → Accepted r ≡ explained n q
 unfolding explained answer_of

@@ -81,28 +81,28 @@ abbrev pub queue_full : ℕ
 queue_full = 21
 
 -- each by its name in the code
-abbrev pub number_of : Refusal → ℕ
-number_of CutShort = cut_short
-number_of OtherKind = other_kind
-number_of OtherLength = other_length
-number_of OutOfRange = out_of_range
-number_of BytesFollow = bytes_follow
-number_of NoSuchSegment = no_such_segment
-number_of NoSuchNumber = no_such_number
-number_of NewOutOfRange = new_out_of_range
-number_of BufferTooShort = buffer_too_short
-number_of NoSuchPoints = no_such_points
-number_of NoRoomForPage = no_room_for_page
-number_of NoReading = no_reading
-number_of WindowEmpty = window_empty
-number_of LeaderNotBelow = leader_not_below
-number_of LeaderSet = leader_set
-number_of NoSuchOffice = no_such_office
-number_of TablesInUse = tables_in_use
-number_of WrongField = wrong_field
-number_of WrongLine = wrong_line
-number_of NoSuchConsole = no_such_console
-number_of QueueFull = queue_full
+abbrev pub refusal_number : Refusal → ℕ
+refusal_number CutShort = cut_short
+refusal_number OtherKind = other_kind
+refusal_number OtherLength = other_length
+refusal_number OutOfRange = out_of_range
+refusal_number BytesFollow = bytes_follow
+refusal_number NoSuchSegment = no_such_segment
+refusal_number NoSuchNumber = no_such_number
+refusal_number NewOutOfRange = new_out_of_range
+refusal_number BufferTooShort = buffer_too_short
+refusal_number NoSuchPoints = no_such_points
+refusal_number NoRoomForPage = no_room_for_page
+refusal_number NoReading = no_reading
+refusal_number WindowEmpty = window_empty
+refusal_number LeaderNotBelow = leader_not_below
+refusal_number LeaderSet = leader_set
+refusal_number NoSuchOffice = no_such_office
+refusal_number TablesInUse = tables_in_use
+refusal_number WrongField = wrong_field
+refusal_number WrongLine = wrong_line
+refusal_number NoSuchConsole = no_such_console
+refusal_number QueueFull = queue_full
 
 -- ---- how one comes about
 
@@ -144,12 +144,12 @@ answer_of (suc n) value = Refused (suc n)
 -- what the code's results say: the value, or the refusal's number
 abbrev pub answer_in : {A : Type 0} → Result A Refusal → Answered A
 answer_in (Ok value) = Accepted value
-answer_in (Err refusal) = Refused (number_of refusal)
+answer_in (Err refusal) = Refused (refusal_number refusal)
 
 -- what refuses it, 0 where nothing does
 abbrev pub refusal_in : {A : Type 0} → Result A Refusal → ℕ
 refusal_in (Ok value) = 0
-refusal_in (Err refusal) = number_of refusal
+refusal_in (Err refusal) = refusal_number refusal
 
 -- what is held after it: the new where nothing refuses it, else what stood there
 unfoldable pub accepting : {A : Type 0} → ℕ → A → A → A

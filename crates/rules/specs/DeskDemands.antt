@@ -8,7 +8,7 @@ use Rattle.rules.specs.District.{District, shared_tables}
 use Rattle.rules.specs.Answers.{no_such_office, no_such_console, queue_full, Answer, Accepted, Refused}
 use Rattle.rules.specs.Calls.{unit_of, show_of}
 use Rattle.rules.specs.Offices.{Held}
-use Rattle.rules.specs.Stations.{other, Both, own, number_of, fresh_both, StationCall, station_outcome, station_from, station_after, districts_after, without}
+use Rattle.rules.specs.Stations.{other, Both, own, office_number, fresh_both, StationCall, station_outcome, station_from, station_after, districts_after, without}
 use Rattle.rules.specs.Demands.{Sound, Shown}
 use Rattle.rules.specs.StationDemands.{StationClaim, nothing_more, Got, gets, got_by, throughout, leaves_tables, not_in_use}
 use Rattle.rules.specs.Desks.{console_number, next_to, Queues, queue_of, with_queue, with_turn, most_waiting, Arrival, arrival_of, Taken, taken, Desk, fresh_desk, carrying, step_of, Event, Arrive, Step, Ask, desk_by, answer_to, desk_from, desk_after, gathered, calls_at, calls_from, calls_in, carried_by, accepted_from, carried_from, steps_in}
@@ -36,14 +36,14 @@ pub record ArrivalSettled (q : Queues) (n : ℕ) (w : Waiting) : Type 0 where
   pub nobody : ¬ (w.office ≡ 1) → ¬ (w.office ≡ 2) → arrival_of q n w ≡ not_queued no_such_office q
   -- an office has it, and no console has its own;
   pub nowhere :
-      (o : Which) → w.office ≡ number_of o → ((c : Console) → ¬ (n ≡ console_number c)) → arrival_of q n w ≡ not_queued no_such_console q
+      (o : Which) → w.office ≡ office_number o → ((c : Console) → ¬ (n ≡ console_number c)) → arrival_of q n w ≡ not_queued no_such_console q
   -- both are named, and there is no place free;
   pub full :
-      (o : Which) → w.office ≡ number_of o → (c : Console) → n ≡ console_number c → most_waiting ≤ length (queue_of c q)
+      (o : Which) → w.office ≡ office_number o → (c : Console) → n ≡ console_number c → most_waiting ≤ length (queue_of c q)
       → arrival_of q n w ≡ not_queued queue_full q
   -- or the edit is the last of its queue
   pub accepted :
-      (o : Which) → w.office ≡ number_of o → (c : Console) → n ≡ console_number c → length (queue_of c q) < most_waiting
+      (o : Which) → w.office ≡ office_number o → (c : Console) → n ≡ console_number c → length (queue_of c q) < most_waiting
       → arrival_of q n w ≡ record { answer = Accepted 0; queues = with_queue c (queue_of c q ++ (w ∷ [])) q }
 
 abbrev pub EveryArrival : Type 0
@@ -72,7 +72,7 @@ pub record Carries (d : Desk) (c : Console) (w : Waiting) (ws : List Waiting) : 
 pub record Idles (d : Desk) : Type 0 where
   pub step : step_of d ≡ record { console = 0; answer = Accepted 0; desk = d }
   pub call : calls_at d Step ≡ []
-  pub None : (c : Console) → carried_by c d Step ≡ []
+  pub none : (c : Console) → carried_by c d Step ≡ []
 
 pub record StepSettled (d : Desk) : Type 0 where
   -- none waits;
@@ -133,7 +133,7 @@ all_given b (c ∷ cs) = record { office = c.office; got = gets b c } ∷ all_gi
 -- of these, what goes to office w
 unfoldable pub given_to : Which → List Given → List Got
 given_to w [] = []
-given_to w (g ∷ gs) = pick (eqb g.office (number_of w)) (g.got ∷ given_to w gs) (given_to w gs)
+given_to w (g ∷ gs) = pick (eqb g.office (office_number w)) (g.got ∷ given_to w gs) (given_to w gs)
 
 -- from a desk in any state
 pub record AsCalls (d : Desk) (es : List Event) : Type 0 where

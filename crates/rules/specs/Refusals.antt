@@ -6,7 +6,7 @@ use Rattle.rules.specs.declared.Edit.TheVariants.{Bar, Unbar, SetLimit, SetRatin
 use Rattle.rules.specs.Results.{shown, holding, shows, why_in, result_of, WorkedCase, ◌⇒◌, Agree}
 use Rattle.rules.specs.Marked.{card}
 use Rattle.rules.specs.declared.Unit.{Unit}
-use Rattle.rules.specs.Answers.{number_of, Accepted}
+use Rattle.rules.specs.Answers.{refusal_number, Accepted}
 use Rattle.rules.specs.declared.refusals.Refusal.{Refusal}
 use Rattle.rules.specs.declared.refusals.Refusal.TheVariants.{CutShort, OtherKind, OtherLength, OutOfRange, BytesFollow, NoSuchSegment, NoSuchNumber, NewOutOfRange, BufferTooShort, NoSuchPoints, NoRoomForPage, NoReading, WindowEmpty, LeaderNotBelow, LeaderSet, NoSuchOffice, TablesInUse, WrongField, WrongLine, NoSuchConsole, QueueFull}
 
@@ -17,7 +17,7 @@ all_refusals =
     ∷ NoRoomForPage ∷ NoReading ∷ WindowEmpty ∷ LeaderNotBelow ∷ LeaderSet ∷ NoSuchOffice ∷ TablesInUse ∷ WrongField ∷ WrongLine ∷ NoSuchConsole
     ∷ QueueFull ∷ []
 
-pub numbers : map number_of all_refusals ≡ 1 ∷ 2 ∷ 3 ∷ 4 ∷ 5 ∷ 6 ∷ 7 ∷ 8 ∷ 9 ∷ 10 ∷ 11 ∷ 12 ∷ 13 ∷ 14 ∷ 15 ∷ 16 ∷ 17 ∷ 18 ∷ 19 ∷ 20 ∷ 21 ∷ []
+pub numbers : map refusal_number all_refusals ≡ 1 ∷ 2 ∷ 3 ∷ 4 ∷ 5 ∷ 6 ∷ 7 ∷ 8 ∷ 9 ∷ 10 ∷ 11 ∷ 12 ∷ 13 ∷ 14 ∷ 15 ∷ 16 ∷ 17 ∷ 18 ∷ 19 ∷ 20 ∷ 21 ∷ []
 numbers = refl
 
 abbrev pub files : List (List ℕ)

@@ -34,9 +34,9 @@ together First x y = record { first = x; second = y }
 together Second x y = record { first = y; second = x }
 
 -- their numbers; any other names none
-abbrev pub number_of : Which → ℕ
-number_of First = 1
-number_of Second = 2
+abbrev pub office_number : Which → ℕ
+office_number First = 1
+office_number Second = 2
 
 abbrev pub office_of : ℕ → Option Which
 office_of n = pick (eqb n 1) (Some First) (pick (eqb n 2) (Some Second) None)
@@ -54,7 +54,7 @@ call_of n c = record { office = n; call = c }
 
 -- a call of office w
 abbrev pub call_by : Which → OfficeCall → StationCall
-call_by w c = call_of (number_of w) c
+call_by w c = call_of (office_number w) c
 
 -- ---- a call of an office beside the other: d and e are their districts, o and p all that they hold
 
@@ -153,7 +153,7 @@ districts_after cs = districts_from (record { first = fresh_district; second = f
 -- ---- the calls of one office
 
 abbrev pub made_by : Which → StationCall → Bool
-made_by w c = eqb c.office (number_of w)
+made_by w c = eqb c.office (office_number w)
 
 unfoldable pub calls_by : Which → List StationCall → List OfficeCall
 calls_by w [] = []

@@ -8,7 +8,7 @@ use Rattle.rules.specs.Plan.{no_programme}
 use Rattle.rules.specs.Meter.{size_of, is_reading, reading_of, silence, sent_refusal, heard_with, hearing, sum_of, mean_reaches, mays_points, roughness_refusal, points_unless, roughness_of, points_at}
 use Rattle.rules.specs.Lists.{Load, Alter, ExportTo, Show, AskWhy}
 use Rattle.rules.specs.Offices.{Held, OfficeCall, Plan, Send, AskRoughness, fresh_held, office_refusal, lent_bytes, office_outcome}
-use Rattle.rules.specs.Stations.{other, number_of, Both, StationCall, call_of, fresh_both, brings_tables, tables_refusal, refusal_beside, held_beside, station_refusal, concluded, station_outcome, station_from, station_after, without}
+use Rattle.rules.specs.Stations.{other, office_number, Both, StationCall, call_of, fresh_both, brings_tables, tables_refusal, refusal_beside, held_beside, station_refusal, concluded, station_outcome, station_from, station_after, without}
 use Rattle.rules.specs.StationDemands.{nothing_more, programme, reason, points, Got, unit_tells, office_tells, gets, got_from, got_by, throughout, leaves_tables, not_in_use}
 use Rattle.rules.specs.Writer.{Segment, Roads, strategy, nothing_demanded, segment, barring, filled_up, file_of, file_with_leaders, district_of}
 use Rattle.rules.specs.Results.{holding, result_of}
@@ -187,7 +187,7 @@ asked_why = refl
 
 -- by a load of other tables: of two resources, after which the other may set the second limit
 abbrev by_tables : Which → List StationCall
-by_tables w = load (number_of w) (file_of (sharing (0 ∷ 0 ∷ []) [])) ∷ limit (number_of (other w)) 2 9 ∷ []
+by_tables w = load (office_number w) (file_of (sharing (0 ∷ 0 ∷ []) [])) ∷ limit (office_number (other w)) 2 9 ∷ []
 
 -- by its segments, though its load changes no table: they are those of a fresh station
 abbrev pub as_fresh : Roads
@@ -202,7 +202,7 @@ as_fresh =
     }
 
 abbrev by_segments : Which → List StationCall
-by_segments w = load (number_of w) (file_of as_fresh) ∷ load (number_of (other w)) (file_of longer) ∷ []
+by_segments w = load (office_number w) (file_of as_fresh) ∷ load (office_number (other w)) (file_of longer) ∷ []
 
 -- what the other is answered with the calls of w, and without
 abbrev with_and_without : Which → List StationCall → List (List Answer)

@@ -1,7 +1,7 @@
 // What refuses a call, in the documents' order. Each refusal has the number that the documents give it
 // (specs/Answers.antt).
 ghost use Rattle.std.specs.Prelude.{◌≡◌};
-ghost use Rattle.rules.specs.Answers.{number_of};
+ghost use Rattle.rules.specs.Answers.{refusal_number};
 
 #[derive(Clone, Copy, Debug, PartialEq, Eq)]
 pub enum Refusal {
@@ -37,7 +37,7 @@ pub enum Refusal {
 }
 
 impl From<Refusal> for usize {
-    ghost from_gives = { λ refusal n. n ≡ number_of refusal };
+    ghost from_gives = { λ refusal n. n ≡ refusal_number refusal };
 
     fn from(refusal: Refusal) -> usize {
         refusal as usize

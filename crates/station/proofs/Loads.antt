@@ -4,11 +4,11 @@ use mathlib.Core.Path.{◌≡◌, refl, sym, ap, ◌∙◌}
 use mathlib.Core.Bool.{true, false}
 use mathlib.Core.List.{List}
 use Rattle.rules.specs.District.{District, segments_of, shared_tables, same_tables}
-use Rattle.rules.specs.Answers.{tables_in_use, number_of as refusal_number, Accepted, Refused}
+use Rattle.rules.specs.Answers.{tables_in_use, refusal_number, Accepted, Refused}
 use Rattle.rules.specs.Calls.{load_refusal, district_in, unit_of}
 use Rattle.rules.specs.Lists.{Load, refusal_of}
 use Rattle.rules.specs.Offices.{OfficeCall, Plan, office_refusal, OfficeOutcome}
-use Rattle.rules.specs.Stations.{other, own, number_of, refusal_beside, with_tables}
+use Rattle.rules.specs.Stations.{other, own, office_number, refusal_beside, with_tables}
 use Rattle.rules.specs.declared.Unit.{Unit}
 use Rattle.office.specs.declared.Office.{Office}
 use Rattle.stations.proofs.Calls.{refusal_by}
@@ -22,7 +22,7 @@ use Rattle.rules.specs.declared.Which.{Which}
 use Rattle.rules.specs.declared.refusals.Refusal.{Refusal}
 use Rattle.unit.proofs.Settled.{not_none}
 
-module _ (s : Station) (n : ℕ) (w : Which) (named : n ≡ number_of w) (file : List ℕ) where
+module _ (s : Station) (n : ℕ) (w : Which) (named : n ≡ office_number w) (file : List ℕ) where
   abbrev load : OfficeCall
   load = Plan (Load file)
 

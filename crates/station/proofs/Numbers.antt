@@ -9,7 +9,7 @@ use borrow.Author.Tests.{eqb-true}
 use lib.Dec.{eqb}
 use Rattle.base.specs.Choice.{pick}
 use Rattle.rules.specs.Offices.{Held}
-use Rattle.rules.specs.Stations.{Both, own, number_of, office_of}
+use Rattle.rules.specs.Stations.{Both, own, office_number, office_of}
 use Rattle.rules.specs.declared.Unit.{Unit}
 use Rattle.rules.specs.declared.Which.{Which}
 use Rattle.rules.specs.declared.Which.TheVariants.{First, Second}
@@ -28,15 +28,15 @@ nobody_named n e = go (office_of n) e
     go None e = refl
     go (Some w) e = absurd (true≢false e)
 
-pub some_named : (n : ℕ) (w : Which) → office_of n ≡ Some w → n ≡ number_of w
+pub some_named : (n : ℕ) (w : Which) → office_of n ≡ Some w → n ≡ office_number w
 some_named n w e = go (eqb n 1) refl (eqb n 2) refl e
   where
-    go : (s : Bool) → eqb n 1 ≡ s → (t : Bool) → eqb n 2 ≡ t → pick s (Some First) (pick t (Some Second) None) ≡ Some w → n ≡ number_of w
+    go : (s : Bool) → eqb n 1 ≡ s → (t : Bool) → eqb n 2 ≡ t → pick s (Some First) (pick t (Some Second) None) ≡ Some w → n ≡ office_number w
     go true p t q e = let f : w ≡ First = cc in rw f (eqb-true n 1 p)
     go false p true q e = let f : w ≡ Second = cc in rw f (eqb-true n 2 q)
     go false p false q e = cc
 
-module _ (n : ℕ) (w : Which) (named : n ≡ number_of w) where
+module _ (n : ℕ) (w : Which) (named : n ≡ office_number w) where
   pub named_some : office_of n ≡ Some w
   named_some = ap office_of named ∙ number_named w
 
@@ -46,7 +46,7 @@ module _ (n : ℕ) (w : Which) (named : n ≡ number_of w) where
 
 -- by the code's conversion: the office that has the number, or that none has it
 module _ (n : ℕ) where
-  pub which_named : (w : Which) → Ok w ≡ ok_or (office_of n) NoSuchOffice → n ≡ number_of w
+  pub which_named : (w : Which) → Ok w ≡ ok_or (office_of n) NoSuchOffice → n ≡ office_number w
   which_named w e = some_named n w (go (office_of n) e)
     where
       go : (o : Option Which) → Ok w ≡ ok_or o NoSuchOffice → o ≡ Some w
@@ -64,7 +64,7 @@ module _ (n : ℕ) where
 pub ruleset naming = (which_named, none_named, named_some)
 
 -- a number names one office only
-pub for_named : (P : Which → Type 0) (n : ℕ) (w : Which) → n ≡ number_of w → P w → (v : Which) → n ≡ number_of v → P v
+pub for_named : (P : Which → Type 0) (n : ℕ) (w : Which) → n ≡ office_number w → P w → (v : Which) → n ≡ office_number v → P v
 for_named P n First e p First f = p
 for_named P n First e p Second f = absurd (omega arith)
 for_named P n Second e p First f = absurd (omega arith)
@@ -72,7 +72,7 @@ for_named P n Second e p Second f = p
 
 -- what is made of the unit of the office that the code takes is made of what that office holds
 pub of_unit :
-    {A : Type 0} (f : Unit → A) (to : Option Which → A) (s : Station) (n : ℕ) (w : Which) → n ≡ number_of w → (o : Office) → o ≡ office_in w s
+    {A : Type 0} (f : Unit → A) (to : Option Which → A) (s : Station) (n : ℕ) (w : Which) → n ≡ office_number w → (o : Office) → o ≡ office_in w s
     → (b : Both Held) → KeepsBoth s b → ((v : Which) → f (own v b).unit ≡ to (Some v)) → f o.unit ≡ to (office_of n)
 of_unit f to s n w named o is b keeps made =
     rw (named_some n w named, is) (ap f (keeps w).unit ∙ made w)

@@ -10,7 +10,7 @@ use Rattle.rules.specs.Calls.{Export, export_of, page_of, explained, why_of, Why
 use Rattle.rules.specs.Lists.{Call, ExportTo, PageTo, Show, AskWhy, lent_to, written, outcome_of}
 use Rattle.rules.specs.Meter.{points_unless, roughness_of}
 use Rattle.rules.specs.Offices.{Held, OfficeCall, Plan, AskRoughness, lent_bytes, planned, office_outcome}
-use Rattle.rules.specs.Stations.{Both, own, number_of, office_of, call_of, brings_tables, station_outcome}
+use Rattle.rules.specs.Stations.{Both, own, office_number, office_of, call_of, brings_tables, station_outcome}
 use Rattle.rules.specs.declared.Programme.{Programme}
 use Rattle.rules.specs.declared.Unit.{Unit}
 use Rattle.stations.proofs.Calls.{outcome_nobody}
@@ -32,7 +32,7 @@ module _ (b : Both Held) (n : ℕ) (c : OfficeCall) where
   module _ (brings : (d : District) → brings_tables d c ≡ false) where
     -- to office w
     pub told_named :
-        (w : Which) → n ≡ number_of w → (answer : Answer) (bytes : List ℕ)
+        (w : Which) → n ≡ office_number w → (answer : Answer) (bytes : List ℕ)
         → office_outcome (own w b) c ≡ record { answer = answer; held = own w b; bytes = bytes }
         → station_outcome b (call_of n c) ≡ record { answer = answer; held = b; bytes = bytes }
     told_named w named answer bytes out =
@@ -51,13 +51,13 @@ module _ (b : Both Held) (n : ℕ) (c : OfficeCall) where
 
 -- a call that writes into a buffer
 told_written :
-    (b : Both Held) (n : ℕ) (c : Call) (x : Export) → ((d : District) → brings_tables d (Plan c) ≡ false) → (w : Which) → n ≡ number_of w
+    (b : Both Held) (n : ℕ) (c : Call) (x : Export) → ((d : District) → brings_tables d (Plan c) ≡ false) → (w : Which) → n ≡ office_number w
     → outcome_of (own w b).unit c ≡ written x (own w b).unit
     → station_outcome b (call_of n (Plan c)) ≡ record { answer = x.answer; held = b; bytes = x.buffer }
 unfolding office_outcome
 told_written b n c x brings w named e = told_named b n (Plan c) brings w named x.answer x.buffer (ap (planned (own w b).heard) e)
 
-module _ (s : Station) (n : ℕ) (w : Which) (named : n ≡ number_of w) (buffer : List ℕ) (answer : Answer) (bytes : List ℕ) where
+module _ (s : Station) (n : ℕ) (w : Which) (named : n ≡ office_number w) (buffer : List ℕ) (answer : Answer) (bytes : List ℕ) where
   abbrev made : Export
   made = record { answer = answer; buffer = bytes }
 

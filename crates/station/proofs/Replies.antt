@@ -7,7 +7,7 @@ use Rattle.rules.specs.Answers.{no_such_office, answer_of, Answer, Refused}
 use Rattle.rules.specs.Lists.{Call, outcome_of}
 use Rattle.rules.specs.Meter.{sent_refusal}
 use Rattle.rules.specs.Offices.{Held, OfficeCall, Plan, Send, lent_bytes, OfficeOutcome, office_outcome}
-use Rattle.rules.specs.Stations.{other, Both, own, together, number_of, office_of, StationCall, call_of, call_by, brings_tables, StationOutcome, beside, refused_all, station_outcome}
+use Rattle.rules.specs.Stations.{other, Both, own, together, office_number, office_of, StationCall, call_of, call_by, brings_tables, StationOutcome, beside, refused_all, station_outcome}
 use Rattle.rules.specs.declared.Sent.{Sent}
 use Rattle.rules.specs.declared.Unit.{Unit}
 use Rattle.meter.specs.declared.Window.{Window}
@@ -119,7 +119,7 @@ same_station Second s t e f = ap₂ (λ (o p : Office). record { first = o; seco
 
 -- ---- a call of office w
 
-module _ (s : Station) (n : ℕ) (w : Which) (named : n ≡ number_of w) where
+module _ (s : Station) (n : ℕ) (w : Which) (named : n ≡ office_number w) where
   by_name : (b : Both Held) (c : OfficeCall) (o : StationOutcome) → station_outcome b (call_by w c) ≡ o → station_outcome b (call_of n c) ≡ o
   by_name b c o e = ap (λ (m : ℕ). station_outcome b (call_of m c)) named ∙ e
 

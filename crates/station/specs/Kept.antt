@@ -4,7 +4,7 @@ use Rattle.rules.specs.Answers.{no_such_office, Answer, Refused, answer_in}
 use Rattle.rules.specs.Lists.{Call}
 use Rattle.rules.specs.Meter.{silence}
 use Rattle.rules.specs.Offices.{Held, Plan, Send}
-use Rattle.rules.specs.Stations.{other, Both, own, number_of, office_of, StationCall, call_of, station_outcome}
+use Rattle.rules.specs.Stations.{other, Both, own, office_number, office_of, StationCall, call_of, station_outcome}
 use Rattle.rules.specs.declared.Sent.{Sent}
 use Rattle.rules.specs.declared.refusals.Refusal.{Refusal}
 use Rattle.office.specs.Kept.{Keeps, Sends}
@@ -69,13 +69,13 @@ Lends s n c answer bytes = station_outcome (units_in s) (call_of n (Plan c)) ≡
 
 -- the office that is named, if any, keeps what it holds
 abbrev pub KeepsNamed : Station → ℕ → Both Held → Type 0
-KeepsNamed s n b = (w : Which) → n ≡ number_of w → Keeps (office_in w s) (own w b)
+KeepsNamed s n b = (w : Which) → n ≡ office_number w → Keeps (office_in w s) (own w b)
 
 -- of the office that is named, whatever the other's window is; and what is not asked is left as it is, by value: the station, where the record is
 -- refused, and the other office
 pub record SendsBoth (s : Station) (n : ℕ) (sent : Sent) (r : StationReply) : Type 0 where
   pub reports : RepliesTo s (call_of n (Send sent)) r
   pub refused : (m : ℕ) → r.answer ≡ Refused m → r.station ≡ s
-  pub named : (w : Which) → n ≡ number_of w → Sends (office_in w s) sent (record { answer = r.answer; office = office_in w r.station })
-  pub untouched : (w : Which) → n ≡ number_of w → office_in (other w) r.station ≡ office_in (other w) s
+  pub named : (w : Which) → n ≡ office_number w → Sends (office_in w s) sent (record { answer = r.answer; office = office_in w r.station })
+  pub untouched : (w : Which) → n ≡ office_number w → office_in (other w) r.station ≡ office_in (other w) s
   pub nobody : is_office n ≡ false → r.answer ≡ Refused no_such_office

@@ -10,7 +10,7 @@ ghost use Rattle.rules.specs.District.{shared_tables};
 ghost use Rattle.rules.specs.Lists.{Load, Alter, ExportTo, PageTo, Show, AskWhy};
 ghost use Rattle.rules.specs.Offices.{Held, AskRoughness};
 ghost use Rattle.rules.specs.StationDemands.{EveryStationAnswer, EveryStationFile, EveryStation, TablesAgree, LeavingOut};
-ghost use Rattle.rules.specs.Stations.{Both, other, number_of, office_of, fresh_both, call_of};
+ghost use Rattle.rules.specs.Stations.{Both, other, office_number, office_of, fresh_both, call_of};
 ghost use Rattle.stations.specs.EachOffice.{EachOffice};
 ghost use Rattle.station.specs.Kept.{office_in, reply, KeepsBoth, RepliesTo, units_in, PlansBoth, Lends, KeepsNamed, SendsBoth};
 ghost use Rattle.station.specs.Lending.{LendsOffice};
@@ -89,7 +89,7 @@ fn with_tables(d: &District) -> Unit
 // A load whose file passed all its tests, and loads as `d`. Other tables come to the other office too, which must have no
 // segments.
 fn bring(s: &mut Station, w: Which, d: District) -> Answer
-    ensures { (file : List ℕ) → load_refusal file ≡ 0 → district_in file ≡ d → PlansBoth s.old (number_of w) (Load file) (reply result s.new) }
+    ensures { (file : List ℕ) → load_refusal file ≡ 0 → district_in file ≡ d → PlansBoth s.old (office_number w) (Load file) (reply result s.new) }
 {
     if !shared::same_tables(&own(s, w).unit.district, &d) {
         if own(s, other(w)).unit.district[SEGMENT_COUNT] != 0 {

@@ -12,25 +12,25 @@ use Rattle.rules.specs.District.{District, segments_of, is_shared, shared_from, 
 use Rattle.rules.specs.Answers.{no_such_office, tables_in_use, unless, or_later}
 use Rattle.rules.specs.Calls.{unit_of}
 use Rattle.rules.specs.Offices.{Held, OfficeCall, office_refusal, office_outcome}
-use Rattle.rules.specs.Stations.{other, Both, own, together, number_of, office_of, StationCall, call_by, brings_tables, tables_refusal, refusal_beside, with_tables, held_beside, station_refusal, concluded, refused_all, station_outcome}
+use Rattle.rules.specs.Stations.{other, Both, own, together, office_number, office_of, StationCall, call_by, brings_tables, tables_refusal, refusal_beside, with_tables, held_beside, station_refusal, concluded, refused_all, station_outcome}
 use Rattle.rules.specs.declared.Which.{Which}
 use Rattle.rules.specs.declared.Which.TheVariants.{First, Second}
 
 -- ---- whose a call is
 
-pub number_named : (w : Which) → office_of (number_of w) ≡ Some w
+pub number_named : (w : Which) → office_of (office_number w) ≡ Some w
 number_named First = refl
 number_named Second = refl
 
-pub named : (w : Which) (n : ℕ) → eqb n (number_of w) ≡ true → office_of n ≡ Some w
+pub named : (w : Which) (n : ℕ) → eqb n (office_number w) ≡ true → office_of n ≡ Some w
 named First n e = rw e
 named Second n e = rw (eqb-true n 2 e)
 
-pub neither : (w : Which) (n : ℕ) → eqb n (number_of w) ≡ false → eqb n (number_of (other w)) ≡ false → office_of n ≡ None
+pub neither : (w : Which) (n : ℕ) → eqb n (office_number w) ≡ false → eqb n (office_number (other w)) ≡ false → office_of n ≡ None
 neither First n p q = rw (p, q)
 neither Second n p q = rw (q, p)
 
-pub one_office : (w : Which) (n : ℕ) → eqb n (number_of w) ≡ true → eqb n (number_of (other w)) ≡ false
+pub one_office : (w : Which) (n : ℕ) → eqb n (office_number w) ≡ true → eqb n (office_number (other w)) ≡ false
 one_office First n e = rw (eqb-true n 1 e)
 one_office Second n e = rw (eqb-true n 2 e)
 

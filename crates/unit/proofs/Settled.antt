@@ -1,17 +1,17 @@
 -- How a call that changes the unit settles: refused, the unit stays as it was; accepted, it holds the new district.
 use Rattle.std.proofs.Common.{◌≡◌, ℕ, suc, ◌-◌, arith}
-use Rattle.file.proofs.Numbered.{numbered}
-use Rattle.rules.specs.Answers.{number_of, answer_of, accepting, Accepted, Refused}
+use Rattle.rules.proofs.RefusalNumbers.{numbered}
+use Rattle.rules.specs.Answers.{refusal_number, answer_of, accepting, Accepted, Refused}
 use Rattle.rules.specs.Calls.{answered, unit_of}
 use Rattle.rules.specs.District.{District}
 use Rattle.rules.specs.declared.Unit.{Unit}
 use Rattle.rules.specs.declared.refusals.Refusal.{Refusal}
 
 -- a refusal's number is not 0
-pub not_none : (r : Refusal) → number_of r ≡ suc (number_of r - 1)
+pub not_none : (r : Refusal) → refusal_number r ≡ suc (refusal_number r - 1)
 not_none r = omega (arith, numbered r)
 
-pub refused : (u : Unit) (d : District) (n : ℕ) (e : Refusal) → number_of e ≡ n → record { answer = Refused (number_of e); unit = u } ≡ answered u n d
+pub refused : (u : Unit) (d : District) (n : ℕ) (e : Refusal) → refusal_number e ≡ n → record { answer = Refused (refusal_number e); unit = u } ≡ answered u n d
 unfolding answered answer_of accepting
 refused u d n e is = rw (← is, not_none e)
 

@@ -4,7 +4,8 @@ use Rattle.std.proofs.lemmas.Result.{err_from_is_err_and}
 use Rattle.base.specs.Over.{listed_from}
 use Rattle.rules.specs.Deck.{segment_in}
 use Rattle.rules.specs.District.{segments_of}
-use Rattle.cards.proofs.Decks.{numbered, title_bad, none_yet, counts_are, within, counts_bad, segment_bad, all_good, segment_refused, segment_good, segment_held}
+use Rattle.rules.proofs.RefusalNumbers.{numbered}
+use Rattle.cards.proofs.Decks.{title_bad, none_yet, counts_are, within, counts_bad, segment_bad, all_good, segment_refused, segment_good, segment_held}
 use Rattle.base.proofs.Listed.{listed_length}
 use Rattle.cards.proofs.read.Goals as goal
 

@@ -14,7 +14,7 @@ use Rattle.file.proofs.Steps.{less, records_found, records_refused, records_end,
 use Rattle.file.specs.Readings.{read_of, ReadInto}
 use Rattle.std.specs.Prelude.{Result, Ok, Err}
 use Rattle.std.proofs.lemmas.Result.{err_from_is_err_and}
-use Rattle.rules.specs.Answers.{number_of, bytes_follow}
+use Rattle.rules.specs.Answers.{refusal_number, bytes_follow}
 use Rattle.rules.specs.declared.refusals.Refusal.{Refusal}
 use Rattle.grammar.proofs.Named.{is_form}
 use Rattle.rules.specs.District.{district_places}
@@ -34,10 +34,10 @@ module _ (form n place at : ℕ) (slot : Slot) (d next file : List ℕ) (res : R
       ∙ records_found form (file_records - (n + 1)) n (take place d) (drop at file) vs (drop k file) (answer ∙ ap (λ (x : Result ℕ Refusal). read_of x vs file) q)
       ∙ ap (λ (l : List ℕ). read_records form (file_records - (n + 1)) (n + 1) l (drop k file)) (ap (λ (l : List ℕ). l ++ vs) (sym r.before) ∙ sym (take-add place slot.places next))
 
-  refuses : (k : Refusal) → res ≡ Err k → read_records form (file_records - n) n (take place d) (drop at file) ≡ refused (number_of k)
+  refuses : (k : Refusal) → res ≡ Err k → read_records form (file_records - n) n (take place d) (drop at file) ≡ refused (refusal_number k)
   refuses k q =
       ap (λ (m : ℕ). read_records form m n (take place d) (drop at file)) (less file_records n h)
-      ∙ records_refused form (file_records - (n + 1)) n (take place d) (drop at file) (number_of k) (answer ∙ ap (λ (x : Result ℕ Refusal). read_of x (take slot.places (drop place next)) file) q)
+      ∙ records_refused form (file_records - (n + 1)) n (take place d) (drop at file) (refusal_number k) (answer ∙ ap (λ (x : Result ℕ Refusal). read_of x (take slot.places (drop place next)) file) q)
 
 -- after the last record
 last : (c : After-loop-n) → c.loop-n.n ≡ file_records
@@ -88,7 +88,7 @@ returns-in_err-at-clause-refusal c =
     let r = c.read_record in
     let g = c.in_err-at in
     let k = err_from_is_err_and c.from_residual.result c.from_residual.ensures.1 in
-    rw (k.1, k.2) (refusal_refused form file (number_of g.field-0.0) (l.invariant.0 ∙ refuses form l.n l.place l.at (slot_in s.result) l.d r.new.d file r.result (omega arith) s.ensures r.ensures g.field-0.0 g.was))
+    rw (k.1, k.2) (refusal_refused form file (refusal_number g.field-0.0) (l.invariant.0 ∙ refuses form l.n l.place l.at (slot_in s.result) l.d r.new.d file r.result (omega arith) s.ensures r.ensures g.field-0.0 g.was))
 
 pub returns-then-at-file-clause-refusal : goal.returns-then-at-file-clause-refusal
 returns-then-at-file-clause-refusal c =

@@ -1,8 +1,8 @@
 -- `transcode::answer` meets its contract: a refusal is a byte, and no file is longer than the buffer.
 use Rattle.std.proofs.Common.{arith, rules}
-use Rattle.rules.specs.Answers.{number_of}
+use Rattle.rules.specs.Answers.{refusal_number}
 use Rattle.file.proofs.Longest.{longest}
-use Rattle.file.proofs.Numbered.{numbered}
+use Rattle.rules.proofs.RefusalNumbers.{numbered}
 use Rattle.transcode.proofs.Framed.{answered_refusal, answered_file}
 use Rattle.transcode.proofs.answer.Goals as goal
 
@@ -17,4 +17,4 @@ returns-in-Ok c =
 pub returns-in-Err : goal.returns-in-Err
 returns-in-Err c =
     let l = c.in-Err in
-    rw (← answered_refusal c.args.frame.now (number_of l.refusal) (numbered l.refusal) l.ensures.refusal, ← c.from.ensures) c.put.ensures
+    rw (← answered_refusal c.args.frame.now (refusal_number l.refusal) (numbered l.refusal) l.ensures.refusal, ← c.from.ensures) c.put.ensures

@@ -1,10 +1,10 @@
 -- A refusal has a number of 1 at least: 0 is none.
 use Rattle.std.proofs.Common.{◌≤◌, lit≤}
-use Rattle.rules.specs.Answers.{number_of}
+use Rattle.rules.specs.Answers.{refusal_number}
 use Rattle.rules.specs.declared.refusals.Refusal.{Refusal}
 use Rattle.rules.specs.declared.refusals.Refusal.TheVariants.{CutShort, OtherKind, OtherLength, OutOfRange, BytesFollow, NoSuchSegment, NoSuchNumber, NewOutOfRange, BufferTooShort, NoSuchPoints, NoRoomForPage, NoReading, WindowEmpty, LeaderNotBelow, LeaderSet, NoSuchOffice, TablesInUse, WrongField, WrongLine, NoSuchConsole, QueueFull}
 
-pub numbered : (r : Refusal) → 1 ≤ number_of r
+pub numbered : (r : Refusal) → 1 ≤ refusal_number r
 numbered CutShort = lit≤ tt
 numbered OtherKind = lit≤ tt
 numbered OtherLength = lit≤ tt
