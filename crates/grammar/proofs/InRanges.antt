@@ -12,10 +12,10 @@ use Rattle.base.proofs.Choice.{pick_all}
 use Rattle.base.specs.Bytes.{signed}
 use Rattle.base.specs.Choice.{pick}
 use Rattle.rules.specs.District.{District, most_segments, most_strategies, most_years, most_distresses, most_pavements, most_resources, count_places, gains_at, percents_at, per_strategy, minima_at, per_pavement, traffic_at, environment_at, length_at, width_at, bars_at, ratings_at, leader_at, per_segment, value_at, strategy_place, pavement_place, segment_place, segments_of, strategies_of, years_of, distresses_of, pavements_of, resources_of, limit_of, greatest_of, requirement_of, gain_of, percent_of, overall_of, minimum_of, pavement_of, traffic_of, environment_of, length_of, width_of, bars_of, rating_of, leader_of}
-use Rattle.rules.specs.Format.{leader_form, number, absent, inside, slot, first_strategy_record, first_pavement_record, first_segment_record, present, limit_field, greatest_field, rows_field, strategy_field, pavement_field, segment_field, kind_field, field_at, Slot}
+use Rattle.rules.specs.Format.{leader_form, number, absent, inside, slot, first_strategy_record, first_pavement_record, first_segment_record, file_records, slot_of, present, limit_field, greatest_field, rows_field, strategy_field, pavement_field, segment_field, kind_field, field_at, Slot}
 use Rattle.rules.specs.File.{in_range}
 use Rattle.rules.specs.declared.Field.{Field}
-use Rattle.grammar.specs.Places.{InRange}
+use Rattle.grammar.specs.Places.{start_of, InRange}
 use Rattle.grammar.specs.Ranges.{Ranges}
 use Rattle.grammar.proofs.Slots.{slot_strategy, slot_pavement, slot_segment, start_strategy, start_pavement, start_segment}
 use Rattle.grammar.proofs.InRange.{in_range_lem}
@@ -27,20 +27,21 @@ segment_slot i = slot leader_form 6 per_segment (i - 1)
 module _ (d : District) (ok : InRange leader_form d) where
   -- ---- the numbers of one record, at the district's own places
 
-  pub strategy_in_lem : (j n : ℕ) → 1 ≤ j → j ≤ most_strategies → n < per_strategy → inside (field_at d (slot leader_form 4 per_strategy (j - 1)) n) (value_at d (strategy_place j + n)) ≡ true
-  strategy_in_lem j n a b h =
-      let e = slot_strategy leader_form (j - 1) (omega arith) in
-      rw (e, start_strategy (j - 1) (omega arith)) at (ok.values (first_strategy_record + (j - 1)) n (omega arith) (omega (arith, ap (λ (s : Slot). s.places) e)))
+  -- of the m-th record of the file, s, which starts at the place p
+  record_in : (m n p : ℕ) (s : Slot) → m < file_records → slot_of leader_form m ≡ s → start_of m ≡ p → n < s.places → inside (field_at d s n) (value_at d (p + n)) ≡ true
+  record_in m n p s h e q l = rw (e, q) at (ok.values m n h (omega (arith, ap (λ (s : Slot). s.places) e)))
 
-  pub pavement_in : (y n : ℕ) → 1 ≤ y → y ≤ most_pavements → n < per_pavement → inside (field_at d (slot leader_form 5 per_pavement (y - 1)) n) (value_at d (pavement_place y + n)) ≡ true
-  pavement_in y n a b h =
-      let e = slot_pavement leader_form (y - 1) (omega arith) in
-      rw (e, start_pavement (y - 1) (omega arith)) at (ok.values (first_pavement_record + (y - 1)) n (omega arith) (omega (arith, ap (λ (s : Slot). s.places) e)))
+  strategy_in : (j n : ℕ) → 1 ≤ j → j ≤ most_strategies → n < per_strategy → inside (field_at d (slot leader_form 4 per_strategy (j - 1)) n) (value_at d (strategy_place j + n)) ≡ true
+  strategy_in j n a b =
+      record_in (first_strategy_record + (j - 1)) n (strategy_place j) (slot leader_form 4 per_strategy (j - 1)) (omega arith) (slot_strategy leader_form (j - 1) (omega arith)) (start_strategy (j - 1) (omega arith))
 
-  pub segment_in_lem : (i n : ℕ) → 1 ≤ i → i ≤ most_segments → n < per_segment → inside (field_at d (segment_slot i) n) (value_at d (segment_place i + n)) ≡ true
-  segment_in_lem i n a b h =
-      let e = slot_segment leader_form (i - 1) (omega arith) in
-      rw (e, start_segment (i - 1) (omega arith)) at (ok.values (first_segment_record + (i - 1)) n (omega arith) (omega (arith, ap (λ (s : Slot). s.places) e)))
+  pavement_in : (y n : ℕ) → 1 ≤ y → y ≤ most_pavements → n < per_pavement → inside (field_at d (slot leader_form 5 per_pavement (y - 1)) n) (value_at d (pavement_place y + n)) ≡ true
+  pavement_in y n a b =
+      record_in (first_pavement_record + (y - 1)) n (pavement_place y) (slot leader_form 5 per_pavement (y - 1)) (omega arith) (slot_pavement leader_form (y - 1) (omega arith)) (start_pavement (y - 1) (omega arith))
+
+  segment_in : (i n : ℕ) → 1 ≤ i → i ≤ most_segments → n < per_segment → inside (field_at d (segment_slot i) n) (value_at d (segment_place i + n)) ≡ true
+  segment_in i n a b =
+      record_in (first_segment_record + (i - 1)) n (segment_place i) (segment_slot i) (omega arith) (slot_segment leader_form (i - 1) (omega arith)) (start_segment (i - 1) (omega arith))
 
   -- ---- counts, limits and greatest ratings
 
@@ -83,6 +84,13 @@ module _ (d : District) (ok : InRange leader_form d) where
       let k : most ≤ most = omega arith in
       search betweens depth 10
 
+  -- of the row of a distress type, the number of a year
+  in_row : (most first p k t : ℕ) (s : Slot) → let n = first + most_years * (k - 1) + (t - 1) in kind_field d s n ≡ rows_field d most (n - first) → inside (field_at d s n) (value_at d (p + n)) ≡ true → value_at d (p + first + most_years * (k - 1) + (t - 1)) ≤ most
+  in_row most first p k t s e i =
+      let n = first + most_years * (k - 1) + (t - 1) in
+      let same : p + n ≡ p + first + most_years * (k - 1) + (t - 1) = omega arith in
+      rw same at (at_most most s n (value_at d (p + n)) (rw e (rows most (n - first))) i)
+
   limit : (r : ℕ) → 1 ≤ r → r ≤ most_resources → limit_of d r ≤ 999_999_999
   unfolding limit_of
   limit r a b =
@@ -102,15 +110,13 @@ module _ (d : District) (ok : InRange leader_form d) where
   requirement j r a b p q =
       let g : Between 0 999_999 (pick (ltb (r - 1) (resources_of d)) (number 4 0 999_999) absent) = search betweens depth 10 in
       let f : Between 0 999_999 (strategy_field d (r - 1)) = rw (lt-ltb (r - 1) gains_at (omega arith)) g in
-      at_most 999_999 (slot leader_form 4 per_strategy (j - 1)) (r - 1) (requirement_of d j r) f (strategy_in_lem j (r - 1) a b (omega arith))
+      at_most 999_999 (slot leader_form 4 per_strategy (j - 1)) (r - 1) (requirement_of d j r) f (strategy_in j (r - 1) a b (omega arith))
 
   percent : (j k t : ℕ) → 1 ≤ j → j ≤ most_strategies → 1 ≤ k → k ≤ most_distresses → 1 ≤ t → t ≤ most_years → percent_of d j k t ≤ 100
   unfolding percent_of
   percent j k t a b p q v w =
       let n = percents_at + most_years * (k - 1) + (t - 1) in
-      let f : Between 0 100 (strategy_field d n) = rw (le-ltb n gains_at (omega arith), le-ltb n percents_at (omega arith)) (rows 100 (n - percents_at)) in
-      let e : strategy_place j + n ≡ strategy_place j + percents_at + most_years * (k - 1) + (t - 1) = omega arith in
-      at_most 100 (slot leader_form 4 per_strategy (j - 1)) n (percent_of d j k t) f (rw e at (strategy_in_lem j n a b (omega arith)))
+      in_row 100 percents_at (strategy_place j) k t (slot leader_form 4 per_strategy (j - 1)) (rw (le-ltb n gains_at (omega arith), le-ltb n percents_at (omega arith)) refl) (strategy_in j n a b (omega arith))
 
   -- ---- pavement types
 
@@ -124,9 +130,7 @@ module _ (d : District) (ok : InRange leader_form d) where
   unfolding minimum_of
   minimum y k t a b p q v w =
       let n = minima_at + most_years * (k - 1) + (t - 1) in
-      let f : Between 0 50 (pavement_field d n) = rw (ne_eqb n 0 (λ z. omega arith)) (rows 50 (n - minima_at)) in
-      let e : pavement_place y + n ≡ pavement_place y + minima_at + most_years * (k - 1) + (t - 1) = omega arith in
-      at_most 50 (slot leader_form 5 per_pavement (y - 1)) n (minimum_of d y k t) f (rw e at (pavement_in y n a b (omega arith)))
+      in_row 50 minima_at (pavement_place y) k t (slot leader_form 5 per_pavement (y - 1)) (rw (ne_eqb n 0 (λ z. omega arith)) refl) (pavement_in y n a b (omega arith))
 
   -- ---- segments
 
@@ -134,19 +138,19 @@ module _ (d : District) (ok : InRange leader_form d) where
   unfolding pavement_of field_at
   some_type i a b =
       let f : Between 1 most_pavements (segment_field d (segment_slot i) 0) = between_number 1 most_pavements 1 1 (pavements_of d) (le-leb 1 (pavements_of d) pavements.0) (omega arith) pavements.1 in
-      (inside_between 1 most_pavements (segment_field d (segment_slot i) 0) (pavement_of d i) f (rw (lt-ltb (i - 1) (segments_of d) (omega arith), add-zero) at (segment_in_lem i 0 a (omega (arith, segments.1)) (omega arith)))).0
+      (inside_between 1 most_pavements (segment_field d (segment_slot i) 0) (pavement_of d i) f (rw (lt-ltb (i - 1) (segments_of d) (omega arith), add-zero) at (segment_in i 0 a (omega (arith, segments.1)) (omega arith)))).0
 
   pavement : (i : ℕ) → 1 ≤ i → i ≤ most_segments → pavement_of d i ≤ most_pavements
   unfolding pavement_of
   pavement i a b =
       let f : Between 0 most_pavements (segment_field d (segment_slot i) 0) = between_number 0 most_pavements 1 1 (pavements_of d) (le-leb 1 (pavements_of d) pavements.0) (omega arith) pavements.1 in
-      at_most most_pavements (segment_slot i) 0 (pavement_of d i) f (rw add-zero at (segment_in_lem i 0 a b (omega arith)))
+      at_most most_pavements (segment_slot i) 0 (pavement_of d i) f (rw add-zero at (segment_in i 0 a b (omega arith)))
 
   -- one with a range of its own
   plain : (i n lo hi w : ℕ) → 1 ≤ i → i ≤ most_segments → n < per_segment → leb lo hi ≡ true → segment_field d (segment_slot i) n ≡ number w lo hi → value_at d (segment_place i + n) ≤ hi
   plain i n lo hi w a b h s e =
       let f : Between 0 hi (segment_field d (segment_slot i) n) = rw e (between_number 0 hi w lo hi s (omega arith) (omega arith)) in
-      at_most hi (segment_slot i) n (value_at d (segment_place i + n)) f (segment_in_lem i n a b h)
+      at_most hi (segment_slot i) n (value_at d (segment_place i + n)) f (segment_in i n a b h)
 
   pub bars_most : (i : ℕ) → 1 ≤ i → i ≤ most_segments → bars_of d i ≤ 2 ^ min (strategies_of d) 16 - 1
   unfolding bars_of
@@ -162,7 +166,7 @@ module _ (d : District) (ok : InRange leader_form d) where
       let g = greatest_of d k in
       let c : segment_place i + n ≡ segment_place i + ratings_at + (k - 1) = omega arith in
       let f : Between 0 g (segment_field d (segment_slot i) n) = rw (segment_rating d (segment_slot i) k p q) (rating_between d k p) in
-      at_most g (segment_slot i) n (rating_of d i k) f (rw c at (segment_in_lem i n a b (omega arith)))
+      at_most g (segment_slot i) n (rating_of d i k) f (rw c at (segment_in i n a b (omega arith)))
 
   mile_length : (i : ℕ) → 1 ≤ i → i ≤ most_segments → length_of d i ≤ 9_999
   unfolding length_of
@@ -200,7 +204,7 @@ module _ (d : District) (e : in_range d ≡ true) where
       let x = value_at d (strategy_place j + n) in
       let w : strategy_place j + n ≡ strategy_place j + gains_at + (k - 1) = omega arith in
       let most = subst (Gain x) (sym (gain_field d (j - 1) n (omega arith) (omega arith))) (gain_picked x (present d s) (ltb (n - gains_at) (distresses_of d))) in
-      rw w at (most (strategy_in_lem d ok j n a b (omega arith)))
+      rw w at (most (strategy_in d ok j n a b (omega arith)))
 
   pub in_ranges : Ranges d
   unfolding ok traffic_of environment_of width_of

@@ -64,7 +64,8 @@ fn number_of(width: usize, lo: usize, hi: usize) -> Field
     Field { width, lo, hi }
 }
 
-// A number that the district does not have.
+// A number that the district does not have. It is no Option: as a field of 0 bytes that holds 0 it is read, tested and
+// written like any other, and the rules define it so (`absent`); an Option would put a match into each of those.
 const ABSENT: Field = Field {
     width: 0,
     lo: 0,
@@ -214,7 +215,8 @@ pub fn field_at(d: &District, s: Slot, n: usize) -> Field
     }
 }
 
-// Whether the field may hold `x`.
+// Whether the field may hold `x`. A signed byte has hi < lo, in the rules' own `Field` (`ranged`). A kind of range beside
+// lo and hi would say it twice to each maker of a field: the gain alone is signed.
 #[tactic(auto, using(base::proofs::Choice::picks), unfolding(rules::specs::Format::ranged))]
 pub fn is_inside(f: Field, x: usize) -> bool
     ensures { result ≡ inside f x }
