@@ -118,10 +118,9 @@ fn reaches(z: i64, required: usize) -> bool
 // Strategy j on segment i of a district whose numbers are in the file's ranges: the arithmetic rests on that.
 #[derive(Clone, Copy)]
 pub struct Treatment<'a> {
-    pub district: &'a District,
+    pub ranged: Ranged<'a>,
     pub segment: usize,
     pub strategy: usize,
-    pub ghost in_range: { Ranges district.now },
     pub ghost segment_in: { Segment segment },
     pub ghost strategy_in: { Strategy strategy },
 }
@@ -132,9 +131,9 @@ impl<'a> Treatment<'a> {
     // The gain that the strategy has for distress k. Not by a cast to `i8`: the ranges do not say that the number fits a byte.
     fn own_gain(&self, k: usize) -> i64
         requires { Distress k }
-        ensures { result ≡ gain_of self.now.district.now self.now.strategy k }
+        ensures { result ≡ gain_of self.now.ranged.district.now self.now.strategy k }
     {
-        let byte = gain_byte(self.district, self.strategy, k);
+        let byte = gain_byte(self.ranged.district, self.strategy, k);
         if byte < 128 {
             byte as i64
         } else {
@@ -145,11 +144,11 @@ impl<'a> Treatment<'a> {
     // The same on the segment, cut to what is left up to the greatest rating, and to the loss of the whole current one.
     pub fn gain(&self, k: usize) -> i64
         requires { Distress k }
-        ensures { result ≡ gain self.now.district.now self.now.segment self.now.strategy k }
+        ensures { result ≡ gain self.now.ranged.district.now self.now.segment self.now.strategy k }
     {
         let own = self.own_gain(k);
-        let current = rating_at(self.district, self.segment, k);
-        let left = greatest_at(self.district, k) - current;
+        let current = rating_at(self.ranged.district, self.segment, k);
+        let left = greatest_at(self.ranged.district, k) - current;
         let lowest = -(current as i64);
         lowest.max(own.min(left as i64))
     }
@@ -157,11 +156,11 @@ impl<'a> Treatment<'a> {
     // What is left of it in year t, in millionths.
     fn survival(&self, k: usize, t: usize) -> usize
         requires { Distress k × Year t }
-        ensures { result ≡ survival self.now.district.now self.now.segment self.now.strategy k t }
+        ensures { result ≡ survival self.now.ranged.district.now self.now.segment self.now.strategy k t }
     {
-        let loss = segment_at(self.district, self.segment, TRAFFIC)
-            * segment_at(self.district, self.segment, ENVIRONMENT)
-            * (100 - percent_at(self.district, self.strategy, k, t));
+        let loss = segment_at(self.ranged.district, self.segment, TRAFFIC)
+            * segment_at(self.ranged.district, self.segment, ENVIRONMENT)
+            * (100 - percent_at(self.ranged.district, self.strategy, k, t));
         1000000usize.saturating_sub(loss)
     }
 
@@ -171,11 +170,11 @@ impl<'a> Treatment<'a> {
     // year 1 starts.
     fn survivals(&self, k: usize) -> usize
         requires { Distress k }
-        ensures { result ≡ sum (years_of self.now.district.now) (both_ends self.now.district.now self.now.segment self.now.strategy k) }
+        ensures { result ≡ sum (years_of self.now.ranged.district.now) (both_ends self.now.ranged.district.now self.now.segment self.now.strategy k) }
     {
         let mut total: usize = 0;
         let mut start: usize = 1000000;
-        for t in 1..=self.district[YEAR_COUNT] {
+        for t in 1..=self.ranged.district[YEAR_COUNT] {
             let end = self.survival(k, t);
             total += start + end;
             start = end;
@@ -186,17 +185,17 @@ impl<'a> Treatment<'a> {
     // What the gain is credited with over the years: it is a factor that all years share.
     fn credits(&self, k: usize) -> i64
         requires { Distress k }
-        ensures { result ≡ credits self.now.district.now self.now.segment self.now.strategy k }
+        ensures { result ≡ credits self.now.ranged.district.now self.now.segment self.now.strategy k }
     {
         self.gain(k) * (self.survivals(k) as i64)
     }
 
     // The credits of all distress types, summed. A loop, as below: the library says of a signed `sum` nothing about its bound.
     fn total_credits(&self) -> i64
-        ensures { result ≡ sum_z (distresses_of self.now.district.now) (credits self.now.district.now self.now.segment self.now.strategy) }
+        ensures { result ≡ sum_z (distresses_of self.now.ranged.district.now) (credits self.now.ranged.district.now self.now.segment self.now.strategy) }
     {
         let mut sum: i64 = 0;
-        for k in 1..=self.district[DISTRESS_COUNT] {
+        for k in 1..=self.ranged.district[DISTRESS_COUNT] {
             sum += self.credits(k);
         }
         sum
@@ -204,21 +203,21 @@ impl<'a> Treatment<'a> {
 
     // One division, toward zero, after the whole sum.
     fn effect(&self) -> i64
-        ensures { result ≡ effect self.now.district.now self.now.segment self.now.strategy }
+        ensures { result ≡ effect self.now.ranged.district.now self.now.segment self.now.strategy }
     {
         self.total_credits() / 20000
     }
 
     fn area(&self) -> u64
-        ensures { result ≡ area self.now.district.now self.now.segment }
+        ensures { result ≡ area self.now.ranged.district.now self.now.segment }
     {
-        let length = segment_at(self.district, self.segment, LENGTH);
-        let width = segment_at(self.district, self.segment, WIDTH);
+        let length = segment_at(self.ranged.district, self.segment, LENGTH);
+        let width = segment_at(self.ranged.district, self.segment, WIDTH);
         (length * width) as u64
     }
 
     pub fn benefit(&self) -> i64
-        ensures { result ≡ benefit self.now.district.now self.now.segment self.now.strategy }
+        ensures { result ≡ benefit self.now.ranged.district.now self.now.segment self.now.strategy }
     {
         (self.area() as i64) * self.effect()
     }
@@ -227,52 +226,52 @@ impl<'a> Treatment<'a> {
 
     pub fn usage(&self, r: usize) -> u64
         requires { Resource r }
-        ensures { result ≡ usage self.now.district.now self.now.segment self.now.strategy r }
+        ensures { result ≡ usage self.now.ranged.district.now self.now.segment self.now.strategy r }
     {
-        self.area() * (requirement_at(self.district, self.strategy, r) as u64)
+        self.area() * (requirement_at(self.ranged.district, self.strategy, r) as u64)
     }
 
     // ---- permitted
 
     // The rating in year t, in millionths, g being the gain.
     fn rating(&self, k: usize, t: usize, g: i64) -> i64
-        requires { Distress k × Year t × (g ≡ gain self.now.district.now self.now.segment self.now.strategy k) }
-        ensures { result ≡ rating self.now.district.now self.now.segment self.now.strategy k t }
+        requires { Distress k × Year t × (g ≡ gain self.now.ranged.district.now self.now.segment self.now.strategy k) }
+        ensures { result ≡ rating self.now.ranged.district.now self.now.segment self.now.strategy k t }
     {
-        let current = rating_at(self.district, self.segment, k);
+        let current = rating_at(self.ranged.district, self.segment, k);
         (1000000 * current) as i64 + g * (self.survival(k, t) as i64)
     }
 
     pub fn minimum_reached(&self, k: usize, t: usize, g: i64) -> bool
-        requires { (self.now.segment ≤ segments_of self.now.district.now) × Distress k × Year t × (g ≡ gain self.now.district.now self.now.segment self.now.strategy k) }
-        ensures { result ≡ minimum_reached self.now.district.now self.now.segment self.now.strategy k t }
+        requires { (self.now.segment ≤ segments_of self.now.ranged.district.now) × Distress k × Year t × (g ≡ gain self.now.ranged.district.now self.now.segment self.now.strategy k) }
+        ensures { result ≡ minimum_reached self.now.ranged.district.now self.now.segment self.now.strategy k t }
     {
-        let pavement = pavement_at(self.district, self.segment);
-        let required = minimum_at(self.district, pavement, k, t);
+        let pavement = pavement_at(self.ranged.district, self.segment);
+        let required = minimum_at(self.ranged.district, pavement, k, t);
         reaches(self.rating(k, t, g), required)
     }
 
     fn years_reached(&self, k: usize) -> bool
-        requires { (self.now.segment ≤ segments_of self.now.district.now) × Distress k }
-        ensures { result ≡ years_reached self.now.district.now self.now.segment self.now.strategy k }
+        requires { (self.now.segment ≤ segments_of self.now.ranged.district.now) × Distress k }
+        ensures { result ≡ years_reached self.now.ranged.district.now self.now.segment self.now.strategy k }
     {
         let g = self.gain(k);
-        (1..=self.district[YEAR_COUNT]).all(|t| self.minimum_reached(k, t, g))
+        (1..=self.ranged.district[YEAR_COUNT]).all(|t| self.minimum_reached(k, t, g))
     }
 
     fn minima_reached(&self) -> bool
-        requires { self.now.segment ≤ segments_of self.now.district.now }
-        ensures { result ≡ minima_reached self.now.district.now self.now.segment self.now.strategy }
+        requires { self.now.segment ≤ segments_of self.now.ranged.district.now }
+        ensures { result ≡ minima_reached self.now.ranged.district.now self.now.segment self.now.strategy }
     {
-        (1..=self.district[DISTRESS_COUNT]).all(|k| self.years_reached(k))
+        (1..=self.ranged.district[DISTRESS_COUNT]).all(|k| self.years_reached(k))
     }
 
     // The ratings of year 1, summed.
     fn first_ratings(&self) -> i64
-        ensures { result ≡ sum_z (distresses_of self.now.district.now) (first_rating self.now.district.now self.now.segment self.now.strategy) }
+        ensures { result ≡ sum_z (distresses_of self.now.ranged.district.now) (first_rating self.now.ranged.district.now self.now.segment self.now.strategy) }
     {
         let mut sum: i64 = 0;
-        for k in 1..=self.district[DISTRESS_COUNT] {
+        for k in 1..=self.ranged.district[DISTRESS_COUNT] {
             let g = self.gain(k);
             sum += self.rating(k, 1, g);
         }
@@ -280,19 +279,19 @@ impl<'a> Treatment<'a> {
     }
 
     pub fn overall_reached(&self) -> bool
-        requires { self.now.segment ≤ segments_of self.now.district.now }
-        ensures { result ≡ overall_reached self.now.district.now self.now.segment self.now.strategy }
+        requires { self.now.segment ≤ segments_of self.now.ranged.district.now }
+        ensures { result ≡ overall_reached self.now.ranged.district.now self.now.segment self.now.strategy }
     {
-        let pavement = pavement_at(self.district, self.segment);
-        let required = overall_at(self.district, pavement);
+        let pavement = pavement_at(self.ranged.district, self.segment);
+        let required = overall_at(self.ranged.district, pavement);
         reaches(self.first_ratings(), required)
     }
 
     fn permitted(&self) -> bool
-        requires { self.now.segment ≤ segments_of self.now.district.now }
-        ensures { result ≡ permitted self.now.district.now self.now.segment self.now.strategy }
+        requires { self.now.segment ≤ segments_of self.now.ranged.district.now }
+        ensures { result ≡ permitted self.now.ranged.district.now self.now.segment self.now.strategy }
     {
-        !barred(self.district, self.segment, self.strategy)
+        !barred(self.ranged.district, self.segment, self.strategy)
             && self.minima_reached()
             && self.overall_reached()
     }
@@ -301,20 +300,18 @@ impl<'a> Treatment<'a> {
 
     // Whether the strategy on the segment stays within each limit by itself.
     fn fits_alone(&self) -> bool
-        ensures { result ≡ fits_alone self.now.district.now self.now.segment self.now.strategy }
+        ensures { result ≡ fits_alone self.now.ranged.district.now self.now.segment self.now.strategy }
     {
-        let ranged = Ranged {
-            district: self.district,
-        };
-        (1..=self.district[RESOURCE_COUNT]).all(|r| self.usage(r) <= ranged.scaled_limit(r))
+        (1..=self.ranged.district[RESOURCE_COUNT]).all(|r| self.usage(r)
+            <= self.ranged.scaled_limit(r))
     }
 
     // The benefit of a candidate; 0 for any other strategy. What is cheap to test is tested first.
     fn worth(&self) -> u64
-        requires { self.now.segment ≤ segments_of self.now.district.now }
-        ensures { result ≡ pick (candidate self.now.district.now self.now.segment self.now.strategy) (nat_abs (benefit self.now.district.now self.now.segment self.now.strategy)) 0 }
+        requires { self.now.segment ≤ segments_of self.now.ranged.district.now }
+        ensures { result ≡ pick (candidate self.now.ranged.district.now self.now.segment self.now.strategy) (nat_abs (benefit self.now.ranged.district.now self.now.segment self.now.strategy)) 0 }
     {
-        if barred(self.district, self.segment, self.strategy) || !self.fits_alone() {
+        if barred(self.ranged.district, self.segment, self.strategy) || !self.fits_alone() {
             return 0;
         }
         let b = self.benefit();
@@ -337,12 +334,12 @@ pub struct Ranged<'a> {
 impl<'a> Ranged<'a> {
     fn treatment(&self, i: usize, j: usize) -> Treatment<'a>
         requires { Segment i × Strategy j }
-        ensures district { result.district.now ≡ self.now.district.now }
+        ensures district { result.ranged.district.now ≡ self.now.district.now }
         ensures segment { result.segment ≡ i }
         ensures strategy { result.strategy ≡ j }
     {
         Treatment {
-            district: self.district,
+            ranged: *self,
             segment: i,
             strategy: j,
         }

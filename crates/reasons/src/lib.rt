@@ -21,7 +21,7 @@ use rules::{District, Edit, Reason, Refusal};
 struct Question<'d, 'c> {
     treatment: Treatment<'d>,
     programme: &'c [usize; MOST_SEGMENTS],
-    ghost own_segment: { treatment.segment ≤ segments_of treatment.district.now },
+    ghost own_segment: { treatment.segment ≤ segments_of treatment.ranged.district.now },
 }
 
 impl Question<'_, '_> {
@@ -30,10 +30,10 @@ impl Question<'_, '_> {
     // The first year in which that of distress k is.
     fn missed_year(&self, k: usize) -> Option<Reason>
         requires { Distress k }
-        ensures { let t = self.now.treatment in result ≡ first (years_of t.district.now) (λ y. given t.district.now self.now.programme.now t.segment t.strategy (MinimumMissed k y)) }
+        ensures { let t = self.now.treatment in result ≡ first (years_of t.ranged.district.now) (λ y. given t.ranged.district.now self.now.programme.now t.segment t.strategy (MinimumMissed k y)) }
     {
         let gain = self.treatment.gain(k);
-        for t in 1..=self.treatment.district[YEAR_COUNT] {
+        for t in 1..=self.treatment.ranged.district[YEAR_COUNT] {
             if !self.treatment.minimum_reached(k, t, gain) {
                 return Some(Reason::MinimumMissed(k, t));
             }
@@ -43,9 +43,9 @@ impl Question<'_, '_> {
 
     // The first distress type with such a year.
     fn missed_minimum(&self) -> Option<Reason>
-        ensures { let t = self.now.treatment in result ≡ first (distresses_of t.district.now) (λ k. first (years_of t.district.now) (λ y. given t.district.now self.now.programme.now t.segment t.strategy (MinimumMissed k y))) }
+        ensures { let t = self.now.treatment in result ≡ first (distresses_of t.ranged.district.now) (λ k. first (years_of t.ranged.district.now) (λ y. given t.ranged.district.now self.now.programme.now t.segment t.strategy (MinimumMissed k y))) }
     {
-        for k in 1..=self.treatment.district[DISTRESS_COUNT] {
+        for k in 1..=self.treatment.ranged.district[DISTRESS_COUNT] {
             if let Some(missed) = self.missed_year(k) {
                 return Some(missed);
             }
@@ -57,12 +57,10 @@ impl Question<'_, '_> {
 
     // The first resource of which the strategy alone uses more than the limit.
     fn over_alone(&self) -> Option<Reason>
-        ensures { let t = self.now.treatment in result ≡ first (resources_of t.district.now) (λ r. given t.district.now self.now.programme.now t.segment t.strategy (OverAlone r)) }
+        ensures { let t = self.now.treatment in result ≡ first (resources_of t.ranged.district.now) (λ r. given t.ranged.district.now self.now.programme.now t.segment t.strategy (OverAlone r)) }
     {
-        let ranged = Ranged {
-            district: self.treatment.district,
-        };
-        for r in 1..=self.treatment.district[RESOURCE_COUNT] {
+        let ranged = self.treatment.ranged;
+        for r in 1..=self.treatment.ranged.district[RESOURCE_COUNT] {
             if ranged.scaled_limit(r) < self.treatment.usage(r) {
                 return Some(Reason::OverAlone(r));
             }
@@ -81,11 +79,9 @@ impl Question<'_, '_> {
 
     // The first resource of which that programme uses more than the limit.
     fn over_beside(&self) -> Option<Reason>
-        ensures { let t = self.now.treatment in result ≡ first (resources_of t.district.now) (λ r. given t.district.now self.now.programme.now t.segment t.strategy (OverBeside r)) }
+        ensures { let t = self.now.treatment in result ≡ first (resources_of t.ranged.district.now) (λ r. given t.ranged.district.now self.now.programme.now t.segment t.strategy (OverBeside r)) }
     {
-        let ranged = Ranged {
-            district: self.treatment.district,
-        };
+        let ranged = self.treatment.ranged;
         let asked = self.asked();
         for r in 1..=ranged.district[RESOURCE_COUNT] {
             if ranged.scaled_limit(r) < ranged.used(asked, r) {
@@ -99,10 +95,10 @@ impl Question<'_, '_> {
 
     // Whether the segment has no leader, or one that has something.
     fn is_led(&self) -> bool
-        ensures { let t = self.now.treatment in result ≡ led (leader_of t.district.now) (strategy_at self.now.programme.now) t.segment }
+        ensures { let t = self.now.treatment in result ≡ led (leader_of t.ranged.district.now) (strategy_at self.now.programme.now) t.segment }
     {
         let t = self.treatment;
-        let leader = t.district[SEGMENTS + PER_SEGMENT * (t.segment - 1) + LEADER];
+        let leader = t.ranged.district[SEGMENTS + PER_SEGMENT * (t.segment - 1) + LEADER];
         leader == 0 || 0 < self.programme[leader - 1]
     }
 
@@ -112,7 +108,7 @@ impl Question<'_, '_> {
 
     // From the leader on: it has nothing, or a limit is passed.
     fn late_hindrance(&self) -> Option<Reason>
-        ensures { let t = self.now.treatment in result ≡ late_hindrance t.district.now self.now.programme.now t.segment t.strategy }
+        ensures { let t = self.now.treatment in result ≡ late_hindrance t.ranged.district.now self.now.programme.now t.segment t.strategy }
     {
         let unled = !self.is_led();
         let leader = unled.then_some(Reason::LeaderHasNothing);
@@ -120,11 +116,11 @@ impl Question<'_, '_> {
     }
 
     fn hindrance(&self) -> Option<Reason>
-        ensures { let t = self.now.treatment in result ≡ hindrance t.district.now self.now.programme.now t.segment t.strategy }
+        ensures { let t = self.now.treatment in result ≡ hindrance t.ranged.district.now self.now.programme.now t.segment t.strategy }
     {
         let t = self.treatment;
         let held = self.programme[t.segment - 1] == t.strategy;
-        let barred = rating::barred(t.district, t.segment, t.strategy);
+        let barred = rating::barred(t.ranged.district, t.segment, t.strategy);
         let short = !t.overall_reached();
         let worthless = t.benefit() <= 0;
         held.then_some(Reason::InProgramme)
@@ -146,7 +142,7 @@ pub fn why(d: &District, c: &[usize; MOST_SEGMENTS], i: usize, j: usize) -> Resu
     }
     let question = Question {
         treatment: Treatment {
-            district: d,
+            ranged: Ranged { district: d },
             segment: i,
             strategy: j,
         },

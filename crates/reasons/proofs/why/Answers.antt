@@ -1,11 +1,9 @@
 -- `reasons::why` meets its contract.
 use mathlib.Core.Path.{◌≡◌, refl, sym, ◌∙◌, ap}
 use mathlib.Core.Bool.{true}
-use native.Mathlib.Omega.{arith}
 use Rattle.std.proofs.lemmas.Result.{err_from_is_err_and}
 use Rattle.std.specs.Prelude.{Option, None, Some}
 use Rattle.std.specs.Option.{unwrap_or}
-use Rattle.grammar.proofs.Edits.{bar_numbers}
 use Rattle.grammar.proofs.InRanges.{in_ranges}
 use Rattle.rules.specs.File.{in_range}
 use Rattle.rules.specs.Reasons.{or_last}
@@ -30,13 +28,7 @@ pub returns-then-not-in_range : goal.returns-then-not-in_range
 returns-then-not-in_range c = because c.in_ok-check.ensures (out_of_range _ _ _ _ (sym c.in_range.ensures ∙ c.if-not-in_range.true))
 
 pub invariant_of-question : goal.invariant_of-question
-invariant_of-question c =
-    let a = c.args in
-    let ranges = in_ranges _ (ranged c) in
-    let few = ranges.strategies in
-    let segments = ranges.segments in
-    let w = bar_numbers a.d.now a.i a.j (sym c.in_ok-check.ensures) in
-    record { in_range = ranges; segment_in = (w.0, omega arith); strategy_in = (w.2, omega arith) }
+invariant_of-question c = record { in_range = in_ranges _ (ranged c) }
 
 pub returns : goal.returns
 returns c =

@@ -11,7 +11,7 @@ unfolding length_of width_of
 overflow_mul-result c =
     let s = c.args.self.now in
     let p = s.segment_in in
-    product_fits _ _ 9_999 200 (rw c.segment_at-length.ensures (s.in_range.mile_length _ p.0 p.1)) (rw c.segment_at-width.ensures (s.in_range.width _ p.0 p.1)) tt
+    product_fits _ _ 9_999 200 (rw c.segment_at-length.ensures (s.ranged.in_range.mile_length _ p.0 p.1)) (rw c.segment_at-width.ensures (s.ranged.in_range.width _ p.0 p.1)) tt
 
 pub returns : goal.returns
 unfolding area length_of width_of

@@ -14,7 +14,7 @@ use Rattle.rating.proofs.Treatment.benefit.Goals as goal
 use Rattle.rating.proofs.Treatment.benefit.Goals.{After-area, After-effect}
 
 small : (c : After-area) → c.area.result ≤ 1_999_800
-small c = let s = c.args.self.now in rw c.area.ensures (area_le _ s.in_range _ s.segment_in)
+small c = let s = c.args.self.now in rw c.area.ensures (area_le _ s.ranged.in_range _ s.segment_in)
 
 -- of a strategy, which is not nothing
 of-strategy : (d : District) (i j : ℕ) → 1 ≤ j → pos (area d i) *ℤ effect d i j ≡ benefit d i j
@@ -24,7 +24,7 @@ of-strategy d i (suc j) h = refl
 
 product : (c : After-effect) →
     let s = c.args.self.now in
-    to_z w64 c.area.result *ℤ to_z w64 (of_z w64 c.effect.result) ≡ benefit s.district.now s.segment s.strategy
+    to_z w64 c.area.result *ℤ to_z w64 (of_z w64 c.effect.result) ≡ benefit s.ranged.district.now s.segment s.strategy
 product c =
     ap₂ ◌*ℤ◌ (to_z_pos w64 (omega (arith, small (goal.at.After-effect c).After-area)) ∙ ap pos c.area.ensures) (told w64 c.effect.type_inv c.effect.ensures)
     ∙ of-strategy _ _ _ c.args.self.now.strategy_in.0
@@ -35,7 +35,7 @@ overflow_cast-result c = sfits_abs (omega (arith, small (goal.at.overflow_cast-r
 pub overflow_mul-result : goal.overflow_mul-result
 overflow_mul-result c =
     let s = c.args.self.now in
-    rw (product (goal.at.overflow_mul-result c).After-effect) (sfits_abs (omega (arith, benefit_abs _ s.in_range s.segment s.strategy s.segment_in s.strategy_in)))
+    rw (product (goal.at.overflow_mul-result c).After-effect) (sfits_abs (omega (arith, benefit_abs _ s.ranged.in_range s.segment s.strategy s.segment_in s.strategy_in)))
 
 pub returns : goal.returns
 returns c = to_z-of_z (overflow_mul-result c) ∙ product (goal.at.returns c).After-effect

@@ -15,11 +15,11 @@ use Rattle.rating.proofs.Treatment.effect.Goals as goal
 pub nonzero_div-result : goal.nonzero_div-result
 nonzero_div-result c =
     let s = c.args.self.now in
-    let n = s.in_range.distresses in (
+    let n = s.ranged.in_range.distresses in (
       lit< tt,
       sfits_quot w64 (to_z w64 (of_z w64 c.total_credits.result)) 19_999
           (rw (told w64 c.total_credits.type_inv c.total_credits.ensures)
-          (sum_z_fits w64 _ 1_000_000_000 _ (λ k l h. credits_abs _ s.in_range _ _ k s.segment_in s.strategy_in (l, omega arith)) (omega arith))),
+          (sum_z_fits w64 _ 1_000_000_000 _ (λ k l h. credits_abs _ s.ranged.in_range _ _ k s.segment_in s.strategy_in (l, omega arith)) (omega arith))),
     )
 
 pub returns : goal.returns

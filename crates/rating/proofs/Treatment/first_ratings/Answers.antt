@@ -15,7 +15,7 @@ use Rattle.rating.proofs.Treatment.first_ratings.Goals.{After-rating-sum}
 -- the term that is added
 here : (c : After-rating-sum) →
     let s = c.args.self.now in
-    to_z w64 (of_z w64 c.rating-sum.result) ≡ first_rating s.district.now s.segment s.strategy c.loop-k.k
+    to_z w64 (of_z w64 c.rating-sum.result) ≡ first_rating s.ranged.district.now s.segment s.strategy c.loop-k.k
 unfolding first_rating
 here c = told w64 c.rating-sum.type_inv c.rating-sum.ensures
 
@@ -26,9 +26,9 @@ pub overflow_add-sum : goal.overflow_add-sum
 unfolding first_rating
 overflow_add-sum c =
     let s = c.args.self.now in
-    let n = s.in_range.distresses in
+    let n = s.ranged.in_range.distresses in
     rw (here (goal.at.overflow_add-sum c).After-rating-sum)
-    (sum_z_grows _ 100_000_000 _ c.loop-k.auto.k c.loop-k.invariant (λ k l h. rating_abs _ s.in_range _ _ k 1 s.segment_in s.strategy_in (l, omega arith)) (omega arith))
+    (sum_z_grows _ 100_000_000 _ c.loop-k.auto.k c.loop-k.invariant (λ k l h. rating_abs _ s.ranged.in_range _ _ k 1 s.segment_in s.strategy_in (l, omega arith)) (omega arith))
 
 pub loop-k-preserved : goal.loop-k-preserved
 loop-k-preserved c =

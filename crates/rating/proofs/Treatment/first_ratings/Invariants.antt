@@ -5,4 +5,4 @@ use Rattle.rules.specs.Rating.{first_rating}
 use Rattle.rating.proofs.Treatment.first_ratings.Given as goal
 
 abbrev pub invariant-loop-k : goal.invariant-loop-k
-invariant-loop-k l = l.sum ≡ sum_z (l.k - 1) (first_rating l.self.district.now l.self.segment l.self.strategy)
+invariant-loop-k l = l.sum ≡ sum_z (l.k - 1) (first_rating l.self.ranged.district.now l.self.segment l.self.strategy)

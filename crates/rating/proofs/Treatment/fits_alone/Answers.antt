@@ -11,6 +11,6 @@ pub returns : goal.returns
 unfolding fits_limit fits_alone
 returns c =
     let s = c.args.self.now in
-    let test = fits_limit s.district.now s.segment s.strategy in
+    let test = fits_limit s.ranged.district.now s.segment s.strategy in
     let range = c.new.ensures in
     all_from_yields_List test _ _ _ c.all.ensures.ran (from_1 range.start range.end range.exhausted) (λ x b q e. search (rules, tests)) ∙ all_listed _ test

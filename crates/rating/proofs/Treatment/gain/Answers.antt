@@ -17,20 +17,20 @@ use Rattle.rating.proofs.Treatment.gain.Goals.{After-own_gain-own, After-greates
 small : (c : After-greatest_at) → c.greatest_at.result ≤ 50
 unfolding greatest_of
 small c =
-    rw c.greatest_at.ensures (c.args.self.now.in_range.greatest _ c.requires.0 c.requires.1)
+    rw c.greatest_at.ensures (c.args.self.now.ranged.in_range.greatest _ c.requires.0 c.requires.1)
 
-own : (c : After-own_gain-own) → let s = c.args.self.now in to_z w64 (of_z w64 c.own_gain-own.result) ≡ gain_of s.district.now s.strategy c.args.k
+own : (c : After-own_gain-own) → let s = c.args.self.now in to_z w64 (of_z w64 c.own_gain-own.result) ≡ gain_of s.ranged.district.now s.strategy c.args.k
 own c = told w64 c.own_gain-own.type_inv c.own_gain-own.ensures
 
 pub overflow_sub-left : goal.overflow_sub-left
 unfolding greatest_of rating_of
 overflow_sub-left c =
     let s = c.args.self.now in
-    rw (c.rating_at-current.ensures, c.greatest_at.ensures) (s.in_range.rating _ _ s.segment_in.0 s.segment_in.1 c.requires.0 c.requires.1)
+    rw (c.rating_at-current.ensures, c.greatest_at.ensures) (s.ranged.in_range.rating _ _ s.segment_in.0 s.segment_in.1 c.requires.0 c.requires.1)
 
 left : (c : After-greatest_at) →
     let s = c.args.self.now in
-    to_z w64 (c.greatest_at.result - c.rating_at-current.result) ≡ pos (greatest_of s.district.now c.args.k) -ℤ pos (rating_of s.district.now s.segment c.args.k)
+    to_z w64 (c.greatest_at.result - c.rating_at-current.result) ≡ pos (greatest_of s.ranged.district.now c.args.k) -ℤ pos (rating_of s.ranged.district.now s.segment c.args.k)
 unfolding greatest_of rating_of
 left c =
     to_z_pos w64 (omega (arith, small c))
@@ -39,7 +39,7 @@ left c =
 
 capped : (c : After-min) →
     let s = c.args.self.now in
-    to_z w64 (of_z w64 c.min.result) ≡ capped_gain s.district.now s.segment s.strategy c.args.k
+    to_z w64 (of_z w64 c.min.result) ≡ capped_gain s.ranged.district.now s.segment s.strategy c.args.k
 unfolding capped_gain
 capped c = told w64 c.min.type_inv (c.min.ensures.value ∙ least _ _ ∙ ap₂ min_z (own (goal.at.After-min c).After-own_gain-own) (left (goal.at.After-min c).After-greatest_at))
 
@@ -62,7 +62,7 @@ overflow_sub-lowest c =
 
 lowest : (c : After-greatest_at) →
     let s = c.args.self.now in
-    to_z w64 (of_z w64 (pos 0 -ℤ to_z w64 c.rating_at-current.result)) ≡ neg_ℤ (pos (rating_of s.district.now s.segment c.args.k))
+    to_z w64 (of_z w64 (pos 0 -ℤ to_z w64 c.rating_at-current.result)) ≡ neg_ℤ (pos (rating_of s.ranged.district.now s.segment c.args.k))
 unfolding rating_of
 lowest c =
     to_z-of_z {w = w64} (rw (minus c) (sfits_abs (rw (abs_neg (pos c.rating_at-current.result)) (omega (arith, current-small c)))))

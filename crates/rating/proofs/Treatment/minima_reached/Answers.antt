@@ -11,6 +11,6 @@ pub returns : goal.returns
 unfolding minima_reached
 returns c =
     let s = c.args.self.now in
-    let test = years_reached s.district.now s.segment s.strategy in
+    let test = years_reached s.ranged.district.now s.segment s.strategy in
     let range = c.new.ensures in
     all_from_yields_List test _ _ _ c.all.ensures.ran (from_1 range.start range.end range.exhausted) (λ x b q e. search (rules, tests)) ∙ all_listed _ test

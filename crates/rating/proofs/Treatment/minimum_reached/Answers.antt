@@ -13,7 +13,7 @@ use Rattle.rating.proofs.Treatment.minimum_reached.Goals.{After-pavement_at-pave
 type-in : (c : After-pavement_at-pavement) → Pavement c.pavement_at-pavement.result
 type-in c =
     let s = c.args.self.now in
-    rw c.pavement_at-pavement.ensures (pavement_in _ s.in_range _ (s.segment_in.0, c.requires.0))
+    rw c.pavement_at-pavement.ensures (pavement_in _ s.ranged.in_range _ (s.segment_in.0, c.requires.0))
 
 pub minimum_at-required-requires : goal.minimum_at-required-requires
 minimum_at-required-requires c = (type-in (goal.at.minimum_at-required-requires c).After-pavement_at-pavement, c.requires.1, c.requires.2)
@@ -23,7 +23,7 @@ unfolding minimum_of
 reaches-requires c =
     let p = c.requires in
     let y = type-in (goal.at.reaches-requires c).After-pavement_at-pavement in
-    omega (arith, c.minimum_at-required.ensures, c.args.self.now.in_range.minimum _ _ _ y.0 y.1 p.1.0 p.1.1 p.2.0 p.2.1)
+    omega (arith, c.minimum_at-required.ensures, c.args.self.now.ranged.in_range.minimum _ _ _ y.0 y.1 p.1.0 p.1.1 p.2.0 p.2.1)
 
 pub returns : goal.returns
 unfolding minimum_reached minimum_of pavement_of

@@ -13,7 +13,7 @@ use Rattle.rating.proofs.Treatment.overall_reached.Goals.{After-pavement_at-pave
 type-in : (c : After-pavement_at-pavement) → Pavement c.pavement_at-pavement.result
 type-in c =
     let s = c.args.self.now in
-    rw c.pavement_at-pavement.ensures (pavement_in _ s.in_range _ (s.segment_in.0, c.requires))
+    rw c.pavement_at-pavement.ensures (pavement_in _ s.ranged.in_range _ (s.segment_in.0, c.requires))
 
 pub overall_at-required-requires : goal.overall_at-required-requires
 overall_at-required-requires c = type-in (goal.at.overall_at-required-requires c).After-pavement_at-pavement
@@ -22,7 +22,7 @@ pub reaches-requires : goal.reaches-requires
 unfolding overall_of
 reaches-requires c =
     let y = type-in (goal.at.reaches-requires c).After-pavement_at-pavement in
-    omega (arith, c.overall_at-required.ensures, c.args.self.now.in_range.overall _ y.0 y.1)
+    omega (arith, c.overall_at-required.ensures, c.args.self.now.ranged.in_range.overall _ y.0 y.1)
 
 pub returns : goal.returns
 unfolding overall_reached overall_of pavement_of

@@ -15,7 +15,7 @@ use Rattle.rating.proofs.Treatment.own_gain.Goals.{Else-byte-lt128}
 small : (c : Else-byte-lt128) → c.gain_byte-byte.result ≤ 306
 small c =
     let s = c.args.self.now in
-    rw c.gain_byte-byte.ensures (byte_le _ s.in_range _ _ s.strategy_in c.requires)
+    rw c.gain_byte-byte.ensures (byte_le _ s.ranged.in_range _ _ s.strategy_in c.requires)
 
 pub returns-then-byte-lt128 : goal.returns-then-byte-lt128
 unfolding gain_of

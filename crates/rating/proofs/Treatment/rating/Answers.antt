@@ -18,14 +18,14 @@ current-le : (c : After-rating_at-current) → c.rating_at-current.result ≤ 50
 unfolding rating_of
 current-le c =
     let s = c.args.self.now in
-    rw c.rating_at-current.ensures (current_le _ s.in_range _ _ s.segment_in c.requires.0)
+    rw c.rating_at-current.ensures (current_le _ s.ranged.in_range _ _ s.segment_in c.requires.0)
 
 left-le : (c : After-survival) → c.survival.result ≤ 1_000_000
 left-le c = rw c.survival.ensures (survival_le _ _ _ _ _)
 
 product : (c : After-survival) →
     let s = c.args.self.now in
-    to_z w64 (of_z w64 c.args.g) *ℤ to_z w64 c.survival.result ≡ improvement s.district.now s.segment s.strategy c.args.k c.args.t
+    to_z w64 (of_z w64 c.args.g) *ℤ to_z w64 c.survival.result ≡ improvement s.ranged.district.now s.segment s.strategy c.args.k c.args.t
 unfolding improvement
 product c =
     ap₂ ◌*ℤ◌ (to_z-of_z c.ranges.g ∙ c.requires.2) (to_z_pos w64 (omega (arith, left-le c)) ∙ ap pos c.survival.ensures)
@@ -33,11 +33,11 @@ product c =
 pub overflow_mul-result-2 : goal.overflow_mul-result-2
 overflow_mul-result-2 c =
     let s = c.args.self.now in
-    rw (product (goal.at.overflow_mul-result-2 c).After-survival) (sfits_abs (omega (arith, improvement_abs _ s.in_range s.segment s.strategy c.args.k c.args.t s.segment_in s.strategy_in c.requires.0)))
+    rw (product (goal.at.overflow_mul-result-2 c).After-survival) (sfits_abs (omega (arith, improvement_abs _ s.ranged.in_range s.segment s.strategy c.args.k c.args.t s.segment_in s.strategy_in c.requires.0)))
 
 total : (c : After-survival) →
     let s = c.args.self.now in
-    to_z w64 (1_000_000 * c.rating_at-current.result) +ℤ to_z w64 (of_z w64 (to_z w64 (of_z w64 c.args.g) *ℤ to_z w64 c.survival.result)) ≡ rating s.district.now s.segment s.strategy c.args.k c.args.t
+    to_z w64 (1_000_000 * c.rating_at-current.result) +ℤ to_z w64 (of_z w64 (to_z w64 (of_z w64 c.args.g) *ℤ to_z w64 c.survival.result)) ≡ rating s.ranged.district.now s.segment s.strategy c.args.k c.args.t
 unfolding rating rating_of
 total c =
     ap₂ ◌+ℤ◌
@@ -56,7 +56,7 @@ overflow_cast-result-2 c = sfits_abs (omega (arith, left-le (goal.at.overflow_ca
 pub overflow_add-result : goal.overflow_add-result
 overflow_add-result c =
     let s = c.args.self.now in
-    rw (total (goal.at.overflow_add-result c).After-survival) (sfits_abs (omega (arith, rating_abs _ s.in_range s.segment s.strategy c.args.k c.args.t s.segment_in s.strategy_in c.requires.0)))
+    rw (total (goal.at.overflow_add-result c).After-survival) (sfits_abs (omega (arith, rating_abs _ s.ranged.in_range s.segment s.strategy c.args.k c.args.t s.segment_in s.strategy_in c.requires.0)))
 
 pub returns : goal.returns
 returns c = to_z-of_z (overflow_add-result c) ∙ total (goal.at.returns c).After-survival

@@ -11,18 +11,18 @@ use Rattle.rating.proofs.Treatment.survival.Goals.{After-percent_at, After-segme
 
 traffic-le : (c : After-segment_at) → c.segment_at.result ≤ 1_000
 unfolding traffic_of
-traffic-le c = let s = c.args.self.now in rw c.segment_at.ensures (s.in_range.traffic _ s.segment_in.0 s.segment_in.1)
+traffic-le c = let s = c.args.self.now in rw c.segment_at.ensures (s.ranged.in_range.traffic _ s.segment_in.0 s.segment_in.1)
 
 environment-le : (c : After-segment_at-2) → c.segment_at-2.result ≤ 1_000
 unfolding environment_of
-environment-le c = let s = c.args.self.now in rw c.segment_at-2.ensures (s.in_range.environment _ s.segment_in.0 s.segment_in.1)
+environment-le c = let s = c.args.self.now in rw c.segment_at-2.ensures (s.ranged.in_range.environment _ s.segment_in.0 s.segment_in.1)
 
 percent-le : (c : After-percent_at) → c.percent_at.result ≤ 100
 unfolding percent_of
 percent-le c =
     let s = c.args.self.now in
     let p = c.requires in
-    rw c.percent_at.ensures (s.in_range.percent _ _ _ s.strategy_in.0 s.strategy_in.1 p.0.0 p.0.1 p.1.0 p.1.1)
+    rw c.percent_at.ensures (s.ranged.in_range.percent _ _ _ s.strategy_in.0 s.strategy_in.1 p.0.0 p.0.1 p.1.0 p.1.1)
 
 -- from year 1 on
 later : (d : District) (i j k t : ℕ) → 1 ≤ t → 1_000_000 - traffic_of d i * environment_of d i * (100 - percent_of d j k t) ≡ survival d i j k t
@@ -32,7 +32,7 @@ later d i j k (suc t) h = refl
 
 by-loss : (c : After-percent_at) →
     let s = c.args.self.now in
-    1_000_000 - c.segment_at.result * c.segment_at-2.result * (100 - c.percent_at.result) ≡ survival s.district.now s.segment s.strategy c.args.k c.args.t
+    1_000_000 - c.segment_at.result * c.segment_at-2.result * (100 - c.percent_at.result) ≡ survival s.ranged.district.now s.segment s.strategy c.args.k c.args.t
 unfolding traffic_of environment_of percent_of
 by-loss c =
     rw (c.segment_at.ensures, c.segment_at-2.ensures, c.percent_at.ensures)

@@ -18,14 +18,14 @@ whole d i j k = refl
 ends : (c : After-survival-end) →
     let l = c.loop-t in
     let s = c.args.self.now in
-    l.start + c.survival-end.result ≡ both_ends s.district.now s.segment s.strategy c.args.k l.t
+    l.start + c.survival-end.result ≡ both_ends s.ranged.district.now s.segment s.strategy c.args.k l.t
 unfolding both_ends
 ends c = ap₂ ◌+◌ c.loop-t.invariant.1 c.survival-end.ensures
 
 next : (c : After-survival-end) →
     let l = c.loop-t in
     let s = c.args.self.now in
-    l.total + (l.start + c.survival-end.result) ≡ sum (l.t + 1 - 1) (both_ends s.district.now s.segment s.strategy c.args.k)
+    l.total + (l.start + c.survival-end.result) ≡ sum (l.t + 1 - 1) (both_ends s.ranged.district.now s.segment s.strategy c.args.k)
 next c = ap (λ x. c.loop-t.total + x) (ends c) ∙ sum_passed _ _ c.loop-t.auto.t c.loop-t.invariant.0
 
 next-le : (c : After-survival-end) →
@@ -38,14 +38,14 @@ loop-t-init c = (sum_none _, whole _ _ _ _)
 
 pub survival-end-requires : goal.survival-end-requires
 survival-end-requires c =
-    let y = c.args.self.now.in_range.years in
+    let y = c.args.self.now.ranged.in_range.years in
     (c.requires, (omega arith, omega arith))
 
 pub overflow_add-total : goal.overflow_add-total
-overflow_add-total c = let y = c.args.self.now.in_range.years in omega (arith, next-le c)
+overflow_add-total c = let y = c.args.self.now.ranged.in_range.years in omega (arith, next-le c)
 
 pub overflow_add-total-in-loop-t : goal.overflow_add-total-in-loop-t
-overflow_add-total-in-loop-t c = let y = c.args.self.now.in_range.years in omega (arith, next-le c)
+overflow_add-total-in-loop-t c = let y = c.args.self.now.ranged.in_range.years in omega (arith, next-le c)
 
 pub loop-t-preserved : goal.loop-t-preserved
 loop-t-preserved c =

@@ -7,4 +7,4 @@ use Rattle.rating.proofs.Treatment.survivals.Given as goal
 abbrev pub invariant-loop-t : goal.invariant-loop-t
 invariant-loop-t l =
     let s = l.self in
-    (l.total ≡ sum (l.t - 1) (both_ends s.district.now s.segment s.strategy l.k)) × (l.start ≡ survival s.district.now s.segment s.strategy l.k (l.t - 1))
+    (l.total ≡ sum (l.t - 1) (both_ends s.ranged.district.now s.segment s.strategy l.k)) × (l.start ≡ survival s.ranged.district.now s.segment s.strategy l.k (l.t - 1))

@@ -15,7 +15,7 @@ use Rattle.rating.proofs.Treatment.total_credits.Goals.{After-credits-sum}
 -- the term that is added
 here : (c : After-credits-sum) →
     let s = c.args.self.now in
-    to_z w64 (of_z w64 c.credits-sum.result) ≡ credits s.district.now s.segment s.strategy c.loop-k.k
+    to_z w64 (of_z w64 c.credits-sum.result) ≡ credits s.ranged.district.now s.segment s.strategy c.loop-k.k
 here c = told w64 c.credits-sum.type_inv c.credits-sum.ensures
 
 pub loop-k-init : goal.loop-k-init
@@ -24,9 +24,9 @@ loop-k-init c = sum_z_none _
 pub overflow_add-sum : goal.overflow_add-sum
 overflow_add-sum c =
     let s = c.args.self.now in
-    let n = s.in_range.distresses in
+    let n = s.ranged.in_range.distresses in
     rw (here (goal.at.overflow_add-sum c).After-credits-sum)
-    (sum_z_grows _ 1_000_000_000 _ c.loop-k.auto.k c.loop-k.invariant (λ k l h. credits_abs _ s.in_range _ _ k s.segment_in s.strategy_in (l, omega arith)) (omega arith))
+    (sum_z_grows _ 1_000_000_000 _ c.loop-k.auto.k c.loop-k.invariant (λ k l h. credits_abs _ s.ranged.in_range _ _ k s.segment_in s.strategy_in (l, omega arith)) (omega arith))
 
 pub loop-k-preserved : goal.loop-k-preserved
 loop-k-preserved c =

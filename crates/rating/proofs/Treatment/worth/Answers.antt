@@ -40,7 +40,7 @@ module _ (d : District) (i j : ℕ) where
   of-candidate e l p = simp (e, p, (above_zero (benefit d i j) l).0)
 
 -- what the local b holds
-held : (c : After-benefit-b) → let s = c.args.self.now in to_z w64 (of_z w64 c.benefit-b.result) ≡ benefit s.district.now s.segment s.strategy
+held : (c : After-benefit-b) → let s = c.args.self.now in to_z w64 (of_z w64 c.benefit-b.result) ≡ benefit s.ranged.district.now s.segment s.strategy
 held c = told w64 c.benefit-b.type_inv c.benefit-b.ensures
 
 pub returns-then-barred : goal.returns-then-barred
@@ -63,7 +63,7 @@ pub overflow_cast-result : goal.overflow_cast-result
 overflow_cast-result c =
     let s = c.args.self.now in
     rw (held (goal.at.overflow_cast-result c).After-benefit-b)
-    ((above_zero (benefit s.district.now s.segment s.strategy) (rw (held (goal.at.overflow_cast-result c).After-benefit-b) at c.if-b-le0.false)).1, omega (arith, benefit_abs _ s.in_range s.segment s.strategy s.segment_in s.strategy_in))
+    ((above_zero (benefit s.ranged.district.now s.segment s.strategy) (rw (held (goal.at.overflow_cast-result c).After-benefit-b) at c.if-b-le0.false)).1, omega (arith, benefit_abs _ s.ranged.in_range s.segment s.strategy s.segment_in s.strategy_in))
 
 pub returns : goal.returns
 unfolding worth_of

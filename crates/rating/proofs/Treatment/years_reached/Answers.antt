@@ -11,6 +11,6 @@ pub returns : goal.returns
 unfolding years_reached
 returns c =
     let s = c.args.self.now in
-    let test = minimum_reached s.district.now s.segment s.strategy c.args.k in
+    let test = minimum_reached s.ranged.district.now s.segment s.strategy c.args.k in
     let range = c.new.ensures in
     all_from_yields_List test _ _ _ c.all.ensures.ran (from_1 range.start range.end range.exhausted) (λ x b q e. search (rules, tests)) ∙ all_listed _ test

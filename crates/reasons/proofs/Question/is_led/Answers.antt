@@ -7,11 +7,11 @@ use Rattle.reasons.proofs.Question.is_led.Goals as goal
 
 pub offset_bounds-self-leader : goal.offset_bounds-self-leader
 unfolding leader_of
-offset_bounds-self-leader c = let t = c.args.self.now.treatment in omega (arith, t.in_range.leader t.segment t.segment_in.0 t.segment_in.1)
+offset_bounds-self-leader c = let t = c.args.self.now.treatment in omega (arith, t.ranged.in_range.leader t.segment t.segment_in.0 t.segment_in.1)
 
 pub bounds-self-leader : goal.bounds-self-leader
 unfolding leader_of
-bounds-self-leader c = let t = c.args.self.now.treatment in omega (arith, t.in_range.leader t.segment t.segment_in.0 t.segment_in.1)
+bounds-self-leader c = let t = c.args.self.now.treatment in omega (arith, t.ranged.in_range.leader t.segment t.segment_in.0 t.segment_in.1)
 
 pub returns-then-leader-eq0 : goal.returns-then-leader-eq0
 unfolding led leader_of

@@ -10,4 +10,4 @@ use Rattle.reasons.proofs.Question.missed_minimum.Given as goal
 abbrev pub invariant-loop-k : goal.invariant-loop-k
 invariant-loop-k l =
     let t = l.self.treatment in
-    first (l.k - 1) (λ k. first (years_of t.district.now) (λ y. given t.district.now l.self.programme.now t.segment t.strategy (MinimumMissed k y))) ≡ None
+    first (l.k - 1) (λ k. first (years_of t.ranged.district.now) (λ y. given t.ranged.district.now l.self.programme.now t.segment t.strategy (MinimumMissed k y))) ≡ None

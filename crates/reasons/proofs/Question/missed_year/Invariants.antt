@@ -9,4 +9,4 @@ use Rattle.reasons.proofs.Question.missed_year.Given as goal
 abbrev pub invariant-loop-t : goal.invariant-loop-t
 invariant-loop-t l =
     let t = l.self.treatment in
-    first (l.t - 1) (λ y. given t.district.now l.self.programme.now t.segment t.strategy (MinimumMissed l.k y)) ≡ None
+    first (l.t - 1) (λ y. given t.ranged.district.now l.self.programme.now t.segment t.strategy (MinimumMissed l.k y)) ≡ None

@@ -9,4 +9,4 @@ use Rattle.reasons.proofs.Question.over_beside.Given as goal
 abbrev pub invariant-loop-r : goal.invariant-loop-r
 invariant-loop-r l =
     let t = l.self.treatment in
-    first (l.r - 1) (λ r. given t.district.now l.self.programme.now t.segment t.strategy (OverBeside r)) ≡ None
+    first (l.r - 1) (λ r. given t.ranged.district.now l.self.programme.now t.segment t.strategy (OverBeside r)) ≡ None
