@@ -61,10 +61,8 @@ pub fn admit_at(q: &mut Queues, n: usize, w: Waiting) -> Answer
 {
     let console = Console::try_from(n)?;
     let queue = &mut q.waiting[place(console)];
-    match queue.try_push(w) {
-        Ok(()) => Ok(0),
-        Err(_) => Err(Refusal::QueueFull),
-    }
+    queue.try_push(w).map_err(|_| Refusal::QueueFull)?;
+    Ok(0)
 }
 
 // The oldest edit of the first console that has one, from the turn on; the turn is then the next one's.
