@@ -2,7 +2,7 @@
 use Prim.Native.Nat.{ℕ, zero, suc, ◌+◌, ◌-◌, ◌*◌, ◌^◌, ◌≤◌, ◌<◌, max, min}
 use mathlib.Core.Path.{◌≡◌, refl, sym, ◌∙◌}
 use mathlib.Core.Bool.{Bool, true, false}
-use mathlib.Core.List.{List}
+use mathlib.Core.List.{List, map}
 use native.Mathlib.Nat.{mul-le-mul, le_trans, sub-le, max-eq_left, min-eq_right, mul-div_cancel}
 use native.Mathlib.Omega.{arith}
 use borrow.Author.Tests.{lt-ltb, le-ltb, eqb-true, eqb-false}
@@ -10,7 +10,8 @@ use lib.Dec.{ltb, eqb}
 use native.Mathlib.Numerals.{add-one}
 use lib.ListN.{get_or, length, take, set, length-set}
 use lib.Seq.{get_or-set_same, get_or-set_other}
-use Rattle.std.specs.List.{sum as list_sum}
+use Rattle.std.specs.List.{sum as list_sum, range_with_len}
+use Rattle.std.proofs.lemmas.List.FromFn.{sum_by-map-range_with_len_more}
 use Rattle.std.proofs.lemmas.List.Sums.{sum_by_more}
 use Rattle.base.specs.Choice.{pick}
 use Rattle.base.specs.Over.{sum, most}
@@ -20,7 +21,7 @@ use Rattle.rules.specs.District.{most_segments, most_strategies, most_resources}
 use Rattle.rules.specs.Table.{Table}
 use Rattle.rules.specs.Ceiling.{price_at, down_share, cost_by, cost, net, margin, ceiling_at}
 use Rattle.laws.proofs.Give.{given, kept}
-use Rattle.tables.specs.Arrays.{entry, use_entry, columns, entries}
+use Rattle.tables.specs.Arrays.{entry, use_entry, entries}
 use Rattle.tables.specs.declared.Size.{Size}
 use Rattle.ceiling.specs.declared.candidates.Candidates.{Candidates}
 use Rattle.ceiling.specs.declared.candidates.NewPrice.{NewPrice}
@@ -58,6 +59,13 @@ prices_sum p zero h = refl
 prices_sum p (suc n) h =
     let at : suc n - 1 ≡ n = omega arith in
     rw add-one at (sum_by_more (λ (x : ℕ). x) p n 0 (omega arith)) ∙ rw (prices_sum p n (omega arith), at)
+
+-- and of what a range of numbers is taken to
+pub range_sum : (n : ℕ) (f : ℕ → ℕ) → list_sum (map (λ k. f (k + 1)) (range_with_len 0 n)) ≡ sum n f
+unfolding sum
+range_sum zero f = refl
+range_sum (suc n) f =
+    rw add-one at (sum_by-map-range_with_len_more (λ (x : ℕ). x) (λ (k : ℕ). f (k + 1)) 0 n n (omega arith)) ∙ rw (range_sum n f)
 
 pub list_small : {p : List ℕ} → Prices p → (n : ℕ) → n ≤ most_resources → list_sum (take n p) ≤ n * 2 ^ 41
 list_small {p} prices n few = omega (arith, prices_sum p n (omega (arith, prices.places)), prices_small prices n)
@@ -170,22 +178,6 @@ module _ {z : Size} {b d p : List ℕ} {r price : ℕ} (m : Trial z b d p r pric
 -- ---- costs that are brought to new prices one after another
 
 module _ {z : Size} {b d new old c : List ℕ} where
-  pub costs_start : Costs z b d old old 0 c → Costs z b d new old 0 c
-  costs_start h = record { places = h.places; costs = λ i j inside worth. h.costs i j inside worth ∙ rw (le-ltb (entry i j) 0 (omega arith)) }
-
-  -- past the last segment's
-  pub costs_end : Costs z b d new old (columns * z.segments) c → z.strategies ≤ most_strategies → Costs z b d new new 0 c
-  costs_end h few =
-      record {
-        places = h.places;
-        costs = λ i j inside worth. h.costs i j inside worth ∙ rw (lt-ltb (entry i j) (columns * z.segments) (omega (arith, inside.segment_to, inside.strategy_to, inside.segment_from)), le-ltb (entry i j) 0 (omega arith));
-      }
-
-  -- from e to f where no candidate's entry stands between them
-  pub costs_past : {e f : ℕ} → Costs z b d new old e c → ((i j : ℕ) → In z i j → entry i j < e → entry i j < f) → ((i j : ℕ) → In z i j → entry i j < f → entry i j < e) → Costs z b d new old f c
-  costs_past {e} {f} h to from =
-      record { places = h.places; costs = λ i j inside worth. h.costs i j inside worth ∙ rw (leb_same (suc (entry i j)) e (suc (entry i j)) f (to i j inside) (from i j inside)) }
-
   pub costs_held : {e : ℕ} → Costs z b d new old e c → {i j : ℕ} → In z i j → 0 < get_or b (entry i j) 0 → e ≤ entry i j → get_or c (entry i j) 0 ≡ cost (priced_table z b d) old i j
   costs_held {e} h {i} {j} inside worth le = h.costs i j inside worth ∙ rw (le-ltb (entry i j) e le)
 

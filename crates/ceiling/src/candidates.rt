@@ -45,14 +45,12 @@ impl Candidates<'_> {
     pub(crate) fn free_ceiling(self) -> u64
         ensures { result ≡ ceiling_at (priced_in self.entry) free }
     {
-        let mut total: u64 = 0;
-        for i in 0..self.size.segments {
-            total += self.free_margin(i + 1);
-        }
-        total
+        (0..self.size.segments)
+            .map(|i| self.free_margin(i + 1))
+            .sum()
     }
 
-    // The costs of segment i's candidates at the new price.
+    // The costs of segment i's candidates at the new price. A loop over numbers, as in the search's margin.
     fn reprice_segment(self, prices: &[u64], costs: &mut [u64], new: NewPrice, i: usize)
         requires prices { Prices prices.now × (new.resource ≤ self.size.resources) }
         requires costs { CostsAt self (repriced prices.now new) prices.now (columns * (i - 1)) costs.old }

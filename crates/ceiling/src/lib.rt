@@ -14,7 +14,8 @@ use tables::{COLUMNS, ENTRIES, Size};
 
 mod candidates;
 
-// The search stands at prices: what each candidate costs at them, and the ceiling.
+// The search stands at prices: what each candidate costs at them, and the ceiling. The costs stand in an array beside the table,
+// whose own are lent to be read alone, and in the places of its benefits, so that one number finds a candidate in each.
 #[derive(Drop)]
 struct Search<'a> {
     table: Candidates<'a>,
@@ -34,7 +35,8 @@ impl Search<'_> {
     }
 
     // The margin of segment i at the new price. A strategy whose benefit is no more than what the best so far leaves is passed
-    // over, and so is one that is no candidate.
+    // over, and so is one that is no candidate. A loop over numbers: a zip would cut the segment's part out of three arrays,
+    // and 16 times as much of the shares.
     fn margin(&self, new: NewPrice, i: usize) -> u64
         requires le_r { new.resource ≤ self.now.table.size.resources }
         requires le_i { (1 ≤ i) × (i ≤ self.now.table.size.segments) }
@@ -149,8 +151,8 @@ pub fn ceiling_of(z: Size, benefits: &[u64], downs: &[u64]) -> u64
         costs: [0u64; ENTRIES],
         ceiling: table.free_ceiling(),
     };
-    for k in 0..41 {
-        search.price_all(power(40 - k));
+    for k in (0..41).rev() {
+        search.price_all(power(k));
     }
     search.ceiling
 }

@@ -5,7 +5,7 @@ use mathlib.Core.Bool.{true, false}
 use mathlib.Core.List.{List}
 use Rattle.std.specs.Prelude.{None, Some}
 use native.Mathlib.Omega.{arith}
-use Rattle.base.proofs.Runs.{Reached, reached_start, reached_next, reached_end, reached_spent}
+use Rattle.base.proofs.Runs.{Reached, reached_next, reached_end, reached_spent}
 use Rattle.rules.specs.Table.{Table}
 use Rattle.rules.specs.Phases.{strategy_at, chosen_share, within, next_candidate, weakest, give, pruned, step_down, step, phase1}
 use Rattle.laws.proofs.Gives.{Gives, give_gives, gives_self, gives_then, gives_candidates}
@@ -78,9 +78,6 @@ most_steps t = t.size.segments * t.size.strategies
 pub record Down (t : TableView) (s c₀ : List ℕ) (d : Draft) (m : ℕ) : Type 0 where
   pub held : HeldIn t s d
   pub reached : Reached (step (table_in t) (leaders_in t)) (most_steps t) c₀ d.choice m
-
-pub down_start : (t : TableView) {s : List ℕ} {d : Draft} → HeldIn t s d → Down t s d.choice d 0
-down_start t {s} {d} h = record { held = h; reached = reached_start (step (table_in t) (leaders_in t)) (most_steps t) d.choice }
 
 module _ {t : TableView} {s c₀ : List ℕ} {d : Draft} {m : ℕ} (down : Down t s c₀ d m) where
   abbrev table : Table

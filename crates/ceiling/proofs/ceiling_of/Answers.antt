@@ -1,4 +1,5 @@
 -- `ceiling::ceiling_of` meets its contract.
+use Prim.Native.Nat.{◌+◌, ◌-◌}
 use mathlib.Core.Path.{◌≡◌, refl, ap, ◌∙◌}
 use native.Mathlib.Omega.{arith}
 use Rattle.rules.specs.Ceiling.{ceiling_at, ceiling}
@@ -13,18 +14,23 @@ pub loop-k-init : goal.loop-k-init
 loop-k-init c = (refl, after_none _)
 
 pub price_all-requires : goal.price_all-requires
-price_all-requires c = after_room _ c.loop-k.k c.loop-k.invariant.1 c.power.ensures (omega arith)
+price_all-requires c =
+    let k = c.loop-k.k in
+    let e : k - 1 ≡ 40 - (41 - k) = omega arith in
+    after_room _ (41 - k) c.loop-k.invariant.1 (rw e at c.power.ensures) (omega arith)
 
 pub loop-k-preserved : goal.loop-k-preserved
 loop-k-preserved c =
     let l = c.loop-k in
     let new = c.price_all.ensures in
-    (new.same_table ∙ l.invariant.0, after_next _ l.k l.invariant.1 c.power.ensures (rw l.invariant.0 at new.prices_after))
+    let e : l.k - 1 ≡ 40 - (41 - l.k) = omega arith in
+    let n : 41 - l.k + 1 ≡ 41 - (l.k - 1) = omega arith in
+    (new.same_table ∙ l.invariant.0, rw n at (after_next _ (41 - l.k) l.invariant.1 (rw e at c.power.ensures) (rw l.invariant.0 at new.prices_after)))
 
 pub returns : goal.returns
 unfolding ceiling
 returns c =
     λ t priced.
     let l = c.loop-k in
-    let e : l.k ≡ 41 = omega arith in
+    let e : l.k ≡ 0 = omega arith in
     rw l.invariant.0 at l.search.standing.value ∙ ap (ceiling_at _) (l.invariant.1 ∙ rw e) ∙ same_ceiling priced
