@@ -22,7 +22,11 @@ use_entries = most_resources * entries
 abbrev pub entry : ℕ → ℕ → ℕ
 entry i j = columns * (i - 1) + j
 
--- and its use of resource r
+-- what stands there
+abbrev pub entry_at : List ℕ → ℕ → ℕ → ℕ
+entry_at b i j = get_or b (entry i j) 0
+
+-- where its use of resource r stands
 abbrev pub use_entry : ℕ → ℕ → ℕ → ℕ
 use_entry i j r = most_resources * entry i j + (r - 1)
 

@@ -6,11 +6,15 @@ use rules::places::{MOST_RESOURCES, MOST_SEGMENTS, MOST_STRATEGIES};
 pub mod draft;
 pub mod lent;
 pub mod limits;
+pub mod planning;
+pub mod rows;
 pub mod view;
 
 pub use draft::Draft;
 pub use lent::{BenefitTable, LeaderList, LimitList, UsageTable};
 pub use limits::{budgets, room_in};
+pub use planning::Planning;
+pub use rows::{greatest, row_of, shift};
 pub use view::TableView;
 
 // The entries of a segment, one for nothing and one for each strategy; those of all segments; and a use of each
@@ -21,10 +25,15 @@ pub const ENTRIES: usize = MOST_SEGMENTS * COLUMNS;
 
 pub const USE_ENTRIES: usize = MOST_RESOURCES * ENTRIES;
 
-// How many segments, strategies and resources there are.
+// How many segments, strategies and resources there are. That the arrays have places for so many, Bounded, is a clause where a
+// function needs it of one of the three alone, and a ghost field of what holds a whole table.
 #[derive(Clone, Copy)]
 pub struct Size {
     pub segments: usize,
     pub strategies: usize,
     pub resources: usize,
 }
+
+// Segment .0 has, or is to have, strategy .1; 0 is nothing, as in the rules.
+#[derive(Clone, Copy)]
+pub struct Move(pub usize, pub usize);

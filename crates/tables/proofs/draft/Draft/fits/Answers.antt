@@ -9,4 +9,4 @@ room-requires-clause-testable c = testable c.requires.running c.budgets-given.en
 pub returns : goal.returns
 returns c =
     λ b.
-    c.room.ensures ∙ one_fits c.requires.running _ _ c.requires.le_i.0 c.requires.le_i.1 b _ c.budgets-given.ensures
+    c.room.ensures ∙ one_fits c.requires.running _ _ c.requires.inside.0 c.requires.inside.1 b _ c.budgets-given.ensures

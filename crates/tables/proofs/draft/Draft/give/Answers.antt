@@ -1,10 +1,13 @@
 -- `tables::Draft::give` meets its contract.
-use native.Mathlib.Omega.{arith}
-use Rattle.tables.proofs.Moves.{movable, running_give}
+use Rattle.tables.proofs.Moves.{shiftable, running_give}
 use Rattle.tables.proofs.draft.Draft.give.Goals as goal
 
-pub move_sums-requires : goal.move_sums-requires
-move_sums-requires c = movable c.requires.running _ _ c.requires.le_i.0 c.requires.le_i.1 c.requires.le_i.2
+pub shift-requires : goal.shift-requires
+shift-requires c =
+    let inside = c.requires.inside in
+    shiftable c.requires.running _ _ inside.0 inside.1 inside.2 c.row.ensures.len c.row-2.ensures.len c.row.ensures.uses c.row-2.ensures.uses
 
 pub returns-clause-running_2 : goal.returns-clause-running_2
-returns-clause-running_2 c = running_give c.requires.running _ _ c.requires.le_i.0 c.requires.le_i.1 c.requires.le_i.2 (omega arith) c.move_sums.ensures
+returns-clause-running_2 c =
+    let inside = c.requires.inside in
+    running_give c.requires.running _ _ inside.0 inside.1 inside.2 c.row.ensures.len c.row-2.ensures.len c.row.ensures.uses c.row-2.ensures.uses _ c.shift.ensures
