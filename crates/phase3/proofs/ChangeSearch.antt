@@ -1,14 +1,13 @@
 -- Laws of the search for changes: what raises nothing is no change, and how the nested loops find the first.
-use Prim.Native.Nat.{ℕ, zero, suc, ◌+◌, ◌-◌, ◌^◌, ◌≤◌, ◌<◌}
+use Prim.Native.Nat.{ℕ, zero, suc, ◌+◌, ◌^◌, ◌≤◌, ◌<◌}
 use mathlib.Core.Path.{◌≡◌, refl, sym, ap, ◌∙◌}
 use mathlib.Core.Bool.{Bool, true, false, ◌&&◌, and-false, or-true}
 use mathlib.Core.List.{List}
-use Rattle.std.specs.Prelude.{Option, None, Some}
+use Rattle.std.specs.Prelude.{Option, None, Some, MatchOption, option_map}
 use native.Mathlib.Omega.{arith}
 use borrow.Author.Tests.{lt-ltb, le-ltb, ltb-false, ne_eqb}
 use lib.Dec.{ltb, eqb}
 use lib.ListN.{length, length-set}
-use lib.Seq.{set-set}
 use Rattle.base.specs.Choice.{pick}
 use Rattle.base.specs.Over.{most}
 use Rattle.base.specs.Search.{or_else}
@@ -48,6 +47,7 @@ use Rattle.tables.specs.Arrays.{benefit_at, tables, Benefits, Running}
 use Rattle.tables.proofs.Arrays.{benefit_nothing, benefit_lt, total_le}
 use Rattle.phase3.specs.Improve.{after, Found, counts_one, counts_two, top, present, pair_may_rise}
 use Rattle.phase3.specs.declared.change.Change.{Change}
+use Rattle.phase3.specs.declared.change.Change.TheVariants.{One}
 
 -- ---- whether the total rises, by the benefits of the segments that change
 
@@ -67,11 +67,10 @@ module _ (t : Table) (leader : ℕ → ℕ) (c : List ℕ) (i a : ℕ) (low : 1 
       let ne : a ≡ strategy_at c i → ⊥ = λ e. let q : t.benefit i a ≡ t.benefit i (strategy_at c i) = ap (t.benefit i) e in omega arith in
       rw (ne_eqb a (strategy_at c i) ne, lt-ltb 0 (t.benefit i a) (omega arith)) (or-true (eqb a 0))
 
-  -- the test of leaders reads a single change as a pair of the same segment
   pub high_one : t.benefit i (strategy_at c i) < t.benefit i a → (fits : Bool) → within t (give c i a) ≡ fits
-      → counts_one t leader c i a ≡ (fits && respects leader t.segments (give (give c i a) i a))
+      → counts_one t leader c i a ≡ (fits && respects leader t.segments (give c i a))
   unfolding counts
-  high_one h fits e = rw (set-set c (i - 1) a a, another_one h, lt-ltb (total t c) (total t (give c i a)) (omega (arith, total_one)), e)
+  high_one h fits e = rw (another_one h, lt-ltb (total t c) (total t (give c i a)) (omega (arith, total_one)), e)
 
   -- a second segment
   module _ (k b : ℕ) (above : i < k) (top-k : k ≤ t.segments) where
@@ -130,12 +129,14 @@ module _ (t : Table) where
     unfolding first_single
     singles_end h = first_none t.segments (singles_of t leader c) (λ i l u. h i (omega arith) l)
 
-    pub single_found : (i a : ℕ) → 1 ≤ i → i ≤ t.segments → ((p : ℕ) → p < i → 1 ≤ p → singles_of t leader c p ≡ None)
-        → a < t.strategies + 1 → ((v : ℕ) → v < a → single t leader c i v ≡ None) → counts_one t leader c i a ≡ true → first_single t leader c ≡ Some (give c i a)
-    unfolding first_single singles_of single
-    single_found i a l h before la none-a e =
-        first_found t.segments (singles_of t leader c) i (give c i a) l h (λ p lp u. before p u lp)
-        (strategy_found (single t leader c i) a (give c i a) la none-a (rw e))
+    pub singles_found : (i a : ℕ) → a < t.strategies + 1 → ((v : ℕ) → v < a → single t leader c i v ≡ None) → counts_one t leader c i a ≡ true → singles_of t leader c i ≡ Some (give c i a)
+    unfolding singles_of single
+    singles_found i a la none-a e = strategy_found (single t leader c i) a (give c i a) la none-a (rw e)
+
+    pub single_found : (i : ℕ) (d : List ℕ) → 1 ≤ i → i < t.segments + 1 → ((p : ℕ) → p < i → 1 ≤ p → singles_of t leader c p ≡ None)
+        → singles_of t leader c i ≡ Some d → first_single t leader c ≡ Some d
+    unfolding first_single
+    single_found i d l h before e = first_found t.segments (singles_of t leader c) i d l (omega arith) (λ p lp u. before p u lp) e
 
     pub pair_none : (i k a b : ℕ) → counts_two t leader c i k a b ≡ false → pair t leader c i k a b ≡ None
     unfolding pair
@@ -296,6 +297,29 @@ module _ {z : Size} {leader : ℕ → ℕ} {b u l c₀ c sums : List ℕ} {m : �
         }
 
 -- ---- the code's own changes
+
+-- the first change of segment i alone
+module _ (t : Table) (leader : ℕ → ℕ) {z : Size} {c : List ℕ} (i : ℕ) where
+  pub first_is : 1 ≤ i → i ≤ z.segments → t.strategies ≡ z.strategies → (o : Option ℕ)
+      → MatchOption o ((v : ℕ) → 0 ≤ v → v < t.strategies + 1 → counts_one t leader c i v ≡ false)
+      (λ a. (0 ≤ a) × (a < t.strategies + 1) × (counts_one t leader c i a ≡ true) × ((v : ℕ) → 0 ≤ v → v < a → counts_one t leader c i v ≡ false))
+      → Found z c (option_map (λ a. One (record { 0 = i; 1 = a })) o) (singles_of t leader c i)
+  first_is low high same None h =
+      record { is = sym (singles_none t leader c i (λ v lv. single_none t leader c i v (h v (omega arith) lv))); inside = tt }
+  first_is low high same (Some a) h =
+      record {
+        is = sym (singles_found t leader c i a h.1 (λ v lv. single_none t leader c i v (h.3 v (omega arith) lv)) h.2);
+        inside = (low, high, omega (arith, h.1, same));
+      }
+
+-- the first of all segments, where each finds its own
+pub first_single_is : (t : Table) (leader : ℕ → ℕ) {z : Size} {c : List ℕ} (r : Option Change)
+    → MatchOption r ((i : ℕ) → 1 ≤ i → i < t.segments + 1 → singles_of t leader c i ≡ None)
+    (λ x. (i : ℕ) × (1 ≤ i) × (i < t.segments + 1) × Found z c (Some x) (singles_of t leader c i) × ((v : ℕ) → 1 ≤ v → v < i → singles_of t leader c v ≡ None))
+    → Found z c r (first_single t leader c)
+first_single_is t leader {c = c} None h = record { is = sym (singles_end t leader c (λ i hi lo. h i lo hi)); inside = tt }
+first_single_is t leader {c = c} (Some x) h =
+    record { is = sym (single_found t leader c h.0 (after c x) h.1 h.2 (λ v lv low. h.4 v low lv) (sym h.3.is)); inside = h.3.inside }
 
 -- single changes come before pairs
 module _ (t : Table) (leader : ℕ → ℕ) {z : Size} {c : List ℕ} where

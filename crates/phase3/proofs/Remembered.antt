@@ -17,8 +17,8 @@ use Rattle.rules.specs.Table.{Table}
 use Rattle.rules.specs.Phases.{strategy_at, give, chosen_usage, used, holds, within, respects, another, pair, pairs_of}
 use Rattle.laws.proofs.Give.{kept, used_give}
 use Rattle.tables.specs.declared.Size.{Size}
-use Rattle.tables.specs.Arrays.{usage_at, limit_at, tables, Benefits, Limits, Running}
-use Rattle.tables.specs.Moves.{Budgets, room_for}
+use Rattle.tables.specs.Arrays.{usage_at, limit_at, tables}
+use Rattle.tables.specs.Moves.{room_for}
 use Rattle.tables.proofs.Arrays.{limit_at_lem, usage_lt, usage_nothing, benefit_nothing}
 use Rattle.tables.proofs.Moves.{places, two_fits}
 use Rattle.phase3.specs.Improve.{top, present}
@@ -139,9 +139,6 @@ module _ {z : Size} {p u l c sums given : List ℕ} {i k : ℕ} (s : Setting z p
   pub given_le : (r : ℕ) → 1 ≤ r → r ≤ z.resources → get_or given (r - 1) 0 ≤ get_or l (r - 1) 0 + offset
   given_le r lr hr =
       omega (arith, s.budgets.each r lr hr, usage_lt s.running.uses i x r, usage_lt s.running.uses k y r)
-
-  pub refusal_none : (a b : ℕ) (row : Row) → Refusal t c i k a b row row false
-  refusal_none a b row = record { lower = lower_same row; tight = λ q. q; short = λ q. absurd (true≢false (sym q)) }
 
   pub all_fit : (a b : ℕ) → all z.resources (room_for u sums given i a k b) ≡ true → within t (give (give c i a) k b) ≡ true
   all_fit a b e = sym (two_fits s.running i a s.low (omega (arith, s.above, s.high)) p l k b s.above s.high s.budgets) ∙ e
@@ -301,11 +298,6 @@ module _ (t : Table) (leader : ℕ → ℕ) (c : List ℕ) (i k : ℕ) where
           let ex : x ≡ strategy_at c i = omega (arith, m, e) in
           let ey : y ≡ strategy_at c k = omega (arith, m, e) in
           rw (ex, ey) (λ d q. all_passed d (record { tight = q; same = λ z. absurd (omega (arith, e, z)) }))
-
-pub setting_of : {z : Size} {p u l c sums given : List ℕ} {i k : ℕ} → Benefits p → Limits l → Running z u c sums
-    → Budgets z.resources u l i (strategy_at c i) k (strategy_at c k) given → 1 ≤ i → i < k → k ≤ z.segments → Setting z p u l c sums given i k
-setting_of b l r g low above high =
-    record { benefits = b; limits = l; running = r; budgets = g; low = low; above = above; high = high }
 
 -- a row with unreached numbers
 pub searching_start : {z : Size} {p u l c sums given : List ℕ} {row : Row} {i k : ℕ} → Setting z p u l c sums given i k → length row.excesses ≡ most_resources

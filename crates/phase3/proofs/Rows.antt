@@ -2,7 +2,7 @@
 use Prim.Native.Nat.{ℕ, ◌-◌, ◌≤◌, ◌<◌}
 use mathlib.Core.Path.{◌≡◌, refl, sym, ◌∙◌}
 use mathlib.Core.Bool.{Bool, true, false, ◌&&◌, true≢false}
-use mathlib.Core.List.{List}
+use mathlib.Core.List.{List, []}
 use Rattle.std.specs.Prelude.{None}
 use native.Mathlib.Omega.{arith}
 use borrow.Author.Tests.{ltb-true, eqb-true, eqb-false}
@@ -10,7 +10,7 @@ use lib.Dec.{eqb}
 use lib.ListN.{get_or, set, length, replicate, length-replicate, length-set}
 use lib.Seq.{get_or-set_same, get_or-set_other}
 use Rattle.base.proofs.All.{all_at}
-use Rattle.base.proofs.Each.{each_replicate}
+use Rattle.std.proofs.lemmas.List.{get_or-replicate}
 use Rattle.base.specs.Over.{all}
 use Rattle.rules.specs.District.{most_segments}
 use Rattle.rules.specs.Table.{Table}
@@ -20,44 +20,70 @@ use Rattle.tables.specs.Arrays.{tables, Running}
 use Rattle.tables.proofs.Arrays.{limit_at_lem}
 use Rattle.tables.proofs.Moves.{places}
 use Rattle.phase3.specs.declared.memory.Row.{Row}
-use Rattle.phase3.specs.Memory.{row_count, row_at, mark, Slacks, Holds, numbers, unmarked, Remembers, below, holds_still}
+use Rattle.phase3.specs.Memory.{row_of, mark, Slacks, Holds, numbers, unmarked, Remembers, below, holds_still}
 
 -- rows that hold for none
-pub remembers_start : (t : Table) (leader : ℕ → ℕ) (n : ℕ) (row : Row) → n ≡ row_count → row.marked ≡ 0 → Remembers t leader (replicate n row)
-remembers_start t leader n row e none =
+pub remembers_start : (t : Table) (leader : ℕ → ℕ) (row : Row) → row.marked ≡ 0 → t.segments ≤ most_segments
+    → Remembers t leader (replicate most_segments (replicate most_segments row))
+remembers_start t leader row none many =
+    let line : (i : ℕ) → i < most_segments → get_or (replicate most_segments (replicate most_segments row)) i [] ≡ replicate most_segments row =
+    λ i l. get_or-replicate most_segments i (replicate most_segments row) [] l in
     record {
-      places = length-replicate n row ∙ e;
-      each = λ i k low above high x y lx ly m. absurd (let z = each_replicate (λ (v : Row). v.marked ≡ 0) unmarked n row refl none (row_at i k) in omega (arith, z, m));
+      places = length-replicate most_segments (replicate most_segments row);
+      places_of = λ i l. rw (line i l) (length-replicate most_segments row);
+      each = λ i k low above high x y lx ly m.
+          absurd
+          (let z : (row_of (replicate most_segments (replicate most_segments row)) i k).marked ≡ 0 =
+          rw (line (i - 1) (omega (arith, many)), get_or-replicate most_segments (k - 1) row unmarked (omega (arith, many))) none in
+          omega (arith, z, m));
     }
 
-module _ {t : Table} {leader : ℕ → ℕ} {rows : List Row} (holds : Remembers t leader rows) (many : t.segments ≤ most_segments) where
+module _ {t : Table} {leader : ℕ → ℕ} {rows : List (List Row)} (holds : Remembers t leader rows) (many : t.segments ≤ most_segments) where
   -- the row of segments i and k is made anew, and holds
-  pub remembers_set : (i k : ℕ) → 1 ≤ i → i < k → k ≤ t.segments → (row : Row) → Holds t leader i k row → Remembers t leader (set rows (row_at i k) row)
-  remembers_set i k low above high row new =
-      record {
-        places = length-set rows (row_at i k) row ∙ holds.places;
-        each = λ i₂ k₂ low₂ above₂ high₂. go i₂ k₂ low₂ above₂ high₂ (eqb (row_at i₂ k₂) (row_at i k)) refl;
-      }
-    where
-      go : (i₂ k₂ : ℕ) → 1 ≤ i₂ → i₂ < k₂ → k₂ ≤ t.segments → (b : Bool) → eqb (row_at i₂ k₂) (row_at i k) ≡ b → Holds t leader i₂ k₂ (get_or (set rows (row_at i k) row) (row_at i₂ k₂) unmarked)
-      go i₂ k₂ low₂ above₂ high₂ true e =
-          let same = eqb-true (row_at i₂ k₂) (row_at i k) e in
-          let ei : i₂ ≡ i = omega (arith, same, many) in
-          let ek : k₂ ≡ k = omega (arith, same, many) in
-          let inside : row_at i k < length rows = omega (arith, holds.places, many) in
-          rw (ei, ek, get_or-set_same rows (row_at i k) row unmarked inside) new
-      go i₂ k₂ low₂ above₂ high₂ false e =
-          rw (get_or-set_other rows (row_at i k) (row_at i₂ k₂) row unmarked (eqb-false (row_at i₂ k₂) (row_at i k) e)) (holds.each i₂ k₂ low₂ above₂ high₂)
+  module _ (i k : ℕ) (low : 1 ≤ i) (above : i < k) (high : k ≤ t.segments) (row : Row) (new : Holds t leader i k row) where
+    abbrev line : List Row
+    line = set (get_or rows (i - 1) []) (k - 1) row
+
+    pub remembers_set : Remembers t leader (set rows (i - 1) line)
+    remembers_set =
+        record {
+          places = length-set rows (i - 1) line ∙ holds.places;
+          places_of = λ j l. places_at j l (eqb j (i - 1)) refl;
+          each = λ i₂ k₂ low₂ above₂ high₂. go i₂ k₂ low₂ above₂ high₂ (eqb i₂ i) refl (eqb k₂ k) refl;
+        }
+      where
+        first : i - 1 < length rows
+        first = omega (arith, holds.places, many)
+
+        second : k - 1 < length (get_or rows (i - 1) [])
+        second = omega (arith, holds.places_of (i - 1) (omega (arith, many)), many)
+
+        places_at : (j : ℕ) → j < most_segments → (b : Bool) → eqb j (i - 1) ≡ b → length (get_or (set rows (i - 1) line) j []) ≡ most_segments
+        places_at j l true e =
+            rw (eqb-true j (i - 1) e, get_or-set_same rows (i - 1) line [] first) (length-set (get_or rows (i - 1) []) (k - 1) row ∙ holds.places_of (i - 1) (omega (arith, many)))
+        places_at j l false e = rw (get_or-set_other rows (i - 1) j line [] (eqb-false j (i - 1) e)) (holds.places_of j l)
+
+        go : (i₂ k₂ : ℕ) → 1 ≤ i₂ → i₂ < k₂ → k₂ ≤ t.segments → (b : Bool) → eqb i₂ i ≡ b → (d : Bool) → eqb k₂ k ≡ d → Holds t leader i₂ k₂ (row_of (set rows (i - 1) line) i₂ k₂)
+        go i₂ k₂ low₂ above₂ high₂ true e true f =
+            rw (eqb-true i₂ i e, eqb-true k₂ k f, get_or-set_same rows (i - 1) line [] first, get_or-set_same (get_or rows (i - 1) []) (k - 1) row unmarked second) new
+        go i₂ k₂ low₂ above₂ high₂ true e false f =
+            let ne = eqb-false k₂ k f in
+            let ei = eqb-true i₂ i e in
+            rw (ei, get_or-set_same rows (i - 1) line [] first, get_or-set_other (get_or rows (i - 1) []) (k - 1) (k₂ - 1) row unmarked (λ z. ne (omega arith)))
+            (rw ei at (holds.each i₂ k₂ low₂ above₂ high₂))
+        go i₂ k₂ low₂ above₂ high₂ false e d f =
+            let ne = eqb-false i₂ i e in
+            rw (get_or-set_other rows (i - 1) (i₂ - 1) line [] (λ z. ne (omega arith))) (holds.each i₂ k₂ low₂ above₂ high₂)
 
 under : (slacks : List ℕ) (row : Row) (r : ℕ) → below slacks row r ≡ true → get_or slacks (r - 1) 0 < numbers row r
 unfolding below
 under slacks row r q = ltb-true (get_or slacks (r - 1) 0) (numbers row r) q
 
 -- a row whose mark names what segments i and k have, with every slack below its number, passes them over
-module _ {z : Size} {leader : ℕ → ℕ} (p : List ℕ) {u l c sums slacks : List ℕ} {rows : List Row} (holds : Remembers (tables z p u l) leader rows) (running : Running z u c sums)
+module _ {z : Size} {leader : ℕ → ℕ} (p : List ℕ) {u l c sums slacks : List ℕ} {rows : List (List Row)} (holds : Remembers (tables z p u l) leader rows) (running : Running z u c sums)
     (are : Slacks z.resources l sums slacks) (i k : ℕ) (low : 1 ≤ i) (above : i < k) (high : k ≤ z.segments) where
   abbrev row : Row
-  row = get_or rows (row_at i k) unmarked
+  row = row_of rows i k
 
   both : (a b : Bool) → a && b ≡ true → (a ≡ true) × (b ≡ true)
   both true b q = (refl, q)

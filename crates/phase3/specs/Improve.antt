@@ -6,8 +6,9 @@ use Rattle.rules.specs.District.{most_segments}
 use Rattle.rules.specs.Table.{Table}
 use Rattle.rules.specs.Phases.{strategy_at, give, another, counts}
 use Rattle.tables.specs.declared.Size.{Size}
+use Rattle.tables.specs.declared.Move.{Move}
 use Rattle.tables.specs.Arrays.{benefit_at}
-use Rattle.phase3.specs.declared.change.Move.{Move}
+use Rattle.tables.specs.Moves.{Inside}
 use Rattle.phase3.specs.declared.change.Change.{Change}
 use Rattle.phase3.specs.declared.change.Change.TheVariants.{One, Two}
 
@@ -24,15 +25,24 @@ abbrev pub made : List ℕ → Option Change → Option (List ℕ)
 made c None = None
 made c (Some x) = Some (after c x)
 
+-- the segments that change, which may be one
+abbrev pub first_segment : Change → ℕ
+first_segment (One m) = m.0
+first_segment (Two m n) = m.0
+
+abbrev pub last_segment : Change → ℕ
+last_segment (One m) = m.0
+last_segment (Two m n) = n.0
+
 -- a change's numbers are the table's
-abbrev pub Inside : Size → Change → Type 0
-Inside z (One m) = (1 ≤ m.0) × (m.0 ≤ z.segments) × (m.1 ≤ z.strategies)
-Inside z (Two m n) = (1 ≤ m.0) × (m.0 < n.0) × (n.0 ≤ z.segments) × (m.1 ≤ z.strategies) × (n.1 ≤ z.strategies)
+abbrev pub InTable : Size → Change → Type 0
+InTable z (One m) = Inside z m
+InTable z (Two m n) = Inside z m × Inside z n × (m.0 < n.0)
 
 -- x is what a search of the rules found from programme c
 pub record Found (z : Size) (c : List ℕ) (x : Option Change) (search : Option (List ℕ)) : Type 0 where
   pub is : made c x ≡ search
-  pub inside : IfSome x (Inside z)
+  pub inside : IfSome x (InTable z)
 
 -- a single change, and a pair, that the search takes
 abbrev pub counts_one : Table → (ℕ → ℕ) → List ℕ → ℕ → ℕ → Bool

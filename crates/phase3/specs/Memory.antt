@@ -20,13 +20,6 @@ offset = 2 ^ 48
 abbrev pub unreached : ℕ
 unreached = 2 ^ 50
 
--- a row for each two segments, and where the row of segments i and k stands
-abbrev pub row_count : ℕ
-row_count = most_segments * most_segments
-
-abbrev pub row_at : ℕ → ℕ → ℕ
-row_at i k = most_segments * (i - 1) + (k - 1)
-
 -- the mark of a row that holds for strategies x and y; a row marked 0 holds for none
 abbrev pub mark : ℕ → ℕ → ℕ
 mark x y = columns * x + y + 1
@@ -75,10 +68,15 @@ Holds t leader i k row =
 abbrev pub unmarked : Row
 unmarked = record { marked = 0; excesses = [] }
 
--- and so does every row of the memory
-pub record Remembers (t : Table) (leader : ℕ → ℕ) (rows : List Row) : Type 0 where
-  pub places : length rows ≡ row_count
-  pub each : (i k : ℕ) → 1 ≤ i → i < k → k ≤ t.segments → Holds t leader i k (get_or rows (row_at i k) unmarked)
+-- the row of segments i and k
+abbrev pub row_of : List (List Row) → ℕ → ℕ → Row
+row_of rows i k = get_or (get_or rows (i - 1) []) (k - 1) unmarked
+
+-- every row of the memory holds
+pub record Remembers (t : Table) (leader : ℕ → ℕ) (rows : List (List Row)) : Type 0 where
+  pub places : length rows ≡ most_segments
+  pub places_of : (i : ℕ) → i < most_segments → length (get_or rows i []) ≡ most_segments
+  pub each : (i k : ℕ) → 1 ≤ i → i < k → k ≤ t.segments → Holds t leader i k (row_of rows i k)
 
 -- what a search of segments i and k reads, with the budgets where both give up what they have
 pub record Setting (z : Size) (b u l c sums given : List ℕ) (i k : ℕ) : Type 0 where

@@ -1,11 +1,12 @@
 -- What the code's views of a pass, of two segments and of a look at them stand for.
 use Rattle.std.specs.Prelude.{ℕ, Bool, List, Option}
 use Rattle.rules.specs.Table.{Table}
-use Rattle.rules.specs.Phases.{give, pairs_of}
+use Rattle.rules.specs.Phases.{strategy_at, give, singles_of, pairs_of}
 use Rattle.tables.specs.declared.Size.{Size}
 use Rattle.tables.specs.Moves.{room_for}
 use Rattle.tables.specs.Views.{table_in, leaders_in}
 use Rattle.phase3.specs.declared.change.Change.{Change}
+use Rattle.phase3.specs.declared.change.Change.TheVariants.{Two}
 use Rattle.phase3.specs.declared.leaders.Changed.{Changed}
 use Rattle.phase3.specs.declared.memory.Row.{Row}
 use Rattle.phase3.specs.declared.memory.Memory.{Memory}
@@ -13,26 +14,26 @@ use Rattle.phase3.specs.declared.pass.Pass.{Pass}
 use Rattle.phase3.specs.declared.pair.Pair.{Pair}
 use Rattle.phase3.specs.declared.look.Look.{Look}
 use Rattle.phase3.specs.declared.trial.Trial.{Trial}
-use Rattle.phase3.specs.Improve.{after_move, Found}
-use Rattle.phase3.specs.Memory.{excess_of, Holds, Remembers, Searching, Refusal, WithTest, PairTest}
+use Rattle.phase3.specs.Improve.{after, Found}
+use Rattle.phase3.specs.Memory.{row_of, mark, holds_still, excess_of, Holds, Remembers, Searching, Refusal, WithTest, PairTest}
 
--- a programme after its two moves
+-- a programme after its change
 abbrev pub changed : Changed → List ℕ
-changed x = after_move (after_move x.choice.now x.first) x.second
+changed x = after x.choice.now x.change
 
 -- the table and the leaders of a pass, and the programme as it stands
 abbrev pub table_of : Pass → Table
-table_of p = table_in p.t
+table_of p = table_in p.planning.now.t
 
 abbrev pub leaders_of : Pass → ℕ → ℕ
-leaders_of p = leaders_in p.t
+leaders_of p = leaders_in p.planning.now.t
 
 abbrev pub choice_of : Pass → List ℕ
-choice_of p = p.draft.now.choice
+choice_of p = p.planning.now.draft.choice
 
 -- the same of a look
 abbrev pub size_at : Look → Size
-size_at l = l.pair.now.pass.now.t.size
+size_at l = l.pair.now.pass.now.planning.now.t.size
 
 abbrev pub table_at : Look → Table
 table_at l = table_of l.pair.now.pass.now
@@ -45,9 +46,12 @@ choice_at l = choice_of l.pair.now.pass.now
 
 -- x is what a search of the rules finds where a pass stands
 abbrev pub FoundBy : (Table → (ℕ → ℕ) → List ℕ → Option (List ℕ)) → Pass → Option Change → Type 0
-FoundBy search p x = Found p.t.size (choice_of p) x (search (table_of p) (leaders_of p) (choice_of p))
+FoundBy search p x = Found p.planning.now.t.size (choice_of p) x (search (table_of p) (leaders_of p) (choice_of p))
 
--- the search of two segments
+-- the searches of one segment, and of two
+abbrev pub of_segment : ℕ → Table → (ℕ → ℕ) → List ℕ → Option (List ℕ)
+of_segment i t leader c = singles_of t leader c i
+
 abbrev pub of_pair : ℕ → ℕ → Table → (ℕ → ℕ) → List ℕ → Option (List ℕ)
 of_pair i k t leader c = pairs_of t leader c i k
 
@@ -57,6 +61,13 @@ FoundAt p x = FoundBy (of_pair p.i p.k) p.pass.now x
 -- every row of the memory holds for a pass's table and leaders
 abbrev pub Kept : Pass → Memory → Type 0
 Kept p memory = Remembers (table_of p) (leaders_of p) memory.rows
+
+-- the memory's row of two segments still holds
+abbrev pub holds_of : Pair → Memory → Bool
+holds_of p memory =
+    let pass = p.pass.now in
+    let c = choice_of pass in
+    holds_still pass.planning.now.t.size.resources pass.slacks (row_of memory.rows p.i p.k) (mark (strategy_at c p.i) (strategy_at c p.k))
 
 -- a look's row: that it holds, and where the search of its strategies stands
 abbrev pub HoldsAt : Look → Row → Type 0
@@ -73,6 +84,9 @@ WithTestAt l a row next may = WithTest (table_at l) (choice_at l) l.pair.now.i l
 abbrev pub tried : Trial → List ℕ
 tried x = let l = x.look.now in give (give (choice_at l) l.pair.now.i x.a) l.pair.now.k x.b
 
+abbrev pub change_of : Trial → Change
+change_of x = let p = x.look.now.pair.now in Two (record { 0 = p.i; 1 = x.a }) (record { 0 = p.k; 1 = x.b })
+
 abbrev pub RefusalIn : Trial → Row → Row → Bool → Type 0
 RefusalIn x row next refused = let l = x.look.now in Refusal (table_at l) (choice_at l) l.pair.now.i l.pair.now.k x.a x.b row next refused
 
@@ -84,10 +98,12 @@ abbrev pub room_at : Trial → ℕ → Bool
 room_at x r =
     let l = x.look.now in
     let p = l.pair.now in
-    room_for p.pass.now.t.uses.entries.now p.pass.now.draft.now.sums l.given p.i x.a p.k x.b r
+    let planning = p.pass.now.planning.now in
+    room_for planning.t.uses.entries.now planning.draft.sums l.given p.i x.a p.k x.b r
 
 abbrev pub excess_at : Trial → ℕ → ℕ
 excess_at x r =
     let l = x.look.now in
     let p = l.pair.now in
-    excess_of p.pass.now.t.uses.entries.now p.pass.now.t.limits.entries.now l.given p.i x.a p.k x.b r
+    let t = p.pass.now.planning.now.t in
+    excess_of t.uses.entries.now t.limits.entries.now l.given p.i x.a p.k x.b r

@@ -1,13 +1,8 @@
 // The changes that are made.
 ghost use Rattle.std.specs.Prelude.{◌≡◌};
-ghost use Rattle.tables.specs.Views.{Drafted};
-ghost use Rattle.phase3.specs.Improve.{after, Inside};
+ghost use Rattle.phase3.specs.Improve.{after, InTable};
 
-use tables::{Draft, TableView};
-
-// Segment .0 gets strategy .1.
-#[derive(Clone, Copy)]
-pub struct Move(pub usize, pub usize);
+use tables::{Move, Planning};
 
 // One segment moves, or two at once.
 #[derive(Clone, Copy)]
@@ -17,17 +12,16 @@ pub enum Change {
 }
 
 impl Change {
-    pub fn make(self, t: TableView<'_>, draft: &mut Draft)
-        requires running { Drafted t draft.old }
-        requires inside { Inside t.size self }
-        ensures running_2 { Drafted t.entry draft.new }
-        ensures choice_after { draft.new.choice ≡ after draft.old.choice self }
+    pub fn make(self, planning: &mut Planning<'_>)
+        requires { InTable planning.old.t.size self }
+        ensures same_table { planning.new.t ≡ planning.old.t }
+        ensures choice_after { planning.new.draft.choice ≡ after planning.old.draft.choice self }
     {
         match self {
-            Change::One(Move(i, a)) => draft.give(t.size, t.uses, i, a),
-            Change::Two(Move(i, a), Move(k, b)) => {
-                draft.give(t.size, t.uses, i, a);
-                draft.give(t.size, t.uses, k, b);
+            Change::One(only) => planning.give(only),
+            Change::Two(first, second) => {
+                planning.give(first);
+                planning.give(second);
             }
         }
     }

@@ -1,19 +1,19 @@
-// Whether leaders are respected once one segment or two have changed.
+// Whether leaders are respected once a change is made.
 ghost use Rattle.std.specs.Prelude.{◌≡◌, ◌≤◌, length};
 ghost use Rattle.rules.specs.District.{most_segments};
+ghost use Rattle.phase3.specs.Improve.{first_segment, last_segment};
 
-use crate::change::Move;
+use crate::change::Change;
 use rules::places::MOST_SEGMENTS;
-use tables::LeaderList;
+use tables::{LeaderList, Move};
 
-// A programme after two moves. One segment alone changes where both are the same.
+// A programme after a change.
 #[derive(Clone, Copy)]
 pub struct Changed<'a> {
     pub choice: &'a [usize; MOST_SEGMENTS],
-    pub first: Move,
-    pub second: Move,
+    pub change: Change,
     pub ghost places: { length choice.now ≡ most_segments },
-    pub ghost segments: { (1 ≤ first.0) × (first.0 ≤ most_segments) × (1 ≤ second.0) × (second.0 ≤ most_segments) },
+    pub ghost segments: { (1 ≤ first_segment change) × (1 ≤ last_segment change) },
 }
 
 impl Changed<'_> {
@@ -26,15 +26,11 @@ impl Changed<'_> {
         requires { (1 ≤ m) × (m ≤ most_segments) }
         ensures { result ≡ strategy_at (changed self.now) m }
     {
-        let Move(k, b) = self.second;
-        if m == k {
-            return b;
+        match self.change {
+            Change::Two(_, Move(k, b)) if m == k => b,
+            Change::One(Move(i, a)) | Change::Two(Move(i, a), _) if m == i => a,
+            _ => self.choice[m - 1],
         }
-        let Move(i, a) = self.first;
-        if m == i {
-            return a;
-        }
-        self.choice[m - 1]
     }
 
     // Segment m has nothing, or no leader, or one that has something.

@@ -3,7 +3,7 @@
 
 ghost use Rattle.std.specs.Prelude.{◌≡◌};
 ghost use Rattle.rules.specs.Phases.{change, phase3};
-ghost use Rattle.tables.specs.Views.{table_in, leaders_in, Drafted};
+ghost use Rattle.tables.specs.Views.{table_in, leaders_in};
 ghost use Rattle.phase3.specs.Improve.{Found, Tops};
 ghost use Rattle.phase3.specs.Memory.{Remembers};
 
@@ -17,10 +17,10 @@ mod tops;
 mod trial;
 
 use change::Change;
-use memory::{Memory, PAIRS, Row};
+use memory::{Memory, Row};
 use pass::{Pass, slacks_of};
 use rules::places::{MOST_RESOURCES, MOST_SEGMENTS};
-use tables::{Draft, TableView};
+use tables::Planning;
 use tops::tops_of;
 
 // Slacks and excesses have this added, since they may be negative; and a number that no slack reaches.
@@ -30,21 +30,19 @@ const UNREACHED: u64 = 1 << 50;
 
 // The first change that counts, in the programme as it stands.
 fn next_change(
-    t: TableView<'_>,
-    draft: &Draft,
+    planning: &Planning<'_>,
     tops: &[u64; MOST_SEGMENTS],
     memory: &mut Memory,
 ) -> Option<Change>
-    requires running { Drafted t draft.now }
-    requires tops { Tops t.size t.benefits.entries.now tops.now }
-    requires memory { Remembers (table_in t) (leaders_in t) memory.old.rows }
-    ensures found { Found t.entry.size draft.now.choice result (change (table_in t.entry) (leaders_in t.entry) draft.now.choice) }
-    ensures memory { Remembers (table_in t.entry) (leaders_in t.entry) memory.new.rows }
+    requires tops { Tops planning.now.t.size planning.now.t.benefits.entries.now tops.now }
+    requires memory { Remembers (table_in planning.now.t) (leaders_in planning.now.t) memory.old.rows }
+    ensures found { let p = planning.now in Found p.t.size p.draft.choice result (change (table_in p.t) (leaders_in p.t) p.draft.choice) }
+    ensures memory { Remembers (table_in planning.now.t) (leaders_in planning.now.t) memory.new.rows }
 {
-    let slacks = slacks_of(t.size.resources, t.limits, &draft.sums);
+    let t = &planning.t;
+    let slacks = slacks_of(t.size.resources, t.limits, &planning.draft.sums);
     let pass = Pass {
-        t,
-        draft,
+        planning,
         tops,
         slacks,
     };
@@ -53,23 +51,22 @@ fn next_change(
 
 // Makes the first change that counts, and starts anew, until no change counts. Returns how many were made.
 #[tactic(auto, using(crate::proofs::ChangeSearch::under_end, crate::proofs::ChangeSearch::under_small))]
-pub fn improve(t: TableView<'_>, draft: &mut Draft) -> u64
-    requires { Drafted t draft.old }
-    ensures running { Drafted t.entry draft.new }
-    ensures choice_after { draft.new.choice ≡ (phase3 (table_in t.entry) (leaders_in t.entry) draft.old.choice).last }
-    ensures value { result ≡ (phase3 (table_in t.entry) (leaders_in t.entry) draft.old.choice).count }
+pub fn improve(planning: &mut Planning<'_>) -> u64
+    ensures same_table { planning.new.t ≡ planning.old.t }
+    ensures choice_after { let p = planning.old in planning.new.draft.choice ≡ (phase3 (table_in p.t) (leaders_in p.t) p.draft.choice).last }
+    ensures value { let p = planning.old in result ≡ (phase3 (table_in p.t) (leaders_in p.t) p.draft.choice).count }
 {
-    let tops = tops_of(t.size, t.benefits);
+    let tops = tops_of(planning.t.size, planning.t.benefits);
     let unmarked = Row {
         marked: 0,
         excesses: [0; MOST_RESOURCES],
     };
     let mut memory = Memory {
-        rows: [unmarked; PAIRS],
+        rows: [[unmarked; MOST_SEGMENTS]; MOST_SEGMENTS],
     };
     let mut changes: u64 = 0;
-    while let Some(next) = next_change(t, draft, &tops, &mut memory) {
-        next.make(t, draft);
+    while let Some(next) = next_change(planning, &tops, &mut memory) {
+        next.make(planning);
         changes += 1;
     }
     changes

@@ -3,19 +3,19 @@ ghost use Rattle.std.specs.Prelude.{◌≡◌};
 ghost use Rattle.phase3.specs.Memory.{Setting};
 
 use crate::UNREACHED;
-use crate::change::{Change, Move};
+use crate::change::Change;
 use crate::memory::Row;
 use crate::pair::Pair;
 use crate::trial::Trial;
 use rules::places::MOST_RESOURCES;
-use tables::budgets;
+use tables::{Move, budgets};
 
 // The pair, and the budgets where both segments give up what they have.
 #[derive(Clone, Copy)]
 pub struct Look<'a> {
     pub pair: &'a Pair<'a>,
     pub given: [u64; MOST_RESOURCES],
-    pub ghost setting: { let p = pair.now.pass.now in Setting p.t.size p.t.benefits.entries.now p.t.uses.entries.now p.t.limits.entries.now p.draft.now.choice p.draft.now.sums given pair.now.i pair.now.k },
+    pub ghost setting: { let p = pair.now.pass.now.planning.now in Setting p.t.size p.t.benefits.entries.now p.t.uses.entries.now p.t.limits.entries.now p.draft.choice p.draft.sums given pair.now.i pair.now.k },
 }
 
 impl<'a> Pair<'a> {
@@ -23,11 +23,17 @@ impl<'a> Pair<'a> {
     pub fn look(&'a self) -> Look<'a>
         ensures { result.pair.now ≡ self.entry.now }
     {
-        let pass = self.pass;
-        let t = &pass.t;
-        let x = pass.draft.choice[self.i - 1];
-        let y = pass.draft.choice[self.k - 1];
-        let given = budgets(t.size.resources, t.uses, t.limits, self.i, x, self.k, y);
+        let planning = self.pass.planning;
+        let t = &planning.t;
+        let x = planning.draft.choice[self.i - 1];
+        let y = planning.draft.choice[self.k - 1];
+        let given = budgets(
+            t.size.resources,
+            t.uses,
+            t.limits,
+            Move(self.i, x),
+            Move(self.k, y),
+        );
         Look { pair: self, given }
     }
 }
@@ -48,7 +54,9 @@ impl<'a> Look<'a> {
         if !pass.is_another(pair.i, a) {
             return false;
         }
-        if pass.t.benefits.at(pair.i, a) + pass.tops[pair.k - 1] <= pair.present_benefit() {
+        if pass.planning.t.benefits.at(pair.i, a) + pass.tops[pair.k - 1]
+            <= pair.present_benefit()
+        {
             return false;
         }
         let alone = Trial {
@@ -66,22 +74,18 @@ impl<'a> Look<'a> {
         ensures found { FoundAt self.now.pair.now result }
         ensures holds { HoldsAt self.now row.new }
     {
-        let mut found = None;
-        let strategies_end = self.pair.pass.t.size.strategies + 1;
-        'search: for a in 0..strategies_end {
+        let strategies_end = self.pair.pass.planning.t.size.strategies + 1;
+        for a in 0..strategies_end {
             if self.with_may_count(a, row, *asked) {
                 for b in 0..strategies_end {
                     let trial = Trial { look: self, a, b };
                     if trial.counts(row, asked) {
-                        let first = Move(self.pair.i, a);
-                        let second = Move(self.pair.k, b);
-                        found = Some(Change::Two(first, second));
-                        break 'search;
+                        return Some(trial.change());
                     }
                 }
             }
         }
-        found
+        None
     }
 
     // The same with a row that is made anew.

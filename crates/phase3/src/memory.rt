@@ -1,14 +1,12 @@
 // What phase 3 remembers of the pairs of segments that it looked at (specs/Memory.antt).
 ghost use Rattle.std.specs.Prelude.{◌≡◌, ◌≤◌, None, true};
 ghost use Rattle.rules.specs.District.{most_resources};
-ghost use Rattle.phase3.specs.Memory.{row_at, holds_still};
-ghost use Rattle.phase3.specs.Views.{FoundAt, Kept};
+ghost use Rattle.phase3.specs.Memory.{holds_still};
+ghost use Rattle.phase3.specs.Views.{holds_of, FoundAt, Kept};
 
 use crate::change::Change;
 use crate::pair::Pair;
 use rules::places::{MOST_RESOURCES, MOST_SEGMENTS};
-
-pub const PAIRS: usize = MOST_SEGMENTS * MOST_SEGMENTS;
 
 // A row for two segments: the mark of the strategies for which it holds, 0 for none, and for each resource the least excess
 // for which it refused a pair of strategies.
@@ -28,17 +26,10 @@ impl Row {
     }
 }
 
-// A row for each two segments.
+// A row for each two segments: those of the lower one, by the higher one.
 #[derive(Drop)]
 pub struct Memory {
-    pub rows: [Row; PAIRS],
-}
-
-// Where the row of a pair stands.
-fn place_of(pair: &Pair<'_>) -> usize
-    ensures { result ≡ row_at pair.now.i pair.now.k }
-{
-    MOST_SEGMENTS * (pair.i - 1) + (pair.k - 1)
+    pub rows: [[Row; MOST_SEGMENTS]; MOST_SEGMENTS],
 }
 
 impl Memory {
@@ -46,10 +37,12 @@ impl Memory {
     #[tactic(auto, using(crate::proofs::Rows::still_none))]
     pub fn rules_out(&self, pair: &Pair<'_>) -> bool
         requires { Kept pair.now.pass.now self.now }
-        ensures { result ≡ true → FoundAt pair.now None }
+        ensures still { result ≡ holds_of pair.now self.now }
+        ensures none { result ≡ true → FoundAt pair.now None }
     {
         let pass = pair.pass;
-        self.rows[place_of(pair)].holds_still(pair.mark(), pass.t.size.resources, &pass.slacks)
+        let row = &self.rows[pair.i - 1][pair.k - 1];
+        row.holds_still(pair.mark(), pass.planning.t.size.resources, &pass.slacks)
     }
 
     // A look at the pair: the first of its changes that counts, and its row made anew.
@@ -58,7 +51,7 @@ impl Memory {
         ensures found { FoundAt pair.now result }
         ensures memory { Kept pair.now.pass.now self.new }
     {
-        let at = place_of(pair);
-        pair.look().first_change(&mut self.rows[at], asked)
+        let row = &mut self.rows[pair.i - 1][pair.k - 1];
+        pair.look().first_change(row, asked)
     }
 }

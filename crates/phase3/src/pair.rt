@@ -10,7 +10,7 @@ pub struct Pair<'a> {
     pub pass: &'a Pass<'a>,
     pub i: usize,
     pub k: usize,
-    pub ghost ordered: { (1 ≤ i) × (i < k) × (k ≤ pass.now.t.size.segments) },
+    pub ghost ordered: { (1 ≤ i) × (i < k) × (k ≤ pass.now.planning.now.t.size.segments) },
 }
 
 impl Pair<'_> {
@@ -25,8 +25,9 @@ impl Pair<'_> {
         ensures value { let p = self.now.pass.now in result ≡ present (table_of p) (choice_of p) self.now.i self.now.k }
         ensures small { result < 2 ^ 41 }
     {
-        let benefits = self.pass.t.benefits;
-        let choice = &self.pass.draft.choice;
+        let planning = self.pass.planning;
+        let benefits = planning.t.benefits;
+        let choice = &planning.draft.choice;
         benefits.chosen(choice, self.i) + benefits.chosen(choice, self.k)
     }
 
@@ -43,7 +44,7 @@ impl Pair<'_> {
     pub fn mark(&self) -> u64
         ensures { let c = choice_of self.now.pass.now in result ≡ mark (strategy_at c self.now.i) (strategy_at c self.now.k) }
     {
-        let choice = &self.pass.draft.choice;
+        let choice = &self.pass.planning.draft.choice;
         (COLUMNS * choice[self.i - 1] + choice[self.k - 1] + 1) as u64
     }
 }

@@ -1,28 +1,25 @@
 // A pass over the changes of a programme, up to the first that counts.
 ghost use Rattle.std.specs.Prelude.{◌≡◌, ℕ, ◌-◌, ◌^◌, ◌≤◌, get_or};
 ghost use Rattle.rules.specs.District.{most_resources};
-ghost use Rattle.tables.specs.Views.{Drafted};
 ghost use Rattle.phase3.specs.Improve.{Tops};
 ghost use Rattle.phase3.specs.Memory.{Slacks};
 
 use crate::OFFSET;
-use crate::change::{Change, Move};
+use crate::change::Change;
 use crate::leaders::Changed;
 use crate::memory::Memory;
 use crate::pair::Pair;
 use rules::places::{MOST_RESOURCES, MOST_SEGMENTS};
-use tables::{Draft, LimitList, TableView};
+use tables::{LimitList, Move, Planning};
 
 // What a pass reads: the table, the programme as it stands, each segment's greatest benefit, and each resource's slack.
 #[derive(Clone, Copy)]
 pub struct Pass<'a> {
-    pub t: TableView<'a>,
-    pub draft: &'a Draft,
+    pub planning: &'a Planning<'a>,
     pub tops: &'a [u64; MOST_SEGMENTS],
     pub slacks: [u64; MOST_RESOURCES],
-    pub ghost running: { Drafted t draft.now },
-    pub ghost topped: { Tops t.size t.benefits.entries.now tops.now },
-    pub ghost slack: { Slacks t.size.resources t.limits.entries.now draft.now.sums slacks },
+    pub ghost topped: { let t = planning.now.t in Tops t.size t.benefits.entries.now tops.now },
+    pub ghost slack: { let p = planning.now in Slacks p.t.size.resources p.t.limits.entries.now p.draft.sums slacks },
 }
 
 // Each resource's slack, where the first so many sums are small.
@@ -36,8 +33,8 @@ pub fn slacks_of(
     ensures { Slacks resources limits.entry.entries.now sums.now result }
 {
     let mut each = [0u64; MOST_RESOURCES];
-    for r in 0..resources {
-        each[r] = limits.entries[r] + OFFSET - sums[r];
+    for (r, slack) in each[..resources].iter_mut().enumerate() {
+        *slack = limits.entries[r] + OFFSET - sums[r];
     }
     each
 }
@@ -47,7 +44,7 @@ impl Pass<'_> {
     ghost use Rattle.rules.specs.Phases.{another, first_single, first_pair, change};
     ghost use Rattle.tables.specs.Arrays.{Cell};
     ghost use Rattle.phase3.specs.Improve.{counts_one};
-    ghost use Rattle.phase3.specs.Views.{table_of, leaders_of, choice_of, of_pair, FoundBy, Kept};
+    ghost use Rattle.phase3.specs.Views.{table_of, leaders_of, choice_of, of_segment, of_pair, FoundBy, Kept};
 
     // Strategy a is not the one that segment i has, and is a candidate or nothing.
     #[tactic(auto, unfolding(rules::specs::Phases::another, rules::specs::Phases::is_candidate))]
@@ -55,47 +52,48 @@ impl Pass<'_> {
         requires { Cell i a }
         ensures { result ≡ another (table_of self.now) (choice_of self.now) i a }
     {
-        a != self.draft.choice[i - 1] && (a == 0 || self.t.benefits.at(i, a) > 0)
+        let planning = self.planning;
+        a != planning.draft.choice[i - 1] && (a == 0 || planning.t.benefits.at(i, a) > 0)
     }
 
     // Giving segment i strategy a counts. A strategy of greater benefit is another one, and a candidate.
     #[tactic(auto, using(crate::proofs::ChangeSearch::low_one, crate::proofs::ChangeSearch::high_one, tables::proofs::Moves::places))]
     fn counts_one(&self, i: usize, a: usize) -> bool
-        requires { (1 ≤ i) × (i ≤ self.now.t.size.segments) × (a ≤ self.now.t.size.strategies) }
+        requires { (1 ≤ i) × (i ≤ self.now.planning.now.t.size.segments) × (a ≤ self.now.planning.now.t.size.strategies) }
         ensures { result ≡ counts_one (table_of self.now) (leaders_of self.now) (choice_of self.now) i a }
     {
-        let t = &self.t;
-        if t.benefits.at(i, a) <= t.benefits.chosen(&self.draft.choice, i) {
+        let t = &self.planning.t;
+        let choice = &self.planning.draft.choice;
+        if t.benefits.at(i, a) <= t.benefits.chosen(choice, i) {
             return false;
         }
-        if !self.draft.fits(t.size, t.uses, t.limits, i, a) {
+        if !self.planning.fits(Move(i, a)) {
             return false;
         }
         let changed = Changed {
-            choice: &self.draft.choice,
-            first: Move(i, a),
-            second: Move(i, a),
+            choice,
+            change: Change::One(Move(i, a)),
         };
         changed.respects_leaders(t.leaders, t.size.segments)
     }
 
-    // The first single change that counts, segment by segment: nothing before strategy 1, and so on up.
-    #[tactic(auto, using(crate::proofs::ChangeSearch::single_none, crate::proofs::ChangeSearch::singles_none, crate::proofs::ChangeSearch::singles_end, crate::proofs::ChangeSearch::single_found))]
+    // The first change of segment i alone that counts: nothing before strategy 1, and so on up.
+    fn first_of_segment(&self, i: usize) -> Option<Change>
+        requires { (1 ≤ i) × (i ≤ self.now.planning.now.t.size.segments) }
+        ensures { FoundBy (of_segment i) self.now result }
+    {
+        let strategies_end = self.planning.t.size.strategies + 1;
+        (0..strategies_end)
+            .find(|a| self.counts_one(i, *a))
+            .map(|a| Change::One(Move(i, a)))
+    }
+
+    // The first single change that counts, segment by segment.
     fn first_one(&self) -> Option<Change>
         ensures { FoundBy first_single self.now result }
     {
-        let mut found = None;
-        let segments_end = self.t.size.segments + 1;
-        let strategies_end = self.t.size.strategies + 1;
-        'search: for i in 1..segments_end {
-            for a in 0..strategies_end {
-                if self.counts_one(i, a) {
-                    found = Some(Change::One(Move(i, a)));
-                    break 'search;
-                }
-            }
-        }
-        found
+        let segments_end = self.planning.t.size.segments + 1;
+        (1..segments_end).find_map(|i| self.first_of_segment(i))
     }
 
     // The first pair of segments i and k that counts, without a look where none can rise, or where the memory still holds.
@@ -108,7 +106,7 @@ impl Pass<'_> {
         asked: &mut usize,
     ) -> Option<Change>
         requires memory { Kept self.now memory.old }
-        requires le_i { (1 ≤ i) × (i < k) × (k ≤ self.now.t.size.segments) }
+        requires le_i { (1 ≤ i) × (i < k) × (k ≤ self.now.planning.now.t.size.segments) }
         ensures found { FoundBy (of_pair i k) self.now result }
         ensures memory { Kept self.now memory.new }
     {
@@ -127,21 +125,20 @@ impl Pass<'_> {
         ensures found { FoundBy first_pair self.now result }
         ensures memory { Kept self.now memory.new }
     {
-        let mut found = None;
         let mut asked: usize = 0;
-        let segments_end = self.t.size.segments + 1;
-        'search: for i in 1..segments_end {
+        let segments_end = self.planning.t.size.segments + 1;
+        for i in 1..segments_end {
             for k in i + 1..segments_end {
                 if let Some(change) = self.first_of_pair(i, k, memory, &mut asked) {
-                    found = Some(change);
-                    break 'search;
+                    return Some(change);
                 }
             }
         }
-        found
+        None
     }
 
-    // The first change that counts: single changes come before pairs.
+    // The first change that counts: single changes come before pairs. A match: with `or_else` a proof knows nothing of what the
+    // closure leaves in the memory.
     #[tactic(auto, using(crate::proofs::ChangeSearch::change_single))]
     pub fn first_change(&self, memory: &mut Memory) -> Option<Change>
         requires { Kept self.now memory.old }

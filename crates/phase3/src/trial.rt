@@ -2,11 +2,11 @@
 ghost use Rattle.std.specs.Prelude.{◌≤◌};
 
 use crate::OFFSET;
-use crate::change::Move;
+use crate::change::Change;
 use crate::leaders::Changed;
 use crate::look::Look;
 use crate::memory::Row;
-use tables::room_in;
+use tables::{Move, room_in};
 
 // Segment i would get strategy a, and segment k strategy b.
 #[derive(Clone, Copy)]
@@ -14,14 +14,22 @@ pub struct Trial<'a> {
     pub look: &'a Look<'a>,
     pub a: usize,
     pub b: usize,
-    pub ghost strategies: { let z = look.now.pair.now.pass.now.t.size in (a ≤ z.strategies) × (b ≤ z.strategies) },
+    pub ghost strategies: { let z = look.now.pair.now.pass.now.planning.now.t.size in (a ≤ z.strategies) × (b ≤ z.strategies) },
 }
 
 impl Trial<'_> {
     ghost use Rattle.std.specs.Prelude.{◌≡◌, true, false};
     ghost use Rattle.rules.specs.Phases.{within, another};
     ghost use Rattle.phase3.specs.Memory.{lowered, IsShort};
-    ghost use Rattle.phase3.specs.Views.{size_at, table_at, choice_at, tried, room_at, excess_at, RefusalIn, PairTestIn};
+    ghost use Rattle.phase3.specs.Views.{size_at, table_at, choice_at, change_of, tried, room_at, excess_at, RefusalIn, PairTestIn};
+
+    // Both segments get their strategies.
+    pub fn change(&self) -> Change
+        ensures { result ≡ change_of self.now }
+    {
+        let pair = self.look.pair;
+        Change::Two(Move(pair.i, self.a), Move(pair.k, self.b))
+    }
 
     // Resource r suffices.
     fn has_room(&self, r: usize) -> bool
@@ -29,15 +37,13 @@ impl Trial<'_> {
         ensures { result ≡ room_at self.now r }
     {
         let pair = self.look.pair;
-        let pass = pair.pass;
+        let planning = pair.pass.planning;
         room_in(
-            pass.t.uses,
-            &pass.draft.sums,
+            planning.t.uses,
+            &planning.draft.sums,
             &self.look.given,
-            pair.i,
-            self.a,
-            pair.k,
-            self.b,
+            Move(pair.i, self.a),
+            Move(pair.k, self.b),
             r,
         )
     }
@@ -46,7 +52,7 @@ impl Trial<'_> {
     fn short_of(&self, asked: usize) -> Option<usize>
         ensures { IsShort (size_at self.now.look.now).resources (room_at self.now) result }
     {
-        let resources = self.look.pair.pass.t.size.resources;
+        let resources = self.look.pair.pass.planning.t.size.resources;
         if asked < resources && !self.has_room(asked + 1) {
             return Some(asked + 1);
         }
@@ -59,7 +65,7 @@ impl Trial<'_> {
         ensures { row.new ≡ lowered row.old r (excess_at self.now r) }
     {
         let pair = self.look.pair;
-        let t = &pair.pass.t;
+        let t = &pair.pass.planning.t;
         let more = t.uses.at(pair.i, self.a, r) + t.uses.at(pair.k, self.b, r);
         let excess = more + (t.limits.entries[r - 1] + OFFSET - self.look.given[r - 1]);
         row.excesses[r - 1] = excess.min(row.excesses[r - 1]);
@@ -82,7 +88,7 @@ impl Trial<'_> {
     pub fn refused_by_last(&self, row: &mut Row, asked: usize) -> bool
         ensures { RefusalIn self.now row.old row.new result }
     {
-        if self.look.pair.pass.t.size.resources <= asked || self.has_room(asked + 1) {
+        if self.look.pair.pass.planning.t.size.resources <= asked || self.has_room(asked + 1) {
             return false;
         }
         self.note(asked + 1, row);
@@ -98,7 +104,8 @@ impl Trial<'_> {
     {
         let pair = self.look.pair;
         let pass = pair.pass;
-        let benefits = pass.t.benefits;
+        let t = &pass.planning.t;
+        let benefits = t.benefits;
         let new = benefits.at(pair.i, self.a) + benefits.at(pair.k, self.b);
         if new <= pair.present_benefit() {
             return false;
@@ -111,10 +118,9 @@ impl Trial<'_> {
         }
         row.marked = 0;
         let changed = Changed {
-            choice: &pass.draft.choice,
-            first: Move(pair.i, self.a),
-            second: Move(pair.k, self.b),
+            choice: &pass.planning.draft.choice,
+            change: self.change(),
         };
-        changed.respects_leaders(pass.t.leaders, pass.t.size.segments)
+        changed.respects_leaders(t.leaders, t.size.segments)
     }
 }

@@ -1,5 +1,5 @@
 -- `phase3::look::Look::search` meets its contract: no pair that the loops passed counts, in this programme or any other that is tight.
-use mathlib.Core.Path.{sym, ◌∙◌}
+use mathlib.Core.Path.{sym}
 use borrow.Author.Count.{below_none, below_more}
 use native.Mathlib.Omega.{arith}
 use Rattle.phase3.proofs.ChangeSearch.{of_found}
@@ -10,8 +10,7 @@ use Rattle.phase3.proofs.look.Look.search.Goals.{then-with_may_count+else-loop-b
 pub loop-b-init : goal.loop-b-init
 loop-b-init c =
     let w = c.with_may_count.ensures in
-    let l = c.search in
-    (searching_lower _ _ _ _ _ w.lower w.tight l.invariant.0, below_none _, l.invariant.1)
+    (searching_lower _ _ _ _ _ w.lower w.tight c.loop-a.invariant, below_none _)
 
 pub loop-b-preserved : goal.loop-b-preserved
 loop-b-preserved c =
@@ -19,34 +18,28 @@ loop-b-preserved c =
     let l = c.loop-b in (
       searching_lower _ _ _ _ _ q.lower q.tight l.invariant.0,
       below_more _ _ (λ v lv. passed_lower _ _ _ _ _ _ v q.lower (l.invariant.1 v lv)) (q.passed c.if-counts.false),
-      l.invariant.2,
     )
 
-pub search-preserved : goal.search-preserved
-search-preserved c =
-    let l = c.search in
+pub loop-a-preserved : goal.loop-a-preserved
+loop-a-preserved c =
     let t = c.with_may_count.ensures in
     elim c.if-with_may_count.branch [
-      | then-with_may_count+else-loop-b-test w ↦ (
-        rw w.row-is
-            (searching_next _ _ _ _ _ w.loop-b.invariant.0
-            (passed_with _ _ _ _ _ w.loop-b.row _ (λ v lv. w.loop-b.invariant.1 v (omega arith)))),
-        w.found-is ∙ w.loop-b.invariant.2,
-      )
-      | else-with_may_count w ↦ (
-        rw w.row-is
-            (searching_next _ _ _ _ _ (searching_lower _ _ _ _ _ t.lower t.tight l.invariant.0) (t.passed w.if-with_may_count.false _)),
-        w.found-is ∙ l.invariant.1,
-      )
+      | then-with_may_count+else-loop-b-test w ↦
+          rw w.row-is
+          (searching_next _ _ _ _ _ w.loop-b.invariant.0
+          (passed_with _ _ _ _ _ w.loop-b.row _ (λ v lv. w.loop-b.invariant.1 v (omega arith))))
+      | else-with_may_count w ↦
+          rw w.row-is
+          (searching_next _ _ _ _ _ (searching_lower _ _ _ _ _ t.lower t.tight c.loop-a.invariant) (t.passed w.if-with_may_count.false _))
     ]
 
-pub returns-after-search : goal.returns-after-search
-returns-after-search c =
-    let l = c.search in
+pub returns : goal.returns
+returns c =
+    let g = c.loop-a.invariant in
     let s = c.args.self.now.setting in
     record {
-      found = rw l.invariant.1 (record { is = sym (searching_none _ _ _ _ _ l.invariant.0 (omega arith)); inside = tt });
-      holds = searching_holds _ _ _ _ _ l.invariant.0 (omega arith) (omega (arith, s.running.chosen.numbers c.args.self.now.pair.now.i, s.running.bounded.strategies)) (omega (arith, s.running.chosen.numbers c.args.self.now.pair.now.k, s.running.bounded.strategies));
+      found = record { is = sym (searching_none _ _ _ _ _ g (omega arith)); inside = tt };
+      holds = searching_holds _ _ _ _ _ g (omega arith) (omega (arith, s.running.chosen.numbers c.args.self.now.pair.now.i, s.running.bounded.strategies)) (omega (arith, s.running.chosen.numbers c.args.self.now.pair.now.k, s.running.bounded.strategies));
     }
 
 pub returns-then-counts : goal.returns-then-counts
@@ -56,11 +49,11 @@ returns-then-counts c =
     let s = c.args.self.now.setting in
     let found = q.counted c.if-counts.true in
     let g = searching_lower _ _ _ _ _ q.lower q.tight l.invariant.0 in record {
-      found = record {
+      found = rw c.change.ensures (record {
         is = sym (of_found _ _ _ _ _ _ _ s.above (omega arith) (λ v lv. g.before v lv _ (alike _ _ _ _ _ g)) (omega arith)
             (λ v lv. passed_lower _ _ _ _ _ _ v q.lower (l.invariant.1 v lv) _ (alike _ _ _ _ _ g))
             found.0);
-        inside = (s.low, s.above, s.high, omega arith, omega arith);
-      };
+        inside = ((s.low, omega (arith, s.above, s.high), omega arith), (omega (arith, s.low, s.above), s.high, omega arith), s.above);
+      });
       holds = unmarked_holds _ _ _ _ _ g found.1;
     }

@@ -9,7 +9,8 @@ pub overflow_add-at : goal.overflow_add-at
 overflow_add-at c =
     let pair = c.args.self.now.pair.now in
     let pass = pair.pass.now in
-    omega (arith, pass.topped.each pair.k (omega arith) (omega arith), top_le pass.t.size.strategies pass.t.benefits.held pair.k)
+    let t = pass.planning.now.t in
+    omega (arith, pass.topped.each pair.k (omega arith) (omega arith), top_le t.size.strategies t.benefits.held pair.k)
 
 pub returns : goal.returns
 returns c =

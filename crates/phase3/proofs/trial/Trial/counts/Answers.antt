@@ -23,4 +23,4 @@ returns c =
     (sym c.is_another.ensures ∙ c.if-not-is_another.false)
     (r.fits c.if-refused.false)
     _
-    c.respects_leaders.ensures
+    (rw c.change.ensures at c.respects_leaders.ensures)
