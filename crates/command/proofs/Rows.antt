@@ -1,7 +1,7 @@
 -- The rows of the table, by the names that they stand for.
-use Rattle.std.proofs.Common.{ℕ, zero, suc, ◌≡◌, ◌<◌, ◌≤◌, Bool, true, false, List, [], ◌∷◌, Option, None, Some, length, get_or, drop, map, cond, ◌&&◌, eqb, refl, sym, ap, ◌∙◌, arith}
+use Rattle.std.proofs.Common.{ℕ, zero, suc, ◌≡◌, ◌≤◌, Bool, true, false, List, [], ◌∷◌, Option, None, Some, drop, map, cond, ◌&&◌, eqb, refl, sym, ap, ◌∙◌, arith}
 use lib.Pointwise.{pointwise}
-use Rattle.std.specs.List.{find}
+use Rattle.std.specs.List.{find, slice_get}
 use Rattle.base.specs.Choice.{pick}
 use Rattle.base.specs.Same.{same}
 use Rattle.command.specs.declared.Command.{Command}
@@ -52,26 +52,26 @@ few_taken Name.Step = omega arith
 
 -- ---- by the row's number
 
-made_at : (ns : List Name) (i : ℕ) (n : Name) (v : ℕ → ℕ) → i < length ns → n ≡ get_or ns i n → first_made (drop i (map row_of ns)) v ≡ made n v
+first_at : (ns : List Name) (i : ℕ) (n : Name) (v : ℕ → ℕ) → slice_get ns i ≡ Some n → first_made (drop i (map row_of ns)) v ≡ made n v
 unfolding first_made
-made_at [] i n v h e = absurd (omega arith)
-made_at (m ∷ ns) zero n v h e = rw (row_name m, ← e)
-made_at (m ∷ ns) (suc i) n v h e = made_at ns i n v (omega arith) e
+first_at [] i n v e = absurd (let z : ◌≡◌ {A = ℕ} 0 1 = cc in omega arith)
+first_at (m ∷ ns) zero n v e = let z : m ≡ n = cc in rw (row_name m, z)
+first_at (m ∷ ns) (suc i) n v e = first_at ns i n v e
 
-none_at : (ns : List Name) (i : ℕ) (v : ℕ → ℕ) → length ns ≤ i → first_made (drop i (map row_of ns)) v ≡ Command.Unknown
+none_at : (ns : List Name) (i : ℕ) (v : ℕ → ℕ) → slice_get ns i ≡ None → first_made (drop i (map row_of ns)) v ≡ Command.Unknown
 unfolding first_made
-none_at [] zero v h = refl
-none_at [] (suc i) v h = refl
-none_at (m ∷ ns) zero v h = absurd (omega arith)
-none_at (m ∷ ns) (suc i) v h = none_at ns i v (omega arith)
+none_at [] zero v e = refl
+none_at [] (suc i) v e = refl
+none_at (m ∷ ns) zero v e = absurd (let z : ◌≡◌ {A = ℕ} 0 1 = cc in omega arith)
+none_at (m ∷ ns) (suc i) v e = none_at ns i v e
 
-pub numbered_at : (i : ℕ) (n : Name) (v : ℕ → ℕ) → i < 18 → n ≡ get_or names i n → numbered i v ≡ made n v
+pub numbered_at : (i : ℕ) (n : Name) (v : ℕ → ℕ) → slice_get names i ≡ Some n → numbered i v ≡ made n v
 unfolding numbered rows
-numbered_at i n v h e = made_at names i n v h e
+numbered_at i n v e = first_at names i n v e
 
-pub numbered_past : (i : ℕ) (v : ℕ → ℕ) → 18 ≤ i → numbered i v ≡ Command.Unknown
+pub numbered_past : (i : ℕ) (v : ℕ → ℕ) → slice_get names i ≡ None → numbered i v ≡ Command.Unknown
 unfolding numbered rows
-numbered_past i v h = none_at names i v h
+numbered_past i v e = none_at names i v e
 
 -- ---- by the word
 

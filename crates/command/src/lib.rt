@@ -2,8 +2,10 @@
 #![tactic(auto)]
 
 ghost use Rattle.std.specs.Prelude.{◌≡◌, ◌≤◌, Some, MatchOption};
+ghost use Rattle.std.specs.List.{slice_get};
+ghost use Rattle.std.specs.Option.{unwrap_or};
 ghost use Rattle.base.specs.Same.{same};
-ghost use Rattle.command.specs.Reading.{is_space, number_in, first_number, after_number, arguments, at, placed, path_of, is_path, made, numbered as Reading·numbered, taken, meant, rows, row_of, called as Reading·called, is_comment, queued_in, command_in, count_of};
+ghost use Rattle.command.specs.Reading.{is_space, number_in, first_number, after_number, arguments, at, placed, path_of, is_path, made, numbered as Reading·numbered, taken, names, rows, row_of, called as Reading·called, is_comment, queued_in, command_in, count_of};
 
 use rules::{Edit, Sent};
 
@@ -86,6 +88,13 @@ impl Name {
         Name::Queue,
         Name::Step,
     ];
+
+    // The name of a row of the table, counted from 0. No TryFrom: an error would have nothing to tell.
+    pub fn at(row: usize) -> Option<Name>
+        ensures { result ≡ slice_get names row }
+    {
+        Name::ALL.get(row).copied()
+    }
 
     // The word that says it.
     #[tactic(auto, unfolding(crate::specs::Reading::row, base::specs::Text::text))]
@@ -197,11 +206,12 @@ fn is_path(path: &[u8]) -> bool
 
 // ---- commands
 
-fn make(name: Name, numbers: [usize; 4]) -> Command
-    ensures { result ≡ made name (at numbers) }
+// None where a number is too large for the name, and for queue, whose numbers are read by its own function.
+fn make(name: Name, numbers: [usize; 4]) -> Option<Command>
+    ensures { unwrap_or result Command.Unknown ≡ made name (at numbers) }
 {
     let [a, b, c, d] = numbers;
-    match name {
+    Some(match name {
         Name::Load => Command::Load,
         Name::Export => Command::Export,
         Name::Bar => Command::Alter(Edit::Bar(a, b)),
@@ -212,32 +222,25 @@ fn make(name: Name, numbers: [usize; 4]) -> Command
         Name::Points => Command::Points(a, b, c, d),
         Name::Page => Command::Page,
         Name::Why => Command::Why(a, b),
-        // The bits of a float are 32, and a number that has more is no command.
-        Name::Index => match u32::try_from(a) {
-            Ok(bits) => Command::Send(Sent::Index(bits)),
-            Err(_) => Command::Unknown,
-        },
-        Name::Marker => match u32::try_from(a) {
-            Ok(bits) => Command::Send(Sent::Marker(bits)),
-            Err(_) => Command::Unknown,
-        },
+        // The bits of a float are 32, and a number that has more is no command. The two read alike, and say different records.
+        Name::Index => Command::Send(Sent::Index(u32::try_from(a).ok()?)),
+        Name::Marker => Command::Send(Sent::Marker(u32::try_from(a).ok()?)),
         Name::Lost => Command::Send(Sent::Lost),
         Name::Roughness => Command::Roughness,
         Name::Leader => Command::Alter(Edit::SetLeader(a, b)),
         Name::Office => Command::Office(a),
-        Name::Queue => Command::Unknown,
+        Name::Queue => return None,
         Name::Step => Command::Step,
-    }
+    })
 }
 
 // The command of a row of the table, counted from 0, with its numbers; past the last row there is none.
 pub fn numbered(row: usize, numbers: [usize; 4]) -> Command
     ensures { result ≡ Reading·numbered row (at numbers) }
 {
-    match Name::ALL.get(row) {
-        Some(name) => make(*name, numbers),
-        None => Command::Unknown,
-    }
+    Name::at(row)
+        .and_then(|name| make(name, numbers))
+        .unwrap_or(Command::Unknown)
 }
 
 // The numbers behind the first word; a path has none, and an edit has them behind a word of its own.
@@ -253,40 +256,25 @@ fn take(takes: Takes, line: &[u8]) -> Option<[usize; 4]>
     }
 }
 
-// A word without what it takes is no command.
-#[tactic(auto, unfolding(crate::specs::Reading::meant, crate::specs::Reading::placed))]
-fn mean(name: Name, numbers: Option<[usize; 4]>) -> Command
-    ensures { result ≡ meant name (placed numbers) }
-{
-    match numbers {
-        Some(numbers) => make(name, numbers),
-        None => Command::Unknown,
-    }
-}
-
-// By the row whose word is the line's first.
-fn called(line: &[u8]) -> Command
-    ensures { result ≡ Reading·called rows line.now }
+// By the row whose word is the line's first; a word without what it takes is no command.
+fn called(line: &[u8]) -> Option<Command>
+    ensures { unwrap_or result Command.Unknown ≡ Reading·called rows line.now }
 {
     let word = text::up_to(line, BLANK);
-    match Name::ALL.iter().find(|name| name.is_said(word)) {
-        Some(name) => mean(*name, take(name.takes(), line)),
-        None => Command::Unknown,
-    }
+    let name = Name::ALL.iter().find(|name| name.is_said(word))?;
+    make(*name, take(name.takes(), line)?)
 }
 
 // Behind the word a console's number, and behind that an edit.
 #[tactic(auto, using(crate::proofs::Reading::queued_none, crate::proofs::Reading::queued_edit), unfolding(crate::specs::Reading::queued_in))]
-fn queue(line: &[u8]) -> Command
-    ensures { result ≡ queued_in line.now }
+fn queue(line: &[u8]) -> Option<Command>
+    ensures { unwrap_or result Command.Unknown ≡ queued_in line.now }
 {
     let rest = path(line);
-    let Some(console) = read_number(text::up_to(rest, BLANK)) else {
-        return Command::Unknown;
-    };
-    match called(path(rest)) {
-        Command::Alter(edit) => Command::Queue(console, edit),
-        _ => Command::Unknown,
+    let console = read_number(text::up_to(rest, BLANK))?;
+    match called(path(rest))? {
+        Command::Alter(edit) => Some(Command::Queue(console, edit)),
+        _ => None,
     }
 }
 
@@ -304,20 +292,26 @@ fn is_comment(line: &[u8]) -> bool
     line.starts_with(b"#")
 }
 
-pub fn parse(line: &[u8]) -> Command
-    ensures { result ≡ command_in line.now }
+fn read(line: &[u8]) -> Option<Command>
+    ensures { unwrap_or result Command.Unknown ≡ command_in line.now }
 {
     if is_comment(line) {
-        return Command::Nothing;
+        return Some(Command::Nothing);
     }
     if LONGEST_LINE < line.len() {
-        return Command::Unknown;
+        return None;
     }
     if line.iter().all(|byte| is_space(*byte)) {
-        return Command::Nothing;
+        return Some(Command::Nothing);
     }
     if Name::Queue.is_said(text::up_to(line, BLANK)) {
         return queue(line);
     }
     called(line)
+}
+
+pub fn parse(line: &[u8]) -> Command
+    ensures { result ≡ command_in line.now }
+{
+    read(line).unwrap_or(Command::Unknown)
 }

@@ -6,7 +6,6 @@ ghost use Rattle.std.specs.Prelude.{◌≡◌, ◌+◌, ◌≤◌, length, take}
 ghost use Rattle.base.specs.Text.{decimal, Writes, Put};
 ghost use Rattle.listing.specs.Listing.{named, ended, line, segment_line, segment_lines, steps_line, results, listing, shown, refusal as refusal_line, done, carried, stepped_in, planned, valued, pair_line, over_line, reason_line, explained, told, failed, longest_refusal, longest_stepped, longest_reason, longest_roughness, longest_listing};
 ghost use Rattle.rules.specs.Answers.{refusal_number, answer_in};
-ghost use Rattle.rules.specs.Desks.{console_number};
 
 use rules::places::{MOST_SEGMENTS, SEGMENT_COUNT};
 use rules::{Answer, Console, Programme, Reason, Refusal, Roughness, Unit};
@@ -138,12 +137,23 @@ pub fn put_shown(out: &mut [u8], u: &Unit) -> usize
 
 // ---- the answer to a call
 
+// A value or a refusal is a match in each writer, here and in the programs: one writer that takes the value's as a closure
+// was tried. Its contract says when the closure may be called and what it puts, and each caller needs a proof by hand.
+
+// Of any number, also one that is no refusal's.
 #[tactic(auto, using(crate::proofs::Lengths::refusal_few), unfolding(crate::specs::Listing::refusal, base::specs::Text::text))]
+pub fn put_refused(out: &mut [u8], number: usize) -> usize
+    requires { longest_refusal ≤ length out.old }
+    ensures { Put (refusal_line number) out.old out.new result }
+{
+    put_line(out, b"refused ", number)
+}
+
 pub fn put_refusal(out: &mut [u8], refusal: Refusal) -> usize
     requires { longest_refusal ≤ length out.old }
     ensures { Put (refusal_line (refusal_number refusal)) out.old out.new result }
 {
-    put_line(out, b"refused ", usize::from(refusal))
+    put_refused(out, usize::from(refusal))
 }
 
 #[tactic(auto, unfolding(crate::specs::Listing::done, base::specs::Text::text))]
@@ -157,13 +167,13 @@ pub fn put_done(out: &mut [u8], answer: Answer) -> usize
     }
 }
 
-// Of an edit that a step carried out, with its console.
+// Of an edit that a step carried out, with the number of its console.
 #[tactic(auto, using(base::proofs::Text::front_fits, crate::proofs::Pieces::second_fits, crate::proofs::Pieces::put_two, crate::proofs::Lengths::console_fits, crate::proofs::Lengths::carried_fits), unfolding(crate::specs::Listing::carried, base::specs::Text::text))]
-fn put_carried(out: &mut [u8], console: Console, answer: Answer) -> usize
+pub fn put_carried(out: &mut [u8], console: usize, answer: Answer) -> usize
     requires { longest_stepped ≤ length out.old }
-    ensures { Put (carried (console_number console) (answer_in answer)) out.old out.new result }
+    ensures { Put (carried console (answer_in answer)) out.old out.new result }
 {
-    let at = put_ended(out, b"console ", usize::from(console), b" ");
+    let at = put_ended(out, b"console ", console, b" ");
     at + put_done(&mut out[at..], answer)
 }
 
@@ -174,7 +184,7 @@ pub fn put_stepped(out: &mut [u8], stepped: Option<(Console, Answer)>) -> usize
     ensures { Put (stepped_in stepped) out.old out.new result }
 {
     match stepped {
-        Some((console, answer)) => put_carried(out, console, answer),
+        Some((console, answer)) => put_carried(out, usize::from(console), answer),
         None => put(out, b"idle\n"),
     }
 }

@@ -13,7 +13,8 @@ ghost use Rattle.meter.specs.Window.{record_of, bits_of, Counts, Holds, stepped,
 use rules::{Answer, Refusal, Roughness, Sent};
 use std::num::{f32_from_bits_with_nan, truncating_f32_to_u64};
 
-// A record of the van with its float.
+// A record of the van with its float; this form is prescribed. Index and marker stay two variants of one shape: what each does
+// to the window is another thing, and one variant with a flag would ask for the flag wherever it is matched.
 #[derive(Clone, Copy)]
 pub enum Record {
     Index(f32),
@@ -123,7 +124,7 @@ fn index(w: &mut Window, x: f32) -> Answer
     Ok(0)
 }
 
-// One record; `bits` are those of its float.
+// One record. `bits` stand beside it, as they were sent: its float forgets those of a NaN, and a marker's are to be given back.
 fn step(w: &mut Window, sent: Record, bits: u32) -> Answer
     ensures { (s : Sent) → sent ≡ record_of s → bits ≡ bits_of s → Follows w.old s (stepped result w.new) }
 {

@@ -1,4 +1,4 @@
--- `command::parse` meets its contract: the cases of a line, in order.
+-- `command::read` meets its contract: the cases of a line, in order.
 use Rattle.std.proofs.Common.{◌≡◌, ◌≤◌, ◌∙◌, ℕ, Bool, true, false, List, length, ap, sym, rules}
 use borrow.Author.Tests.{tests, le-ltb, lt-ltb}
 use Rattle.std.proofs.lemmas.Iterator.{YieldsList-from_slice}
@@ -8,7 +8,7 @@ use Rattle.base.specs.Text.{text}
 use Rattle.base.specs.Same.{same}
 use Rattle.command.specs.Reading.{is_space, is_comment, word_of, row, rows, called, queued_in, command_in}
 use Rattle.command.specs.declared.Command.{Command}
-use Rattle.command.proofs.parse.Goals as goal
+use Rattle.command.proofs.read.Goals as goal
 
 -- a line that is no comment and not too long
 module _ (line : List ℕ) (comment : is_comment line ≡ false) (long : length line ≤ 512) where
