@@ -1,6 +1,6 @@
 -- A file that does not load has one of the refusals for files; what a load gives, and a call that writes into a buffer.
 use Prim.Native.Nat.{ℕ, zero, suc, ◌+◌, ◌-◌, ◌≤◌, ◌<◌}
-use mathlib.Core.Path.{◌≡◌, refl, subst}
+use mathlib.Core.Path.{◌≡◌, subst}
 use mathlib.Core.List.{List, [], ◌∷◌, ◌++◌}
 use native.Mathlib.Omega.{arith}
 use lib.Dec.{leb, ltb, eqb}
@@ -9,9 +9,9 @@ use lib.ListN.{length, take, drop}
 use Rattle.base.proofs.Choice.{pick_all}
 use Rattle.base.specs.Bytes.{number_of}
 use Rattle.rules.specs.Answers.{unless, answer_of, accepting, cut_short, other_kind, other_length, out_of_range, bytes_follow, Accepted, Refused}
-use Rattle.rules.specs.Calls.{load_refusal_of, load_refusal, loaded_of, exported}
+use Rattle.rules.specs.Calls.{load_refusal_of, loaded_of, exported}
 use Rattle.rules.specs.District.{District}
-use Rattle.rules.specs.File.{Read, refused, found, value, size, read_numbers, kind_in, read_record, and_then, read_records, decode_as, form_in, decode}
+use Rattle.rules.specs.File.{Read, refused, found, value, size, read_numbers, kind_in, read_record, and_then, read_records, decode_as}
 use Rattle.rules.specs.Format.{present, field_at, inside, slot_of, file_records, Slot}
 use Rattle.file.specs.Forms.{load_refusal_as, district_as}
 
@@ -52,18 +52,6 @@ records_right form (suc m) n d bs = then (read_record d (slot_of form n) bs) (λ
 pub refusals_as : (form : ℕ) (file : List ℕ) (n : ℕ) → decode_as form file ≡ refused n → (1 ≤ n) × (n ≤ bytes_follow)
 unfolding decode_as
 refusals_as form file n e = subst Right e (records_right form file_records 0 [] file)
-
-pub refusals : (file : List ℕ) (n : ℕ) → decode file ≡ refused n → (1 ≤ n) × (n ≤ bytes_follow)
-unfolding decode
-refusals file n e = refusals_as (form_in file) file n e
-
-pub refusal_most : (file : List ℕ) → load_refusal file ≤ bytes_follow
-unfolding load_refusal load_refusal_of
-refusal_most file = go (decode file) refl
-  where
-    go : (r : Read) → decode file ≡ r → load_refusal_of (decode file) ≤ bytes_follow
-    go (refused n) e = rw e (refusals file n e).1
-    go (found d rest) e = rw e (omega arith)
 
 -- ---- what a load gives
 

@@ -1,23 +1,22 @@
 -- The rules' definitions one step at a time, as the loops take them.
 use Prim.Native.Nat.{ℕ, zero, suc, ◌+◌, ◌-◌, ◌*◌, ◌≤◌, ◌<◌}
 use mathlib.Core.Path.{◌≡◌, refl, sym, ap, ◌∙◌}
-use mathlib.Core.Bool.{◌&&◌, true, false}
+use mathlib.Core.Bool.{true, false}
 use mathlib.Core.List.{List, [], ◌∷◌, ◌++◌}
-use native.Mathlib.Nat.{add-zero}
 use native.Mathlib.Numerals.{add-one}
 use native.Mathlib.Omega.{arith}
 use lib.ListN.{length, get_or, take, drop, set, length-append, length-drop}
-use lib.Seq.{get_or-drop, drop-drop, take-suc-set, drop-set-add}
+use lib.Seq.{take-suc-set, drop-set-add}
 use Rattle.base.proofs.Bytes.{length_bytes}
 use Rattle.base.proofs.Choice.{picks, pick_yes, pick_no, pick_all}
 use Rattle.base.specs.Bytes.{bytes_of, number_of}
 use Rattle.rules.specs.District.{District}
-use Rattle.rules.specs.File.{refused, found, value, widths, size, read_numbers, kind_in, read_record, read_records, number_bytes, header_bytes, record_bytes, records_bytes, numbers_in_range, records_in_range}
-use Rattle.rules.specs.Format.{leader_form, present, field_at, inside, slot_of, file_records, Slot}
+use Rattle.rules.specs.File.{refused, found, value, widths, size, read_numbers, kind_in, read_record, read_records, number_bytes, header_bytes, record_bytes, records_bytes}
+use Rattle.rules.specs.Format.{present, field_at, inside, slot_of, file_records, Slot}
 use Rattle.rules.specs.declared.Field.{Field}
-use Rattle.rules.specs.Answers.{out_of_range, bytes_follow}
-use Rattle.grammar.specs.Places.{Ready}
-use Rattle.grammar.proofs.Slots.{width_small, few_places}
+use Rattle.rules.specs.Answers.{cut_short, other_kind, other_length, out_of_range, bytes_follow}
+use Rattle.grammar.specs.Places.{start_of, Ready}
+use Rattle.grammar.proofs.Slots.{width_small, few_places, start_next}
 
 -- one less to come
 pub less : (m n : ℕ) → n < m → m - n ≡ suc (m - (n + 1))
@@ -93,9 +92,9 @@ numbers_step m d s n place f h e =
     rw (less m n h, e, q)
 
 -- a record less to write
-pub records_step : (form : ℕ) (d : District) (n place : ℕ) (s : Slot) → n < file_records → s ≡ slot_of form n → records_bytes form (file_records - n) d n place ≡ record_bytes d s place ++ records_bytes form (file_records - (n + 1)) d (n + 1) (place + s.places)
+pub records_step : (form : ℕ) (d : District) (n place : ℕ) (s : Slot) → n < file_records → s ≡ slot_of form n → place ≡ start_of n → records_bytes form (file_records - n) d n (start_of n) ≡ record_bytes d s place ++ records_bytes form (file_records - (n + 1)) d (n + 1) (start_of (n + 1))
 unfolding records_bytes
-records_step form d n place s h e = rw (less file_records n h, e)
+records_step form d n place s h e p = rw (less file_records n h, e, p, start_next form n)
 
 pub length_records : (form m : ℕ) (d : District) (n place : ℕ) → length (records_bytes form m d n place) ≤ 464 * m
 unfolding records_bytes
@@ -107,14 +106,48 @@ length_records form (suc m) d n place =
 
 -- ---- reading a record
 
+-- the header, where the bytes have one
+pub header_length : (bs : List ℕ) → take 2 (take 4 bs) ≡ take 2 bs
+header_length [] = refl
+header_length (a ∷ []) = refl
+header_length (a ∷ b ∷ bs) = refl
+
+pub header_kind : (bs : List ℕ) → take 2 (drop 2 (take 4 bs)) ≡ take 2 (drop 2 bs)
+header_kind [] = refl
+header_kind (a ∷ []) = refl
+header_kind (a ∷ b ∷ []) = refl
+header_kind (a ∷ b ∷ c ∷ []) = refl
+header_kind (a ∷ b ∷ c ∷ d ∷ bs) = refl
+
 module _ (d : District) (s : Slot) (bs : List ℕ) where
   pub record_none : present d s ≡ false → read_record d s bs ≡ read_numbers s.places d s 0 [] bs
   unfolding read_record
   record_none t = sym (pick_no _ _ _ _ t refl)
 
-  pub record_there : present d s ≡ true → 4 ≤ length bs → kind_in bs ≡ s.kind → number_of (take 2 bs) ≡ size d s → size d s ≤ length bs - 4 → read_record d s bs ≡ read_numbers s.places d s 0 [] (drop 4 bs)
+-- one that the district has: its tests in their order
+module _ (d : District) (s : Slot) (bs : List ℕ) (t : present d s ≡ true) where
+  pub record_short : length bs < 4 → read_record d s bs ≡ refused cut_short
   unfolding read_record
-  record_there t l k n h = sym (search picks depth 10)
+  record_short h = sym (search picks depth 10)
+
+  module _ (l : 4 ≤ length bs) where
+    pub record_other : ¬ (kind_in bs ≡ s.kind) → read_record d s bs ≡ refused other_kind
+    unfolding read_record
+    record_other k = sym (search picks depth 10)
+
+    module _ (k : kind_in bs ≡ s.kind) where
+      pub record_unlike : ¬ (number_of (take 2 bs) ≡ size d s) → read_record d s bs ≡ refused other_length
+      unfolding read_record
+      record_unlike n = sym (search picks depth 10)
+
+      module _ (n : number_of (take 2 bs) ≡ size d s) where
+        pub record_cut : length bs - 4 < size d s → read_record d s bs ≡ refused cut_short
+        unfolding read_record
+        record_cut h = sym (search picks depth 10)
+
+        pub record_there : size d s ≤ length bs - 4 → read_record d s bs ≡ read_numbers s.places d s 0 [] (drop 4 bs)
+        unfolding read_record
+        record_there h = sym (search picks depth 10)
 
 -- ---- reading the file
 
@@ -135,15 +168,3 @@ pub records_over : (form n : ℕ) (d bs : List ℕ) → 0 < length bs → read_r
 unfolding read_records
 records_over form n d [] h = absurd (omega arith)
 records_over form n d (b ∷ bs) h = refl
-
--- ---- ranges
-
-pub range_step : (m : ℕ) (d : District) (s : Slot) (n place : ℕ) (f : Field) → n < m → f ≡ field_at d s n → numbers_in_range (m - n) d s n (drop (place + n) d) ≡ (inside f (get_or d (place + n) 0) && numbers_in_range (m - (n + 1)) d s (n + 1) (drop (place + (n + 1)) d))
-unfolding numbers_in_range
-range_step m d s n place f h e =
-    let q : place + (n + 1) ≡ place + n + 1 = omega arith in
-    rw (less m n h, e, q, get_or-drop (place + n) d 0 0, add-zero (place + n), drop-drop 1 (place + n) d)
-
-pub ranges_step : (d : District) (n place : ℕ) (s : Slot) → n < file_records → s ≡ slot_of leader_form n → records_in_range (file_records - n) d n (drop place d) ≡ (numbers_in_range s.places d s 0 (drop place d) && records_in_range (file_records - (n + 1)) d (n + 1) (drop (place + s.places) d))
-unfolding records_in_range
-ranges_step d n place s h e = rw (less file_records n h, e, drop-drop (slot_of leader_form n).places place d)

@@ -5,6 +5,7 @@ pub mod bytes;
 pub mod forms;
 mod ranges;
 mod reading;
+mod records;
 mod writing;
 
 ghost use Rattle.std.specs.Prelude.{true, ◌≡◌, IfOk};
@@ -26,14 +27,11 @@ pub fn load_as(form: Form, file: &[u8]) -> Result<District, Refusal>
     ensures district { IfOk result (λ d. d ≡ district_as (form_number form) file.now) }
 {
     let mut d = [0usize; DISTRICT_PLACES];
-    let mut at = 0;
-    let mut place = 0;
+    let mut rest = file;
     for n in 0..RECORDS {
-        let slot = grammar::slot_at(form, n);
-        at = reading::read_record(&mut d, file, at, slot, place)?;
-        place += slot.places;
+        rest = reading::read_record(&mut d, rest, records::nth(form, n))?;
     }
-    if at < file.len() {
+    if !rest.is_empty() {
         return Err(Refusal::BytesFollow);
     }
     Ok(d)

@@ -1,22 +1,21 @@
 // Writing a district's records. Each writer takes the tail of the buffer that follows what is written, and says how many bytes it wrote.
-ghost use Rattle.std.specs.Prelude.{◌++◌, ◌≡◌, ◌+◌, ◌≤◌, length, drop};
+ghost use Rattle.std.specs.Prelude.{◌++◌, ◌≡◌, ◌≤◌, length, drop};
 ghost use Rattle.rules.specs.File.{header_bytes, number_bytes, record_bytes, encode_as};
-ghost use Rattle.rules.specs.District.{district_places};
-ghost use Rattle.rules.specs.Format.{most_places};
 ghost use Rattle.grammar.specs.Slots.{form_number, slot_in};
 
-use crate::{bytes, reading};
-use grammar::{Form, Slot};
+use crate::records::Placed;
+use crate::{bytes, reading, records};
+use grammar::Form;
 use rules::District;
 use rules::records::RECORDS;
 
 // The length and the kind of the record, where the district has it.
-fn write_header(out: &mut [u8], d: &District, slot: Slot) -> usize
-    requires places_le_most_places { slot.places ≤ most_places }
-    requires slot_in_bounds { length (header_bytes d.now (slot_in slot)) ≤ length out.old }
-    ensures value { result ≡ length (header_bytes d.now (slot_in slot)) }
-    ensures out_after { out.new ≡ header_bytes d.now (slot_in slot) ++ drop (length (header_bytes d.now (slot_in slot))) out.old }
+fn write_header(out: &mut [u8], d: &District, placed: Placed) -> usize
+    requires { length (header_bytes d.now (slot_in placed.slot)) ≤ length out.old }
+    ensures value { result ≡ length (header_bytes d.now (slot_in placed.slot)) }
+    ensures out_after { out.new ≡ header_bytes d.now (slot_in placed.slot) ++ drop (length (header_bytes d.now (slot_in placed.slot))) out.old }
 {
+    let slot = placed.slot;
     if !grammar::is_present(d, slot) {
         return 0;
     }
@@ -25,39 +24,36 @@ fn write_header(out: &mut [u8], d: &District, slot: Slot) -> usize
     4
 }
 
-// The numbers of the record, which stand in the district from `place` on.
-fn write_numbers(out: &mut [u8], d: &District, slot: Slot, place: usize) -> usize
-    requires places_bound { place + slot.places ≤ district_places }
-    requires place_in_bounds { length (number_bytes slot.places d.now (slot_in slot) 0 place) ≤ length out.old }
-    ensures value { result ≡ length (number_bytes slot.places d.now (slot_in slot) 0 place) }
-    ensures out_after { out.new ≡ number_bytes slot.places d.now (slot_in slot) 0 place ++ drop (length (number_bytes slot.places d.now (slot_in slot) 0 place)) out.old }
+// The numbers of the record.
+fn write_numbers(out: &mut [u8], d: &District, placed: Placed) -> usize
+    requires { length (number_bytes placed.slot.places d.now (slot_in placed.slot) 0 placed.place) ≤ length out.old }
+    ensures value { result ≡ length (number_bytes placed.slot.places d.now (slot_in placed.slot) 0 placed.place) }
+    ensures out_after { out.new ≡ number_bytes placed.slot.places d.now (slot_in placed.slot) 0 placed.place ++ drop (length (number_bytes placed.slot.places d.now (slot_in placed.slot) 0 placed.place)) out.old }
 {
     let mut at = 0;
-    for (i, value) in d[place..place + slot.places].iter().enumerate() {
-        let f = grammar::field_at(d, slot, i);
+    for (i, value) in placed.numbers(d).iter().enumerate() {
+        let f = grammar::field_at(d, placed.slot, i);
         bytes::put(&mut out[at..], f.width, *value);
         at += f.width;
     }
     at
 }
 
-fn write_record(out: &mut [u8], d: &District, slot: Slot, place: usize) -> usize
-    requires places_le_most_places { (slot.places ≤ most_places) × (place + slot.places ≤ district_places) }
-    requires place_in_bounds { length (record_bytes d.now (slot_in slot) place) ≤ length out.old }
-    ensures value { result ≡ length (record_bytes d.now (slot_in slot) place) }
-    ensures out_after { out.new ≡ record_bytes d.now (slot_in slot) place ++ drop (length (record_bytes d.now (slot_in slot) place)) out.old }
+fn write_record(out: &mut [u8], d: &District, placed: Placed) -> usize
+    requires { length (record_bytes d.now (slot_in placed.slot) placed.place) ≤ length out.old }
+    ensures value { result ≡ length (record_bytes d.now (slot_in placed.slot) placed.place) }
+    ensures out_after { out.new ≡ record_bytes d.now (slot_in placed.slot) placed.place ++ drop (length (record_bytes d.now (slot_in placed.slot) placed.place)) out.old }
 {
-    let header = write_header(out, d, slot);
-    header + write_numbers(&mut out[header..], d, slot, place)
+    let header = write_header(out, d, placed);
+    header + write_numbers(&mut out[header..], d, placed)
 }
 
-// How many bytes the record has, wherever its numbers stand.
-fn record_length(d: &District, slot: Slot, place: usize) -> usize
-    requires { slot.places ≤ most_places }
-    ensures { result ≡ length (record_bytes d.now (slot_in slot) place) }
+// How many bytes the record has.
+fn record_length(d: &District, placed: Placed) -> usize
+    ensures { result ≡ length (record_bytes d.now (slot_in placed.slot) placed.place) }
 {
-    if grammar::is_present(d, slot) {
-        4 + reading::payload(d, slot)
+    if grammar::is_present(d, placed.slot) {
+        4 + reading::payload(d, placed.slot)
     } else {
         0
     }
@@ -66,14 +62,9 @@ fn record_length(d: &District, slot: Slot, place: usize) -> usize
 pub fn file_length(form: Form, d: &District) -> usize
     ensures { result ≡ length (encode_as (form_number form) d.now) }
 {
-    let mut sum = 0;
-    let mut place = 0;
-    for n in 0..RECORDS {
-        let slot = grammar::slot_at(form, n);
-        sum += record_length(d, slot, place);
-        place += slot.places;
-    }
-    sum
+    (0..RECORDS)
+        .map(|n| record_length(d, records::nth(form, n)))
+        .sum()
 }
 
 // Each record goes into what is left of the buffer.
@@ -82,10 +73,7 @@ pub fn write_file(out: &mut [u8], form: Form, d: &District)
     ensures { out.new ≡ encode_as (form_number form) d.now ++ drop (length (encode_as (form_number form) d.now)) out.old }
 {
     let mut at = 0;
-    let mut place = 0;
     for n in 0..RECORDS {
-        let slot = grammar::slot_at(form, n);
-        at += write_record(&mut out[at..], d, slot, place);
-        place += slot.places;
+        at += write_record(&mut out[at..], d, records::nth(form, n));
     }
 }

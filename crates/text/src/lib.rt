@@ -49,7 +49,8 @@ pub fn skip(bytes: &[u8], byte: u8) -> &[u8]
 
 // ---- digits
 
-// The value with one more digit behind it.
+// The value with one more digit behind it. Not by the library's parse, which begins at 0, where these go on behind other
+// digits, takes a `+` in front, and refuses no digits at all, which are 0 here.
 fn with_digit(value: usize, byte: u8) -> Option<usize>
     ensures { result ≡ held (value_from value (byte ∷ [])) }
 {

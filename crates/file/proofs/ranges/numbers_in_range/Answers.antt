@@ -1,28 +1,32 @@
 -- `numbers_in_range` meets its contract: the numbers are tested in their order.
-use Rattle.std.proofs.Common.{ℕ, zero, suc, ◌+◌, ◌≡◌, refl, ◌∙◌, add-zero, get_or, drop, arith, rules, tests}
-use Rattle.std.specs.List.{range_with_len, list_all}
-use Rattle.std.proofs.lemmas.Iterator.{YieldsList-from_range}
+use Rattle.std.proofs.Common.{ℕ, zero, suc, ◌+◌, ◌≤◌, ◌≡◌, Bool, List, [], ◌∷◌, refl, ◌∙◌, length, take, drop, length-drop, arith, rules, tests}
+use Rattle.std.specs.Iterator.Adapters.{enumerate_source}
+use Rattle.std.specs.List.{enumerate_from, list_all}
+use Rattle.std.proofs.lemmas.Iterator.{YieldsList-from_slice}
+use Rattle.std.proofs.lemmas.Iterator.Consumers.{YieldsList-from_enumerate}
 use Rattle.std.proofs.lemmas.Iterator.Search.{all_from_yields_List}
-use lib.Seq.{get_or-drop, drop-drop}
-use Rattle.rules.specs.District.{District}
+use Rattle.rules.specs.District.{District, district_places}
 use Rattle.rules.specs.File.{numbers_in_range}
 use Rattle.rules.specs.Format.{inside, field_at, Slot}
 use Rattle.grammar.specs.Slots.{slot_in}
 use Rattle.file.proofs.ranges.numbers_in_range.Goals as goal
 
-module _ (d : District) (s : Slot) (place : ℕ) where
-  listed : (m a : ℕ) → list_all (λ i. inside (field_at d s i) (get_or d (place + i) 0)) (range_with_len a m) ≡ numbers_in_range m d s a (drop (place + a) d)
+module _ (d : District) (s : Slot) where
+  abbrev fits : ℕ × ℕ → Bool
+  fits p = inside (field_at d s p.0) p.1
+
+  listed : (m n : ℕ) (vs : List ℕ) → m ≤ length vs → list_all fits (enumerate_from n (take m vs)) ≡ numbers_in_range m d s n vs
   unfolding numbers_in_range
-  listed zero a = refl
-  listed (suc m) a =
-      let q : place + (a + 1) ≡ place + a + 1 = omega arith in
-      rw (listed m (a + 1), q, get_or-drop (place + a) d 0 0, add-zero (place + a), drop-drop 1 (place + a) d)
+  listed zero n vs h = refl
+  listed (suc m) n [] h = absurd (omega arith)
+  listed (suc m) n (x ∷ vs) h = rw (listed m (n + 1) vs (omega arith))
 
 pub returns : goal.returns
 returns c =
     let d = c.args.d.now in
-    let s = slot_in c.args.slot in
-    let place = c.args.place in
-    let n = c.args.slot.places in
-    all_from_yields_List (λ i. inside (field_at d s i) (get_or d (place + i) 0)) _ _ c.all.result c.all.ensures.ran (YieldsList-from_range 0 n n refl (omega arith)) (λ x b q k. search (rules, tests))
-    ∙ rw (add-zero place) at (listed d s place n 0)
+    let p = c.args.placed in
+    let s = slot_in p.slot in
+    let all : length d ≡ district_places = search rules in
+    let room : p.slot.places ≤ length (drop p.place d) = simp length-drop (omega (arith, p.ready.room)) in
+    all_from_yields_List (fits d s) _ _ c.all.result c.all.ensures.ran (YieldsList-from_enumerate (YieldsList-from_slice {s = enumerate_source c.enumerate.result} c.numbers.result.now (rw c.enumerate.ensures.source c.iter.ensures.rest)) c.enumerate.ensures.count) (λ x b q k. search (rules, tests))
+    ∙ rw c.numbers.ensures.numbers (listed d s p.slot.places 0 (drop p.place d) room)

@@ -1,51 +1,27 @@
--- `records_in_range` meets its contract: the test in all is the test from here on.
-use Prim.Native.Nat.{ℕ, ◌+◌, ◌-◌}
-use mathlib.Core.Path.{◌≡◌, sym, ap, ◌∙◌}
-use mathlib.Core.Bool.{Bool, true, false, ◌&&◌}
-use native.Mathlib.Omega.{arith}
-use lib.ListN.{drop}
-use Rattle.rules.specs.File.{records_in_range}
-use Rattle.rules.specs.Format.{Slot, leader_form, file_records}
-use Rattle.grammar.proofs.Slots.{record_room, start_next}
-use Rattle.file.proofs.Steps.{ranges_step}
-use Rattle.grammar.specs.Slots.{slot_in}
+-- `records_in_range` meets its contract: the records are tested in their order.
+use Rattle.std.proofs.Common.{ℕ, zero, suc, ◌+◌, ◌≡◌, Bool, refl, ◌∙◌, drop, arith, rules, tests}
+use Rattle.std.specs.List.{range_with_len, list_all}
+use Rattle.std.proofs.lemmas.Iterator.{YieldsList-from_range}
+use Rattle.std.proofs.lemmas.Iterator.Search.{all_from_yields_List}
+use lib.Seq.{drop-drop}
+use Rattle.rules.specs.District.{District}
+use Rattle.rules.specs.File.{numbers_in_range, records_in_range}
+use Rattle.rules.specs.Format.{leader_form, slot_of, file_records}
+use Rattle.grammar.specs.Places.{start_of}
+use Rattle.grammar.proofs.Slots.{start_next}
 use Rattle.file.proofs.ranges.records_in_range.Goals as goal
-use Rattle.file.proofs.ranges.records_in_range.Goals.{After-numbers_in_range}
 
-tested : (c : After-numbers_in_range) (t : Bool) → c.numbers_in_range.result ≡ t → let l = c.loop-n in let d = c.args.d.now in records_in_range file_records d 0 d ≡ (t && records_in_range (file_records - (l.n + 1)) d (l.n + 1) (drop (l.place + c.slot_at-slot.result.places) d))
-tested c t e =
-    let l = c.loop-n in
-    let d = c.args.d.now in
-    let s = c.slot_at-slot in
-    l.invariant.0
-    ∙ ranges_step d l.n l.place (slot_in s.result) (omega arith) s.ensures
-    ∙ ap (λ (t : Bool). t && records_in_range (file_records - (l.n + 1)) d (l.n + 1) (drop (l.place + s.result.places) d)) (sym c.numbers_in_range.ensures ∙ e)
+module _ (d : District) where
+  abbrev fits : ℕ → Bool
+  fits n = let s = slot_of leader_form n in numbers_in_range s.places d s 0 (drop (start_of n) d)
 
-pub numbers_in_range-requires : goal.numbers_in_range-requires
-numbers_in_range-requires c =
-    let l = c.loop-n in
-    let p = ap (λ (s : Slot). s.places) c.slot_at-slot.ensures in
-    omega (arith, record_room leader_form l.n (omega arith), l.invariant.1)
-
-pub returns-then-not-numbers_in_range : goal.returns-then-not-numbers_in_range
-returns-then-not-numbers_in_range c = sym (tested (goal.at.returns-then-not-numbers_in_range c).After-numbers_in_range false c.if-not-numbers_in_range.true)
-
-pub overflow_add-place : goal.overflow_add-place
-overflow_add-place c =
-    let l = c.loop-n in
-    omega (arith, ap (λ (s : Slot). s.places) c.slot_at-slot.ensures, record_room leader_form l.n (omega arith), l.invariant.1)
-
-pub loop-n-preserved : goal.loop-n-preserved
-loop-n-preserved c =
-    let l = c.loop-n in (
-      tested (goal.at.loop-n-preserved c).After-numbers_in_range true c.if-not-numbers_in_range.false,
-      omega (arith, l.invariant.1, start_next leader_form l.n, ap (λ (s : Slot). s.places) c.slot_at-slot.ensures),
-    )
+  listed : (m n : ℕ) → list_all fits (range_with_len n m) ≡ records_in_range m d n (drop (start_of n) d)
+  unfolding records_in_range
+  listed zero n = refl
+  listed (suc m) n = rw (listed m (n + 1), start_next leader_form n, drop-drop (slot_of leader_form n).places (start_of n) d)
 
 pub returns : goal.returns
-unfolding records_in_range
 returns c =
-    let l = c.loop-n in
     let d = c.args.d.now in
-    let z : file_records - l.n ≡ 0 = omega arith in
-    sym (l.invariant.0 ∙ ap (λ (m : ℕ). records_in_range m d l.n (drop l.place d)) z)
+    all_from_yields_List (fits d) _ _ c.all.result c.all.ensures.ran (YieldsList-from_range 0 file_records file_records refl (omega arith)) (λ x b q k. search (rules, tests))
+    ∙ listed d file_records 0

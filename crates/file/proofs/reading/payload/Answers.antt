@@ -1,19 +1,36 @@
--- `payload` meets its contract: the sum so far and the widths to come are the size.
-use native.Mathlib.Omega.{arith}
-use Rattle.file.proofs.Steps.{widths_step, widths_small}
+-- `payload` meets its contract: the widths of the numbers in their order.
+use Rattle.std.proofs.Common.{ℕ, zero, suc, ◌+◌, ◌^◌, ◌≡◌, refl, ap, ◌∙◌, map, arith, rules}
+use Rattle.std.specs.List.{sum, range_with_len}
+use Rattle.std.proofs.lemmas.Iterator.{YieldsList-from_range, YieldsList-from_map}
+use Rattle.std.proofs.lemmas.List.Sums.{sum_by-cons}
+use Rattle.std.proofs.lemmas.Iterator.Consumers.{YieldsList-at, fits_from_yields_list, sum_from_yields_List}
+use Rattle.rules.specs.District.{District}
+use Rattle.rules.specs.File.{widths}
+use Rattle.rules.specs.Format.{field_at, Slot}
 use Rattle.grammar.specs.Slots.{slot_in}
+use Rattle.file.proofs.Steps.{widths_small}
 use Rattle.file.proofs.reading.payload.Goals as goal
 
-pub overflow_add-sum : goal.overflow_add-sum
-overflow_add-sum c =
-    let l = c.loop-i in
-    let a = c.args in
-    let f = c.field_at-sum in
-    omega (arith, widths_step a.slot.places a.d.now (slot_in a.slot) l.i f.result (omega arith) f.ensures, widths_small a.slot.places a.d.now (slot_in a.slot) 0)
+module _ (d : District) (s : Slot) where
+  abbrev width : ℕ → ℕ
+  width i = (field_at d s i).width
 
-pub loop-i-preserved : goal.loop-i-preserved
-loop-i-preserved c =
-    let l = c.loop-i in
-    let a = c.args in
-    let f = c.field_at-sum in
-    omega (arith, widths_step a.slot.places a.d.now (slot_in a.slot) l.i f.result (omega arith) f.ensures)
+  listed : (m n : ℕ) → sum (map width (range_with_len n m)) ≡ widths m d s n
+  listed zero n = refl
+  listed (suc m) n = sum_by-cons (λ x. x) (width n) (map width (range_with_len (n + 1) m)) ∙ ap (λ k. width n + k) (listed m (n + 1))
+
+pub sum-requires-clause-fits : goal.sum-requires-clause-fits
+sum-requires-clause-fits c =
+    let d = c.args.d.now in
+    let s = slot_in c.args.slot in
+    let n = c.args.slot.places in
+    fits_from_yields_list c.map.result (2 ^ 64) (YieldsList-from_map _ (width d s) (YieldsList-at c.map.ensures.source (YieldsList-from_range 0 n n refl (omega arith))) c.map.ensures.closure (λ x r q k. search rules))
+    (rw (listed d s n 0) (omega (arith, widths_small n d s 0)))
+
+pub returns : goal.returns
+returns c =
+    let d = c.args.d.now in
+    let s = slot_in c.args.slot in
+    let n = c.args.slot.places in
+    sum_from_yields_List c.map.result c.sum.result c.sum.ensures.ran (YieldsList-from_map _ (width d s) (YieldsList-at c.map.ensures.source (YieldsList-from_range 0 n n refl (omega arith))) c.map.ensures.closure (λ x r q k. search rules))
+    ∙ listed d s n 0

@@ -1,5 +1,4 @@
 use Prim.Native.Nat.{◌-◌}
-use mathlib.Core.Path.{◌≡◌}
 use Rattle.base.proofs.Buffers.{Written}
 use Rattle.rules.specs.File.{records_bytes, encode_as}
 use Rattle.rules.specs.Format.{file_records}
@@ -8,4 +7,4 @@ use Rattle.grammar.specs.Slots.{form_number}
 use Rattle.file.proofs.writing.write_file.Given as goal
 
 abbrev pub invariant-loop-n : goal.invariant-loop-n
-invariant-loop-n l = Written l.initial.out (encode_as (form_number l.form) l.d) (records_bytes (form_number l.form) (file_records - l.n) l.d l.n l.place) l.at l.out × (l.place ≡ start_of l.n)
+invariant-loop-n l = Written l.initial.out (encode_as (form_number l.form) l.d) (records_bytes (form_number l.form) (file_records - l.n) l.d l.n (start_of l.n)) l.at l.out

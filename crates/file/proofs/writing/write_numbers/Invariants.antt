@@ -5,4 +5,4 @@ use Rattle.grammar.specs.Slots.{slot_in}
 use Rattle.file.proofs.writing.write_numbers.Given as goal
 
 abbrev pub invariant-loop-i : goal.invariant-loop-i
-invariant-loop-i l = Written l.initial.out (number_bytes l.slot.places l.d (slot_in l.slot) 0 l.place) (number_bytes (l.slot.places - l.i) l.d (slot_in l.slot) l.i (l.place + l.i)) l.at l.out
+invariant-loop-i l = Written l.initial.out (number_bytes l.placed.slot.places l.d (slot_in l.placed.slot) 0 l.placed.place) (number_bytes (l.placed.slot.places - l.i) l.d (slot_in l.placed.slot) l.i (l.placed.place + l.i)) l.at l.out

@@ -15,9 +15,9 @@ returns-clause-out_after c =
     let a = c.args in
     let h = c.write_header-header in
     let w = c.write_numbers in
-    let H = header_bytes a.d.now (slot_in a.slot) in
-    let N = number_bytes a.slot.places a.d.now (slot_in a.slot) 0 a.place in
+    let H = header_bytes a.d.now (slot_in a.placed.slot) in
+    let N = number_bytes a.placed.slot.places a.d.now (slot_in a.placed.slot) 0 a.placed.place in
     let l = length-append H N in
-    let fits : length (H ++ (N ++ [])) ≤ length a.out.now = rw (append-nil N) c.requires.place_in_bounds in
-    let front = rw (sym h.ensures.value) at (written_front H (N ++ []) a.out.now h.new.out (omega (arith, c.requires.place_in_bounds)) h.ensures.out_after) in
+    let fits : length (H ++ (N ++ [])) ≤ length a.out.now = rw (append-nil N) c.requires in
+    let front = rw (sym h.ensures.value) at (written_front H (N ++ []) a.out.now h.new.out (omega (arith, c.requires)) h.ensures.out_after) in
     rw (append-nil N) at (written_all (written_more N [] front fits w.new.out w.ensures.out_after) refl).1
