@@ -12,7 +12,7 @@ use lib.ListN.{get_or, set, length, length-set}
 use lib.Seq.{get_or-set_same, get_or-set_other}
 use Rattle.base.specs.Over.{all}
 use Rattle.base.proofs.All.{all_true, all_fails}
-use Rattle.rules.specs.District.{most_strategies, most_resources}
+use Rattle.rules.specs.District.{most_resources}
 use Rattle.rules.specs.Table.{Table}
 use Rattle.rules.specs.Phases.{strategy_at, give, chosen_usage, used, holds, within, respects, another, pair, pairs_of}
 use Rattle.laws.proofs.Give.{kept, used_give}
@@ -26,7 +26,6 @@ use Rattle.phase3.specs.declared.memory.Row.{Row}
 use Rattle.phase3.specs.Memory.{
   offset,
   unreached,
-  mark,
   excess_of,
   lowered,
   IsShort,
@@ -48,7 +47,7 @@ use Rattle.phase3.proofs.ChangeSearch.{with_may_count, high_two, not_second, ove
 -- ---- a row that goes down
 
 pub lower_same : (row : Row) → Lower row row
-lower_same row = record { places = refl; marks = λ _. refl; down = λ r. omega arith }
+lower_same row = record { places = refl; strategies = λ _ e. e; down = λ r. omega arith }
 
 set_down : (row : List ℕ) (r v : ℕ) → v ≤ get_or row r 0 → (q : ℕ) → get_or (set row r v) q 0 ≤ get_or row q 0
 set_down [] r v h q = omega arith
@@ -61,16 +60,16 @@ lower_lowered : (row : Row) (r v : ℕ) → Lower row (lowered row r v)
 lower_lowered row r v =
     record {
       places = length-set row.excesses (r - 1) (min v (numbers row r));
-      marks = λ _. refl;
+      strategies = λ _ e. e;
       down = λ q. set_down row.excesses (r - 1) (min v (numbers row r)) (omega arith) (q - 1);
     }
 
--- the mark goes
-abbrev pub unmarked_as : Row → Row
-unmarked_as row = record { marked = 0; excesses = row.excesses }
+-- the strategies go
+abbrev pub for_none : Row → Row
+for_none row = record { holds_for = None; excesses = row.excesses }
 
-unmark : (row next : Row) → Lower row next → Lower row (unmarked_as next)
-unmark row next lower = record { places = lower.places; marks = λ h. absurd (omega arith); down = lower.down }
+drop_strategies : (row next : Row) → Lower row next → Lower row (for_none next)
+drop_strategies row next lower = record { places = lower.places; strategies = λ s e. absurd (cc); down = lower.down }
 
 -- ---- tight programmes
 
@@ -225,13 +224,13 @@ module _ {z : Size} {p u l c sums given : List ℕ} {i k : ℕ} (s : Setting z p
     pair_over next refused r e =
         pair_not next r.lower r.tight (λ d q. pair_none t leader d i k a b (over_two t leader d i k a b (r.short e d q)))
 
-    -- leaders decide of a pair that fits, and of programme c alone: the row has lost its mark
+    -- leaders decide of a pair that fits, and of programme c alone: the row has lost its strategies
     pub pair_test : (next : Row) (refused : Bool) → Refusal t c i k a b row next refused → present t c i k < t.benefit i a + t.benefit k b → another t c i a ≡ true → another t c k b ≡ true
-        → within t (give (give c i a) k b) ≡ true → (ok : Bool) → ok ≡ respects leader z.segments (give (give c i a) k b) → PairTest t leader c i k a b row (unmarked_as next) ok
+        → within t (give (give c i a) k b) ≡ true → (ok : Bool) → ok ≡ respects leader z.segments (give (give c i a) k b) → PairTest t leader c i k a b row (for_none next) ok
     pair_test next refused r h ei ek fit ok q =
         let known = high_two t leader c i a s.low (omega (arith, s.above, s.high)) (places s.running) k b s.above s.high h ei ek fit ∙ sym q in
         record {
-          lower = unmark row next r.lower;
+          lower = drop_strategies row next r.lower;
           tight = r.tight;
           counted = λ e. (known ∙ e, refl);
           passed = λ e d g. rw (g.same refl) (pair_none t leader c i k a b (known ∙ e));
@@ -240,18 +239,18 @@ module _ {z : Size} {p u l c sums given : List ℕ} {i k : ℕ} (s : Setting z p
 -- ---- the search of two segments
 
 module _ (t : Table) (leader : ℕ → ℕ) (c : List ℕ) (i k : ℕ) where
-  zero_mark : {row next : Row} → Lower row next → row.marked ≡ 0 → next.marked ≡ 0
-  zero_mark {row} {next} lower e = go next.marked refl
+  still_none : {row next : Row} → Lower row next → row.holds_for ≡ None → next.holds_for ≡ None
+  still_none {row} {next} lower e = go next.holds_for refl
     where
-      go : (m : ℕ) → next.marked ≡ m → next.marked ≡ 0
-      go zero q = q
-      go (suc m) q = absurd (omega (arith, lower.marks (omega arith)))
+      go : (o : Option (ℕ × ℕ)) → next.holds_for ≡ o → next.holds_for ≡ None
+      go None q = q
+      go (Some s) q = let had = lower.strategies s q in absurd (cc)
 
   alike_lower : {row next : Row} {d : List ℕ} → Lower row next → Alike t c i k next d → Alike t c i k row d
   alike_lower {row} {next} lower g =
       record {
         tight = tight_under (numbers row) (numbers next) (λ r _ _. lower.down r) g.tight;
-        same = λ e. g.same (zero_mark lower e);
+        same = λ e. g.same (still_none lower e);
       }
 
   pub searching_lower : {row next : Row} {a : ℕ} → Lower row next
@@ -260,7 +259,7 @@ module _ (t : Table) (leader : ℕ → ℕ) (c : List ℕ) (i k : ℕ) where
   searching_lower lower tight g =
       record {
         places = lower.places ∙ g.places;
-        marked = λ h. lower.marks h ∙ g.marked (omega (arith, lower.marks h));
+        strategies = λ s e. g.strategies s (lower.strategies s e);
         tight = tight g.tight;
         before = λ v lv d q. g.before v lv d (alike_lower lower q);
       }
@@ -271,7 +270,7 @@ module _ (t : Table) (leader : ℕ → ℕ) (c : List ℕ) (i k : ℕ) where
   -- first strategy a is done with
   pub searching_next : {row : Row} {a : ℕ} → Searching t leader c i k row a → PassedWith t leader c i k row a → Searching t leader c i k row (a + 1)
   searching_next {row} {a} g h =
-      record { places = g.places; marked = g.marked; tight = g.tight; before = below_more _ _ g.before h }
+      record { places = g.places; strategies = g.strategies; tight = g.tight; before = below_more _ _ g.before h }
 
   pub passed_with : (row : Row) (a : ℕ) → ((b : ℕ) → b < t.strategies + 1 → PassedPair t leader c i k row a b) → PassedWith t leader c i k row a
   passed_with row a h d q = with_none t leader d i k a (λ b lb. h b lb d q)
@@ -280,8 +279,8 @@ module _ (t : Table) (leader : ℕ → ℕ) (c : List ℕ) (i k : ℕ) where
     pub alike : Alike t c i k row c
     alike = record { tight = g.tight; same = λ _. refl }
 
-    pub unmarked_holds : row.marked ≡ 0 → Holds t leader i k row
-    unmarked_holds e x y few small m = absurd (omega (arith, e, m))
+    pub unused_holds : row.holds_for ≡ None → Holds t leader i k row
+    unused_holds e x y m = absurd (cc)
 
     -- all of them are
     module _ (h : t.strategies + 1 ≤ a) where
@@ -291,21 +290,21 @@ module _ (t : Table) (leader : ℕ → ℕ) (c : List ℕ) (i k : ℕ) where
       pub searching_none : pairs_of t leader c i k ≡ None
       searching_none = all_passed c alike
 
-      -- a row that still has its mark holds for the strategies of that
-      pub searching_holds : strategy_at c i ≤ most_strategies → strategy_at c k ≤ most_strategies → Holds t leader i k row
-      searching_holds few small x y few₂ small₂ e =
-          let m = g.marked (omega (arith, e)) in
-          let ex : x ≡ strategy_at c i = omega (arith, m, e) in
-          let ey : y ≡ strategy_at c k = omega (arith, m, e) in
-          rw (ex, ey) (λ d q. all_passed d (record { tight = q; same = λ z. absurd (omega (arith, e, z)) }))
+      -- a row that still has its strategies holds for them
+      pub searching_holds : Holds t leader i k row
+      searching_holds x y e =
+          let has : (x, y) ≡ (strategy_at c i, strategy_at c k) = g.strategies (x, y) e in
+          let ex : x ≡ strategy_at c i = ap (λ (s : ℕ × ℕ). s.0) has in
+          let ey : y ≡ strategy_at c k = ap (λ (s : ℕ × ℕ). s.1) has in
+          rw (ex, ey) (λ d q. all_passed d (record { tight = q; same = λ z. absurd (cc) }))
 
 -- a row with unreached numbers
 pub searching_start : {z : Size} {p u l c sums given : List ℕ} {row : Row} {i k : ℕ} → Setting z p u l c sums given i k → length row.excesses ≡ most_resources
-    → row.marked ≡ mark (strategy_at c i) (strategy_at c k) → ((r : ℕ) → 1 ≤ r → r ≤ z.resources → numbers row r ≡ unreached) → (leader : ℕ → ℕ) → Searching (tables z p u l) leader c i k row 0
-searching_start {z} {p} {u} {l} s wide marked h leader =
+    → row.holds_for ≡ Some (strategy_at c i, strategy_at c k) → ((r : ℕ) → 1 ≤ r → r ≤ z.resources → numbers row r ≡ unreached) → (leader : ℕ → ℕ) → Searching (tables z p u l) leader c i k row 0
+searching_start {z} {p} {u} {l} s wide fresh h leader =
     record {
       places = wide;
-      marked = λ _. marked;
+      strategies = λ _ e. cc;
       tight =
           record {
             places = places s.running;

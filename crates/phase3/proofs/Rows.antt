@@ -3,7 +3,7 @@ use Prim.Native.Nat.{ℕ, ◌-◌, ◌≤◌, ◌<◌}
 use mathlib.Core.Path.{◌≡◌, refl, sym, ◌∙◌}
 use mathlib.Core.Bool.{Bool, true, false, ◌&&◌, true≢false}
 use mathlib.Core.List.{List, []}
-use Rattle.std.specs.Prelude.{None}
+use Rattle.std.specs.Prelude.{Option, None, Some}
 use native.Mathlib.Omega.{arith}
 use borrow.Author.Tests.{ltb-true, eqb-true, eqb-false}
 use lib.Dec.{eqb}
@@ -20,10 +20,10 @@ use Rattle.tables.specs.Arrays.{tables, Running}
 use Rattle.tables.proofs.Arrays.{limit_at_lem}
 use Rattle.tables.proofs.Moves.{places}
 use Rattle.phase3.specs.declared.memory.Row.{Row}
-use Rattle.phase3.specs.Memory.{row_of, mark, Slacks, Holds, numbers, unmarked, Remembers, below, holds_still}
+use Rattle.phase3.specs.Memory.{row_of, same_strategies, Slacks, Holds, numbers, unused, Remembers, below}
 
 -- rows that hold for none
-pub remembers_start : (t : Table) (leader : ℕ → ℕ) (row : Row) → row.marked ≡ 0 → t.segments ≤ most_segments
+pub remembers_start : (t : Table) (leader : ℕ → ℕ) (row : Row) → row.holds_for ≡ None → t.segments ≤ most_segments
     → Remembers t leader (replicate most_segments (replicate most_segments row))
 remembers_start t leader row none many =
     let line : (i : ℕ) → i < most_segments → get_or (replicate most_segments (replicate most_segments row)) i [] ≡ replicate most_segments row =
@@ -31,11 +31,10 @@ remembers_start t leader row none many =
     record {
       places = length-replicate most_segments (replicate most_segments row);
       places_of = λ i l. rw (line i l) (length-replicate most_segments row);
-      each = λ i k low above high x y lx ly m.
-          absurd
-          (let z : (row_of (replicate most_segments (replicate most_segments row)) i k).marked ≡ 0 =
-          rw (line (i - 1) (omega (arith, many)), get_or-replicate most_segments (k - 1) row unmarked (omega (arith, many))) none in
-          omega (arith, z, m));
+      each = λ i k low above high x y m.
+          let z : (row_of (replicate most_segments (replicate most_segments row)) i k).holds_for ≡ None =
+          rw (line (i - 1) (omega (arith, many)), get_or-replicate most_segments (k - 1) row unused (omega (arith, many))) none in
+          absurd (cc);
     }
 
 module _ {t : Table} {leader : ℕ → ℕ} {rows : List (List Row)} (holds : Remembers t leader rows) (many : t.segments ≤ most_segments) where
@@ -65,11 +64,11 @@ module _ {t : Table} {leader : ℕ → ℕ} {rows : List (List Row)} (holds : Re
 
         go : (i₂ k₂ : ℕ) → 1 ≤ i₂ → i₂ < k₂ → k₂ ≤ t.segments → (b : Bool) → eqb i₂ i ≡ b → (d : Bool) → eqb k₂ k ≡ d → Holds t leader i₂ k₂ (row_of (set rows (i - 1) line) i₂ k₂)
         go i₂ k₂ low₂ above₂ high₂ true e true f =
-            rw (eqb-true i₂ i e, eqb-true k₂ k f, get_or-set_same rows (i - 1) line [] first, get_or-set_same (get_or rows (i - 1) []) (k - 1) row unmarked second) new
+            rw (eqb-true i₂ i e, eqb-true k₂ k f, get_or-set_same rows (i - 1) line [] first, get_or-set_same (get_or rows (i - 1) []) (k - 1) row unused second) new
         go i₂ k₂ low₂ above₂ high₂ true e false f =
             let ne = eqb-false k₂ k f in
             let ei = eqb-true i₂ i e in
-            rw (ei, get_or-set_same rows (i - 1) line [] first, get_or-set_other (get_or rows (i - 1) []) (k - 1) (k₂ - 1) row unmarked (λ z. ne (omega arith)))
+            rw (ei, get_or-set_same rows (i - 1) line [] first, get_or-set_other (get_or rows (i - 1) []) (k - 1) (k₂ - 1) row unused (λ z. ne (omega arith)))
             (rw ei at (holds.each i₂ k₂ low₂ above₂ high₂))
         go i₂ k₂ low₂ above₂ high₂ false e d f =
             let ne = eqb-false i₂ i e in
@@ -79,7 +78,7 @@ under : (slacks : List ℕ) (row : Row) (r : ℕ) → below slacks row r ≡ tru
 unfolding below
 under slacks row r q = ltb-true (get_or slacks (r - 1) 0) (numbers row r) q
 
--- a row whose mark names what segments i and k have, with every slack below its number, passes them over
+-- a row for the strategies that segments i and k have, with every slack below its number, passes them over
 module _ {z : Size} {leader : ℕ → ℕ} (p : List ℕ) {u l c sums slacks : List ℕ} {rows : List (List Row)} (holds : Remembers (tables z p u l) leader rows) (running : Running z u c sums)
     (are : Slacks z.resources l sums slacks) (i k : ℕ) (low : 1 ≤ i) (above : i < k) (high : k ≤ z.segments) where
   abbrev row : Row
@@ -89,13 +88,19 @@ module _ {z : Size} {leader : ℕ → ℕ} (p : List ℕ) {u l c sums slacks : L
   both true b q = (refl, q)
   both false b q = absurd (true≢false (sym q))
 
-  pub still_none : (m : ℕ) → m ≡ mark (strategy_at c i) (strategy_at c k) → holds_still z.resources slacks row m ≡ true → pairs_of (tables z p u l) leader c i k ≡ None
-  still_none m em e =
-      let parts = both (eqb row.marked m) (all z.resources (below slacks row)) e in
+  same : (o : Option (ℕ × ℕ)) (x y : ℕ) → same_strategies o x y ≡ true → o ≡ Some (x, y)
+  same None x y q = absurd (true≢false (sym q))
+  same (Some s) x y q =
+      let parts = both (eqb s.0 x) (eqb s.1 y) q in
+      let ex : s.0 ≡ x = eqb-true s.0 x parts.0 in
+      let ey : s.1 ≡ y = eqb-true s.1 y parts.1 in
+      rw (← ex, ← ey)
+
+  pub still_none : same_strategies row.holds_for (strategy_at c i) (strategy_at c k) && all z.resources (below slacks row) ≡ true → pairs_of (tables z p u l) leader c i k ≡ None
+  still_none e =
+      let parts = both (same_strategies row.holds_for (strategy_at c i) (strategy_at c k)) (all z.resources (below slacks row)) e in
       holds.each i k low above high (strategy_at c i) (strategy_at c k)
-      (omega (arith, running.chosen.numbers i, running.bounded.strategies))
-      (omega (arith, running.chosen.numbers k, running.bounded.strategies))
-      (eqb-true row.marked m parts.0 ∙ em)
+      (same row.holds_for (strategy_at c i) (strategy_at c k) parts.0)
       c
       (record {
         places = places running;

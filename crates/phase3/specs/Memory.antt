@@ -1,14 +1,15 @@
 -- What phase 3 remembers of two segments of which every pair of strategies that raises the total goes beyond a limit: the strategies that
 -- they have, and for each resource a number. While they have these strategies, and every resource's slack, its limit less its sum, is below
 -- its number, still no pair counts. A pair that leaders alone refuse is not remembered: it counts as soon as a third segment lets it.
-use Rattle.std.specs.Prelude.{ℕ, ◌+◌, ◌-◌, ◌*◌, ◌^◌, ◌≤◌, ◌<◌, ◌≡◌, min, Bool, true, false, ◌&&◌, List, [], eqb, ltb, get_or, set, length}
+use Rattle.std.specs.Prelude.{ℕ, ◌+◌, ◌-◌, ◌^◌, ◌≤◌, ◌<◌, ◌≡◌, min, Bool, true, false, ◌&&◌, List, [], eqb, ltb, get_or, set, length}
 use Rattle.std.specs.Prelude.{Option, None, Some}
+use Rattle.std.specs.Option.{option_eq}
 use Rattle.base.specs.Over.{all}
-use Rattle.rules.specs.District.{most_segments, most_strategies, most_resources}
+use Rattle.rules.specs.District.{most_segments, most_resources}
 use Rattle.rules.specs.Table.{Table}
 use Rattle.rules.specs.Phases.{strategy_at, give, used, within, another, pair, pairs_with, pairs_of}
 use Rattle.tables.specs.declared.Size.{Size}
-use Rattle.tables.specs.Arrays.{columns, usage_at, Benefits, Limits, Running}
+use Rattle.tables.specs.Arrays.{usage_at, Benefits, Limits, Running}
 use Rattle.tables.specs.Moves.{Budgets}
 use Rattle.phase3.specs.Improve.{counts_two}
 use Rattle.phase3.specs.declared.memory.Row.{Row}
@@ -19,10 +20,6 @@ offset = 2 ^ 48
 
 abbrev pub unreached : ℕ
 unreached = 2 ^ 50
-
--- the mark of a row that holds for strategies x and y; a row marked 0 holds for none
-abbrev pub mark : ℕ → ℕ → ℕ
-mark x y = columns * x + y + 1
 
 -- the excess of strategies a and b in resource r: what they use, less what is given up, which the budget has beyond the limit
 abbrev pub excess_of : List ℕ → List ℕ → List ℕ → ℕ → ℕ → ℕ → ℕ → ℕ → ℕ
@@ -39,12 +36,12 @@ numbers row r = get_or row.excesses (r - 1) 0
 
 -- the number for resource r goes down to v
 abbrev pub lowered : Row → ℕ → ℕ → Row
-lowered row r v = record { marked = row.marked; excesses = set row.excesses (r - 1) (min v (numbers row r)) }
+lowered row r v = record { holds_for = row.holds_for; excesses = set row.excesses (r - 1) (min v (numbers row r)) }
 
--- the numbers of a row went down or stayed, and its mark stayed or went
+-- the numbers of a row went down or stayed, and its strategies stayed or went
 pub record Lower (row next : Row) : Type 0 where
   pub places : length next.excesses ≡ length row.excesses
-  pub marks : 1 ≤ next.marked → next.marked ≡ row.marked
+  pub strategies : (s : ℕ × ℕ) → next.holds_for ≡ Some s → row.holds_for ≡ Some s
   pub down : (r : ℕ) → numbers next r ≤ numbers row r
 
 -- slacks, one for each resource, with the offset
@@ -59,18 +56,18 @@ pub record Tight (t : Table) (i k x y : ℕ) (row : ℕ → ℕ) (c : List ℕ) 
   pub second : strategy_at c k ≡ y
   pub short : (r : ℕ) → 1 ≤ r → r ≤ t.resources → t.limit r + offset < row r + used t c r
 
--- a row holds for the strategies that its mark names: of the programmes that are tight with them none has a pair that counts
+-- a row holds for its strategies: of the programmes that are tight with them none has a pair that counts
 abbrev pub Holds : Table → (ℕ → ℕ) → ℕ → ℕ → Row → Type 0
 Holds t leader i k row =
-    (x y : ℕ) → x ≤ most_strategies → y ≤ most_strategies → row.marked ≡ mark x y → (c : List ℕ) → Tight t i k x y (numbers row) c → pairs_of t leader c i k ≡ None
+    (x y : ℕ) → row.holds_for ≡ Some (x, y) → (c : List ℕ) → Tight t i k x y (numbers row) c → pairs_of t leader c i k ≡ None
 
 -- a row that holds for none
-abbrev pub unmarked : Row
-unmarked = record { marked = 0; excesses = [] }
+abbrev pub unused : Row
+unused = record { holds_for = None; excesses = [] }
 
 -- the row of segments i and k
 abbrev pub row_of : List (List Row) → ℕ → ℕ → Row
-row_of rows i k = get_or (get_or rows (i - 1) []) (k - 1) unmarked
+row_of rows i k = get_or (get_or rows (i - 1) []) (k - 1) unused
 
 -- every row of the memory holds
 pub record Remembers (t : Table) (leader : ℕ → ℕ) (rows : List (List Row)) : Type 0 where
@@ -88,10 +85,10 @@ pub record Setting (z : Size) (b u l c sums given : List ℕ) (i k : ℕ) : Type
   pub above : i < k
   pub high : k ≤ z.segments
 
--- what a search of segments i and k in programme c finds out is true of c, and as long as the row has its mark of every tight programme
+-- what a search of segments i and k in programme c finds out is true of c, and as long as the row has its strategies of every tight programme
 pub record Alike (t : Table) (c : List ℕ) (i k : ℕ) (row : Row) (d : List ℕ) : Type 0 where
   pub tight : Tight t i k (strategy_at c i) (strategy_at c k) (numbers row) d
-  pub same : row.marked ≡ 0 → d ≡ c
+  pub same : row.holds_for ≡ None → d ≡ c
 
 -- in such programmes no pair counts that gives segment i strategy a
 abbrev pub PassedWith : Table → (ℕ → ℕ) → List ℕ → ℕ → ℕ → Row → ℕ → Type 0
@@ -101,10 +98,10 @@ PassedWith t leader c i k row a = (d : List ℕ) → Alike t c i k row d → pai
 abbrev pub PassedPair : Table → (ℕ → ℕ) → List ℕ → ℕ → ℕ → Row → ℕ → ℕ → Type 0
 PassedPair t leader c i k row a b = (d : List ℕ) → Alike t c i k row d → pair t leader d i k a b ≡ None
 
--- where the search stands: the row has its mark or none, programme c is tight, and no first strategy below a counts
+-- where the search stands: the row has their strategies or none, programme c is tight, and no first strategy below a counts
 pub record Searching (t : Table) (leader : ℕ → ℕ) (c : List ℕ) (i k : ℕ) (row : Row) (a : ℕ) : Type 0 where
   pub places : length row.excesses ≡ most_resources
-  pub marked : 1 ≤ row.marked → row.marked ≡ mark (strategy_at c i) (strategy_at c k)
+  pub strategies : (s : ℕ × ℕ) → row.holds_for ≡ Some s → s ≡ (strategy_at c i, strategy_at c k)
   pub tight : Tight t i k (strategy_at c i) (strategy_at c k) (numbers row) c
   pub before : (v : ℕ) → v < a → PassedWith t leader c i k row v
 
@@ -121,16 +118,16 @@ pub record WithTest (t : Table) (c : List ℕ) (i k a : ℕ) (row next : Row) (m
   pub other : may ≡ true → another t c i a ≡ true
   pub passed : may ≡ false → (leader : ℕ → ℕ) → PassedWith t leader c i k next a
 
--- a test of a pair: one that counts takes the row's mark
+-- a test of a pair: one that counts takes the row's strategies
 pub record PairTest (t : Table) (leader : ℕ → ℕ) (c : List ℕ) (i k a b : ℕ) (row next : Row) (ok : Bool) : Type 0 where
   pub lower : Lower row next
   pub tight : Tight t i k (strategy_at c i) (strategy_at c k) (numbers row) c → Tight t i k (strategy_at c i) (strategy_at c k) (numbers next) c
-  pub counted : ok ≡ true → (counts_two t leader c i k a b ≡ true) × (next.marked ≡ 0)
+  pub counted : ok ≡ true → (counts_two t leader c i k a b ≡ true) × (next.holds_for ≡ None)
   pub passed : ok ≡ false → PassedPair t leader c i k next a b
 
--- the row's mark is m, and every slack is below its number
+-- a row for strategies x and y, and a slack that is below its number
+abbrev pub same_strategies : Option (ℕ × ℕ) → ℕ → ℕ → Bool
+same_strategies o x y = option_eq (λ s t. eqb s.0 t.0 && eqb s.1 t.1) o (Some (x, y))
+
 unfoldable pub below : List ℕ → Row → ℕ → Bool
 below slacks row r = ltb (get_or slacks (r - 1) 0) (numbers row r)
-
-abbrev pub holds_still : ℕ → List ℕ → Row → ℕ → Bool
-holds_still resources slacks row m = eqb row.marked m && all resources (below slacks row)

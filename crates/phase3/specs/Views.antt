@@ -1,5 +1,6 @@
 -- What the code's views of a pass, of two segments and of a look at them stand for.
-use Rattle.std.specs.Prelude.{ℕ, Bool, List, Option}
+use Rattle.std.specs.Prelude.{ℕ, Bool, ◌&&◌, List, Option}
+use Rattle.base.specs.Over.{all}
 use Rattle.rules.specs.Table.{Table}
 use Rattle.rules.specs.Phases.{strategy_at, give, singles_of, pairs_of}
 use Rattle.tables.specs.declared.Size.{Size}
@@ -15,7 +16,7 @@ use Rattle.phase3.specs.declared.pair.Pair.{Pair}
 use Rattle.phase3.specs.declared.look.Look.{Look}
 use Rattle.phase3.specs.declared.trial.Trial.{Trial}
 use Rattle.phase3.specs.Improve.{after, Found}
-use Rattle.phase3.specs.Memory.{row_of, mark, holds_still, excess_of, Holds, Remembers, Searching, Refusal, WithTest, PairTest}
+use Rattle.phase3.specs.Memory.{same_strategies, below, excess_of, Holds, Remembers, Searching, Refusal, WithTest, PairTest}
 
 -- a programme after its change
 abbrev pub changed : Changed → List ℕ
@@ -62,12 +63,11 @@ FoundAt p x = FoundBy (of_pair p.i p.k) p.pass.now x
 abbrev pub Kept : Pass → Memory → Type 0
 Kept p memory = Remembers (table_of p) (leaders_of p) memory.rows
 
--- the memory's row of two segments still holds
-abbrev pub holds_of : Pair → Memory → Bool
-holds_of p memory =
-    let pass = p.pass.now in
-    let c = choice_of pass in
-    holds_still pass.planning.now.t.size.resources pass.slacks (row_of memory.rows p.i p.k) (mark (strategy_at c p.i) (strategy_at c p.k))
+-- a row still holds for two segments
+abbrev pub holds_still : Pair → Row → Bool
+holds_still p row =
+    let c = choice_of p.pass.now in
+    same_strategies row.holds_for (strategy_at c p.i) (strategy_at c p.k) && all p.pass.now.planning.now.t.size.resources (below p.pass.now.slacks row)
 
 -- a look's row: that it holds, and where the search of its strategies stands
 abbrev pub HoldsAt : Look → Row → Type 0

@@ -57,12 +57,12 @@ pub fn improve(planning: &mut Planning<'_>) -> u64
     ensures value { let p = planning.old in result ≡ (phase3 (table_in p.t) (leaders_in p.t) p.draft.choice).count }
 {
     let tops = tops_of(planning.t.size, planning.t.benefits);
-    let unmarked = Row {
-        marked: 0,
+    let unused = Row {
+        holds_for: None,
         excesses: [0; MOST_RESOURCES],
     };
     let mut memory = Memory {
-        rows: [[unmarked; MOST_SEGMENTS]; MOST_SEGMENTS],
+        rows: [[unused; MOST_SEGMENTS]; MOST_SEGMENTS],
     };
     let mut changes: u64 = 0;
     while let Some(next) = next_change(planning, &tops, &mut memory) {

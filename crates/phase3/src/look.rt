@@ -23,10 +23,8 @@ impl<'a> Pair<'a> {
     pub fn look(&'a self) -> Look<'a>
         ensures { result.pair.now ≡ self.entry.now }
     {
-        let planning = self.pass.planning;
-        let t = &planning.t;
-        let x = planning.draft.choice[self.i - 1];
-        let y = planning.draft.choice[self.k - 1];
+        let t = &self.pass.planning.t;
+        let (x, y) = self.strategies();
         let given = budgets(
             t.size.resources,
             t.uses,
@@ -68,7 +66,8 @@ impl<'a> Look<'a> {
     }
 
     // The first change of both segments that counts, by the strategy of each. The row remembers which limits refused the
-    // others.
+    // others. The row is the pair's and `asked` the pass's, so one struct for both would be made of two loans for each pair.
+    // Loops, as of what a chain's closure changes, here both, a proof knows nothing.
     fn search(&'a self, row: &mut Row, asked: &mut usize) -> Option<Change>
         requires { SearchingAt self.now row.old 0 }
         ensures found { FoundAt self.now.pair.now result }
@@ -94,7 +93,7 @@ impl<'a> Look<'a> {
         ensures holds { HoldsAt self.now row.new }
     {
         *row = Row {
-            marked: self.pair.mark(),
+            holds_for: Some(self.pair.strategies()),
             excesses: [UNREACHED; MOST_RESOURCES],
         };
         self.search(row, asked)

@@ -2,7 +2,6 @@
 ghost use Rattle.std.specs.Prelude.{◌<◌, ◌≤◌};
 
 use crate::pass::Pass;
-use tables::COLUMNS;
 
 // Segments i and k in a pass.
 #[derive(Clone, Copy)]
@@ -17,7 +16,6 @@ impl Pair<'_> {
     ghost use Rattle.std.specs.Prelude.{◌≡◌, ◌^◌};
     ghost use Rattle.rules.specs.Phases.{strategy_at};
     ghost use Rattle.phase3.specs.Improve.{present, pair_may_rise};
-    ghost use Rattle.phase3.specs.Memory.{mark};
     ghost use Rattle.phase3.specs.Views.{table_of, choice_of};
 
     // The present benefit of both.
@@ -40,11 +38,11 @@ impl Pair<'_> {
         self.present_benefit() < tops[self.i - 1] + tops[self.k - 1]
     }
 
-    // The mark of a row that holds for the strategies of both.
-    pub fn mark(&self) -> u64
-        ensures { let c = choice_of self.now.pass.now in result ≡ mark (strategy_at c self.now.i) (strategy_at c self.now.k) }
+    // The strategies that they have.
+    pub fn strategies(&self) -> (usize, usize)
+        ensures { let c = choice_of self.now.pass.now in result ≡ (strategy_at c self.now.i, strategy_at c self.now.k) }
     {
         let choice = &self.pass.planning.draft.choice;
-        (COLUMNS * choice[self.i - 1] + choice[self.k - 1] + 1) as u64
+        (choice[self.i - 1], choice[self.k - 1])
     }
 }

@@ -96,8 +96,7 @@ impl Trial<'_> {
     }
 
     // The change counts, where strategy a is another one: the rise is tested first, then the limits, and leaders last. The row
-    // loses its mark where the limits hold: that leaders refuse the pair is not remembered, since a third segment may change
-    // that.
+    // holds for nothing from then on: that leaders refuse the pair is not remembered, since a third segment may change that.
     pub fn counts(&self, row: &mut Row, asked: &mut usize) -> bool
         requires { another (table_at self.now.look.now) (choice_at self.now.look.now) self.now.look.now.pair.now.i self.now.a ≡ true }
         ensures { PairTestIn self.now row.old row.new result }
@@ -116,7 +115,7 @@ impl Trial<'_> {
         if self.refused(row, asked) {
             return false;
         }
-        row.marked = 0;
+        row.holds_for = None;
         let changed = Changed {
             choice: &pass.planning.draft.choice,
             change: self.change(),

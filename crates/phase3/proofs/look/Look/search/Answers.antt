@@ -3,7 +3,7 @@ use mathlib.Core.Path.{sym}
 use borrow.Author.Count.{below_none, below_more}
 use native.Mathlib.Omega.{arith}
 use Rattle.phase3.proofs.ChangeSearch.{of_found}
-use Rattle.phase3.proofs.Remembered.{searching_lower, passed_lower, searching_next, passed_with, alike, searching_none, searching_holds, unmarked_holds}
+use Rattle.phase3.proofs.Remembered.{searching_lower, passed_lower, searching_next, passed_with, alike, searching_none, searching_holds, unused_holds}
 use Rattle.phase3.proofs.look.Look.search.Goals as goal
 use Rattle.phase3.proofs.look.Look.search.Goals.{then-with_may_count+else-loop-b-test, else-with_may_count}
 
@@ -36,10 +36,9 @@ loop-a-preserved c =
 pub returns : goal.returns
 returns c =
     let g = c.loop-a.invariant in
-    let s = c.args.self.now.setting in
     record {
       found = record { is = sym (searching_none _ _ _ _ _ g (omega arith)); inside = tt };
-      holds = searching_holds _ _ _ _ _ g (omega arith) (omega (arith, s.running.chosen.numbers c.args.self.now.pair.now.i, s.running.bounded.strategies)) (omega (arith, s.running.chosen.numbers c.args.self.now.pair.now.k, s.running.bounded.strategies));
+      holds = searching_holds _ _ _ _ _ g (omega arith);
     }
 
 pub returns-then-counts : goal.returns-then-counts
@@ -55,5 +54,5 @@ returns-then-counts c =
             found.0);
         inside = ((s.low, omega (arith, s.above, s.high), omega arith), (omega (arith, s.low, s.above), s.high, omega arith), s.above);
       });
-      holds = unmarked_holds _ _ _ _ _ g found.1;
+      holds = unused_holds _ _ _ _ _ g found.1;
     }
