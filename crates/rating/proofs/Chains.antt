@@ -1,4 +1,4 @@
--- Chains over the numbers 1 to n: what `(1..=n)` yields, and what `all` over it says.
+-- Chains over the numbers 1 to n: what `(1..=n)` yields, and what `all` and `sum` over it say.
 use Prim.Native.Nat.{ℕ, zero, suc, ◌+◌, ◌-◌}
 use mathlib.Core.Path.{◌≡◌, refl, sym, ap, ◌∙◌}
 use mathlib.Core.Bool.{Bool, true, false, ◌&&◌, and-true, and_assoc}
@@ -6,11 +6,13 @@ use native.Mathlib.Numerals.{add-one}
 use native.Mathlib.Omega.{arith}
 use Rattle.std.proofs.iter.runs.Sources.{nat_range_inclusive_steps}
 use Rattle.std.proofs.lemmas.Iterator.{YieldsList}
+use Rattle.std.proofs.lemmas.List.Sums.{sum_by-cons}
 use Rattle.std.specs.Iterator.{AlwaysYields}
-use Rattle.std.specs.List.{list_all, range_with_len}
+use Rattle.std.specs.List.{list_all, range_with_len, sum_by}
 use Rattle.std.specs.Range.{range_inclusive_start, range_inclusive_end, range_inclusive_exhausted, range_inclusive_len}
 use Rattle.std.specs.declared.ops.RangeInclusive.{RangeInclusive}
-use Rattle.base.specs.Over.{all}
+use Rattle.base.specs.Over.{all, sum}
+use Rattle.base.proofs.Sums.{sum_none, sum_next}
 
 -- ---- what the range yields
 
@@ -61,3 +63,17 @@ from_front (suc n) m f =
 pub all_listed : (n : ℕ) (f : ℕ → Bool) → list_all f (range_with_len 1 n) ≡ all n f
 unfolding all
 all_listed n f = let e : 0 + n ≡ n = omega arith in rw e at (from_front n 0 f)
+
+-- ---- their sum
+
+sum_front : (n m : ℕ) (f : ℕ → ℕ) → sum m f + sum_by f (range_with_len (m + 1) n) ≡ sum (m + n) f
+sum_front zero m f = let e : m + 0 ≡ m = omega arith in rw e (omega arith)
+sum_front (suc n) m f =
+    let e : m + suc n ≡ m + 1 + n = omega arith in
+    rw e (omega (arith, sum_by-cons f (m + 1) (range_with_len (m + 1 + 1) n), sum_next m f refl, sum_front n (m + 1) f))
+
+pub sum_listed : (n : ℕ) (f : ℕ → ℕ) → sum_by f (range_with_len 1 n) ≡ sum n f
+sum_listed n f =
+    let e : 0 + n ≡ n = omega arith in
+    let whole = rw e at (sum_front n 0 f) in
+    omega (arith, sum_none f, whole)

@@ -1,11 +1,11 @@
 // Document 01, "Rating and benefit", of a district that is lent, and of one strategy on one of its segments.
 #![tactic(auto)]
 
-ghost use Rattle.std.specs.Prelude.{◌≡◌, ℕ, ◌+◌, ◌-◌, ◌*◌, ◌≤◌, nat_abs};
+ghost use Rattle.std.specs.Prelude.{◌≡◌, true, false, MatchOption, ℕ, ℤ, ◌+◌, ◌-◌, ◌*◌, ◌≤◌, ◌<◌, nat_abs};
 ghost use Rattle.base.specs.Choice.{pick};
 ghost use Rattle.base.specs.Over.{sum, sum_z};
 ghost use Rattle.grammar.specs.Ranges.{Ranges};
-ghost use Rattle.rules.specs.District.{most_years, gains_at, percents_at, minima_at, bars_at, value_at, limit_place, greatest_place, strategy_place, pavement_place, segment_place, rating_place, gain_of, years_of, distresses_of, segments_of, barred_in};
+ghost use Rattle.rules.specs.District.{most_years, per_strategy, per_pavement, per_segment, value_at, limit_place, greatest_place, strategy_place, pavement_place, segment_place, gain_of, years_of, distresses_of, segments_of, barred_in};
 ghost use Rattle.rules.specs.Rating.{gain, survival, both_ends, credits, rating, effect, area, benefit, usage, scaled_limit, reaches, minimum_reached, years_reached, minima_reached, first_rating, overall_reached, permitted, fits_alone, candidate};
 ghost use Rattle.rules.specs.Phases.{chosen_usage, used as Phases·used};
 ghost use Rattle.rules.specs.Table.{has, candidate_benefit, usage_in, limit_in, table_of};
@@ -15,7 +15,15 @@ ghost use Rattle.rating.specs.Numbers.{Segment, Strategy, Distress, Year, Paveme
 use rules::District;
 use rules::places::*;
 
-// ---- what stands at its places: each reader below names another run of them
+// Segments, strategies, distress types, years and resources are numbers under a clause of specs/Numbers, and no types: ranges
+// count them and places are reckoned from them, so each call would wrap what a range gives, and each reader unwrap it.
+
+// The first number of a pavement type, and of a segment.
+const OVERALL: usize = 0;
+
+const PAVEMENT: usize = 0;
+
+// ---- what stands at its places
 
 pub fn limit_at(d: &District, r: usize) -> usize
     requires { Resource r }
@@ -31,62 +39,35 @@ fn greatest_at(d: &District, k: usize) -> usize
     d[GREATEST + (k - 1)]
 }
 
-fn requirement_at(d: &District, j: usize, r: usize) -> usize
-    requires { Strategy j × Resource r }
-    ensures { result ≡ value_at d.now (strategy_place j + (r - 1)) }
+// ---- the same at a place n of a strategy, of a pavement type and of a segment
+
+fn strategy_at(d: &District, j: usize, n: usize) -> usize
+    requires { Strategy j × (n < per_strategy) }
+    ensures { result ≡ value_at d.now (strategy_place j + n) }
 {
-    d[STRATEGIES + PER_STRATEGY * (j - 1) + (r - 1)]
+    d[STRATEGIES + PER_STRATEGY * (j - 1) + n]
 }
 
-// the byte of a gain, signed
-fn gain_byte(d: &District, j: usize, k: usize) -> usize
-    requires { Strategy j × Distress k }
-    ensures { result ≡ value_at d.now (strategy_place j + gains_at + (k - 1)) }
+fn pavement_at(d: &District, y: usize, n: usize) -> usize
+    requires { Pavement y × (n < per_pavement) }
+    ensures { result ≡ value_at d.now (pavement_place y + n) }
 {
-    d[STRATEGIES + PER_STRATEGY * (j - 1) + GAINS + (k - 1)]
+    d[PAVEMENTS + PER_PAVEMENT * (y - 1) + n]
 }
 
-fn percent_at(d: &District, j: usize, k: usize, t: usize) -> usize
-    requires { Strategy j × Distress k × Year t }
-    ensures { result ≡ value_at d.now (strategy_place j + percents_at + most_years * (k - 1) + (t - 1)) }
-{
-    d[STRATEGIES + PER_STRATEGY * (j - 1) + PERCENTS + MOST_YEARS * (k - 1) + (t - 1)]
-}
-
-fn overall_at(d: &District, y: usize) -> usize
-    requires { Pavement y }
-    ensures { result ≡ value_at d.now (pavement_place y) }
-{
-    d[PAVEMENTS + PER_PAVEMENT * (y - 1)]
-}
-
-fn minimum_at(d: &District, y: usize, k: usize, t: usize) -> usize
-    requires { Pavement y × Distress k × Year t }
-    ensures { result ≡ value_at d.now (pavement_place y + minima_at + most_years * (k - 1) + (t - 1)) }
-{
-    d[PAVEMENTS + PER_PAVEMENT * (y - 1) + MINIMA + MOST_YEARS * (k - 1) + (t - 1)]
-}
-
-fn pavement_at(d: &District, i: usize) -> usize
-    requires { Segment i }
-    ensures { result ≡ value_at d.now (segment_place i) }
-{
-    d[SEGMENTS + PER_SEGMENT * (i - 1)]
-}
-
-// a segment's indexes, length, width or bars
 pub fn segment_at(d: &District, i: usize, n: usize) -> usize
-    requires { Segment i × (n ≤ bars_at) }
+    requires { Segment i × (n < per_segment) }
     ensures { result ≡ value_at d.now (segment_place i + n) }
 {
     d[SEGMENTS + PER_SEGMENT * (i - 1) + n]
 }
 
-fn rating_at(d: &District, i: usize, k: usize) -> usize
-    requires { Segment i × Distress k }
-    ensures { result ≡ value_at d.now (rating_place i k) }
+// In a row for each distress type with a place for each year.
+fn row_place(k: usize, t: usize) -> usize
+    requires { Distress k × Year t }
+    ensures { result ≡ most_years * (k - 1) + (t - 1) }
 {
-    d[SEGMENTS + PER_SEGMENT * (i - 1) + RATINGS + (k - 1)]
+    MOST_YEARS * (k - 1) + (t - 1)
 }
 
 // Bit j − 1 of the segment's bars, by shift and mask.
@@ -97,7 +78,7 @@ pub fn barred(d: &District, i: usize, j: usize) -> bool
     (segment_at(d, i, BARS) >> (j - 1)) & 1 == 1
 }
 
-// Whether the district has both.
+// Whether the district has segment i and strategy j.
 fn has(d: &District, i: usize, j: usize) -> bool
     requires { Segment i }
     ensures { result ≡ has d.now i j }
@@ -113,9 +94,41 @@ fn reaches(z: i64, required: usize) -> bool
     required == 0 || (1000000 * required) as i64 <= z
 }
 
+// ---- a district in range
+
+// A district whose numbers are in the file's ranges.
+#[derive(Clone, Copy)]
+pub struct Ranged<'a> {
+    pub district: &'a District,
+    pub ghost in_range: { Ranges district.now },
+}
+
+impl Ranged<'_> {
+    // The sum of what each distress type gives. A loop: the library says of a signed `sum` nothing about its bound.
+    fn over_distresses<F: Fn(usize) -> i64>(&self, term: F) -> i64
+        requires callable { (k : ℕ) → Distress k → F.pre term k }
+        requires small { (k : ℕ) (z : ℤ) → Distress k → F.post term k z → nat_abs z ≤ 1000000000 }
+        ensures { (f : ℕ → ℤ) → ((k : ℕ) (z : ℤ) → Distress k → F.post term k z → z ≡ f k) → result ≡ sum_z (distresses_of self.now.district.now) f }
+    {
+        let mut sum: i64 = 0;
+        for k in 1..=self.district[DISTRESS_COUNT] {
+            sum += term(k);
+        }
+        sum
+    }
+
+    pub fn scaled_limit(&self, r: usize) -> u64
+        requires { Resource r }
+        ensures { result ≡ scaled_limit self.now.district.now r }
+    {
+        (limit_at(self.district, r) as u64) * 100000
+    }
+}
+
 // ---- one strategy on one segment
 
-// Strategy j on segment i of a district whose numbers are in the file's ranges: the arithmetic rests on that.
+// Strategy j on segment i of a district whose numbers are in the file's ranges: the arithmetic rests on that. That the district
+// has the segment is a clause where it is needed, and no ghost field, which the others would ask for as well.
 #[derive(Clone, Copy)]
 pub struct Treatment<'a> {
     pub ranged: Ranged<'a>,
@@ -133,7 +146,7 @@ impl<'a> Treatment<'a> {
         requires { Distress k }
         ensures { result ≡ gain_of self.now.ranged.district.now self.now.strategy k }
     {
-        let byte = gain_byte(self.ranged.district, self.strategy, k);
+        let byte = strategy_at(self.ranged.district, self.strategy, GAINS + (k - 1));
         if byte < 128 {
             byte as i64
         } else {
@@ -147,7 +160,7 @@ impl<'a> Treatment<'a> {
         ensures { result ≡ gain self.now.ranged.district.now self.now.segment self.now.strategy k }
     {
         let own = self.own_gain(k);
-        let current = rating_at(self.ranged.district, self.segment, k);
+        let current = segment_at(self.ranged.district, self.segment, RATINGS + (k - 1));
         let left = greatest_at(self.ranged.district, k) - current;
         let lowest = -(current as i64);
         lowest.max(own.min(left as i64))
@@ -160,7 +173,12 @@ impl<'a> Treatment<'a> {
     {
         let loss = segment_at(self.ranged.district, self.segment, TRAFFIC)
             * segment_at(self.ranged.district, self.segment, ENVIRONMENT)
-            * (100 - percent_at(self.ranged.district, self.strategy, k, t));
+            * (100
+                - strategy_at(
+                    self.ranged.district,
+                    self.strategy,
+                    PERCENTS + row_place(k, t),
+                ));
         1000000usize.saturating_sub(loss)
     }
 
@@ -190,15 +208,11 @@ impl<'a> Treatment<'a> {
         self.gain(k) * (self.survivals(k) as i64)
     }
 
-    // The credits of all distress types, summed. A loop, as below: the library says of a signed `sum` nothing about its bound.
+    // The credits of all distress types, summed.
     fn total_credits(&self) -> i64
         ensures { result ≡ sum_z (distresses_of self.now.ranged.district.now) (credits self.now.ranged.district.now self.now.segment self.now.strategy) }
     {
-        let mut sum: i64 = 0;
-        for k in 1..=self.ranged.district[DISTRESS_COUNT] {
-            sum += self.credits(k);
-        }
-        sum
+        self.ranged.over_distresses(|k| self.credits(k))
     }
 
     // One division, toward zero, after the whole sum.
@@ -228,7 +242,7 @@ impl<'a> Treatment<'a> {
         requires { Resource r }
         ensures { result ≡ usage self.now.ranged.district.now self.now.segment self.now.strategy r }
     {
-        self.area() * (requirement_at(self.ranged.district, self.strategy, r) as u64)
+        self.area() * (strategy_at(self.ranged.district, self.strategy, r - 1) as u64)
     }
 
     // ---- permitted
@@ -238,7 +252,7 @@ impl<'a> Treatment<'a> {
         requires { Distress k × Year t × (g ≡ gain self.now.ranged.district.now self.now.segment self.now.strategy k) }
         ensures { result ≡ rating self.now.ranged.district.now self.now.segment self.now.strategy k t }
     {
-        let current = rating_at(self.ranged.district, self.segment, k);
+        let current = segment_at(self.ranged.district, self.segment, RATINGS + (k - 1));
         (1000000 * current) as i64 + g * (self.survival(k, t) as i64)
     }
 
@@ -246,8 +260,8 @@ impl<'a> Treatment<'a> {
         requires { (self.now.segment ≤ segments_of self.now.ranged.district.now) × Distress k × Year t × (g ≡ gain self.now.ranged.district.now self.now.segment self.now.strategy k) }
         ensures { result ≡ minimum_reached self.now.ranged.district.now self.now.segment self.now.strategy k t }
     {
-        let pavement = pavement_at(self.ranged.district, self.segment);
-        let required = minimum_at(self.ranged.district, pavement, k, t);
+        let pavement = segment_at(self.ranged.district, self.segment, PAVEMENT);
+        let required = pavement_at(self.ranged.district, pavement, MINIMA + row_place(k, t));
         reaches(self.rating(k, t, g), required)
     }
 
@@ -270,20 +284,16 @@ impl<'a> Treatment<'a> {
     fn first_ratings(&self) -> i64
         ensures { result ≡ sum_z (distresses_of self.now.ranged.district.now) (first_rating self.now.ranged.district.now self.now.segment self.now.strategy) }
     {
-        let mut sum: i64 = 0;
-        for k in 1..=self.ranged.district[DISTRESS_COUNT] {
-            let g = self.gain(k);
-            sum += self.rating(k, 1, g);
-        }
-        sum
+        self.ranged
+            .over_distresses(|k| self.rating(k, 1, self.gain(k)))
     }
 
     pub fn overall_reached(&self) -> bool
         requires { self.now.segment ≤ segments_of self.now.ranged.district.now }
         ensures { result ≡ overall_reached self.now.ranged.district.now self.now.segment self.now.strategy }
     {
-        let pavement = pavement_at(self.ranged.district, self.segment);
-        let required = overall_at(self.ranged.district, pavement);
+        let pavement = segment_at(self.ranged.district, self.segment, PAVEMENT);
+        let required = pavement_at(self.ranged.district, pavement, OVERALL);
         reaches(self.first_ratings(), required)
     }
 
@@ -322,60 +332,43 @@ impl<'a> Treatment<'a> {
     }
 }
 
-// ---- a district, and the entries of its table, 0 for what it does not have
-
-// A district whose numbers are in the file's ranges.
-#[derive(Clone, Copy)]
-pub struct Ranged<'a> {
-    pub district: &'a District,
-    pub ghost in_range: { Ranges district.now },
-}
+// ---- the entries of a district's table, 0 for what it does not have
 
 impl<'a> Ranged<'a> {
-    fn treatment(&self, i: usize, j: usize) -> Treatment<'a>
-        requires { Segment i × Strategy j }
-        ensures district { result.ranged.district.now ≡ self.now.district.now }
-        ensures segment { result.segment ≡ i }
-        ensures strategy { result.strategy ≡ j }
+    // Strategy j on segment i. None where the district does not have both.
+    fn treatment(&self, i: usize, j: usize) -> Option<Treatment<'a>>
+        requires { Segment i }
+        ensures { MatchOption result (has self.now.district.now i j ≡ false) (λ t. (has self.now.district.now i j ≡ true) × (t.ranged.district.now ≡ self.now.district.now) × (t.segment ≡ i) × (t.strategy ≡ j)) }
     {
-        Treatment {
+        if !has(self.district, i, j) {
+            return None;
+        }
+        Some(Treatment {
             ranged: *self,
             segment: i,
             strategy: j,
-        }
+        })
     }
 
-    pub fn scaled_limit(&self, r: usize) -> u64
-        requires { Resource r }
-        ensures { result ≡ scaled_limit self.now.district.now r }
-    {
-        (limit_at(self.district, r) as u64) * 100000
-    }
-
+    #[tactic(auto, unfolding(rules::specs::Table::candidate_benefit))]
     pub fn candidate_benefit(&self, i: usize, j: usize) -> u64
         requires { Segment i }
         ensures { result ≡ candidate_benefit self.now.district.now i j }
     {
-        if has(self.district, i, j) {
-            self.treatment(i, j).worth()
-        } else {
-            0
-        }
+        self.treatment(i, j).map_or(0, |t| t.worth())
     }
 
     // The area that strategy j treats on segment i.
+    #[tactic(auto, unfolding(crate::specs::Areas::area_in))]
     pub fn area_in(&self, i: usize, j: usize) -> u64
         requires { Segment i }
         ensures { result ≡ area_in self.now.district.now i j }
     {
-        if has(self.district, i, j) {
-            self.treatment(i, j).area()
-        } else {
-            0
-        }
+        self.treatment(i, j).map_or(0, |t| t.area())
     }
 
-    // The use of resource r, where a is the area that strategy j treats.
+    // The use of resource r, where a is the area that strategy j treats: it stands for the treatment, since it is found once for
+    // all resources.
     pub fn usage_in(&self, j: usize, r: usize, a: u64) -> u64
         requires { Resource r × Treats self.now.district.now j a }
         ensures { (i : ℕ) → a ≡ area_in self.now.district.now i j → result ≡ usage_in self.now.district.now i j r }
@@ -383,9 +376,10 @@ impl<'a> Ranged<'a> {
         if a == 0 || self.district[RESOURCE_COUNT] < r {
             return 0;
         }
-        a * (requirement_at(self.district, j, r) as u64)
+        a * (strategy_at(self.district, j, r - 1) as u64)
     }
 
+    // By `if`: an Option would be made and taken apart in the same line.
     pub fn limit_in(&self, r: usize) -> u64
         requires { Resource r }
         ensures { result ≡ limit_in self.now.district.now r }
@@ -413,10 +407,8 @@ impl<'a> Ranged<'a> {
         requires { Resource r }
         ensures { result ≡ Phases·used (table_of self.now.district.now) c r }
     {
-        let mut sum: u64 = 0;
-        for i in 1..=self.district[SEGMENT_COUNT] {
-            sum += self.chosen_usage(c, r, i);
-        }
-        sum
+        (1..=self.district[SEGMENT_COUNT])
+            .map(|i| self.chosen_usage(c, r, i))
+            .sum()
     }
 }

@@ -25,7 +25,7 @@ struct Question<'d, 'c> {
 }
 
 impl Question<'_, '_> {
-    // ---- a minimum rating missed. The searches are loops: tried with `find_map`, whose proof did not close.
+    // ---- a minimum rating missed
 
     // The first year in which that of distress k is.
     fn missed_year(&self, k: usize) -> Option<Reason>
@@ -33,24 +33,17 @@ impl Question<'_, '_> {
         ensures { let t = self.now.treatment in result ≡ first (years_of t.ranged.district.now) (λ y. given t.ranged.district.now self.now.programme.now t.segment t.strategy (MinimumMissed k y)) }
     {
         let gain = self.treatment.gain(k);
-        for t in 1..=self.treatment.ranged.district[YEAR_COUNT] {
-            if !self.treatment.minimum_reached(k, t, gain) {
-                return Some(Reason::MinimumMissed(k, t));
-            }
-        }
-        None
+        (1..=self.treatment.ranged.district[YEAR_COUNT]).find_map(|t| {
+            let missed = !self.treatment.minimum_reached(k, t, gain);
+            missed.then_some(Reason::MinimumMissed(k, t))
+        })
     }
 
     // The first distress type with such a year.
     fn missed_minimum(&self) -> Option<Reason>
         ensures { let t = self.now.treatment in result ≡ first (distresses_of t.ranged.district.now) (λ k. first (years_of t.ranged.district.now) (λ y. given t.ranged.district.now self.now.programme.now t.segment t.strategy (MinimumMissed k y))) }
     {
-        for k in 1..=self.treatment.ranged.district[DISTRESS_COUNT] {
-            if let Some(missed) = self.missed_year(k) {
-                return Some(missed);
-            }
-        }
-        None
+        (1..=self.treatment.ranged.district[DISTRESS_COUNT]).find_map(|k| self.missed_year(k))
     }
 
     // ---- over a limit
@@ -59,13 +52,11 @@ impl Question<'_, '_> {
     fn over_alone(&self) -> Option<Reason>
         ensures { let t = self.now.treatment in result ≡ first (resources_of t.ranged.district.now) (λ r. given t.ranged.district.now self.now.programme.now t.segment t.strategy (OverAlone r)) }
     {
-        let ranged = self.treatment.ranged;
-        for r in 1..=self.treatment.ranged.district[RESOURCE_COUNT] {
-            if ranged.scaled_limit(r) < self.treatment.usage(r) {
-                return Some(Reason::OverAlone(r));
-            }
-        }
-        None
+        let t = self.treatment;
+        (1..=t.ranged.district[RESOURCE_COUNT]).find_map(|r| {
+            let over = t.ranged.scaled_limit(r) < t.usage(r);
+            over.then_some(Reason::OverAlone(r))
+        })
     }
 
     // The programme with the strategy on the segment.
@@ -83,12 +74,10 @@ impl Question<'_, '_> {
     {
         let ranged = self.treatment.ranged;
         let asked = self.asked();
-        for r in 1..=ranged.district[RESOURCE_COUNT] {
-            if ranged.scaled_limit(r) < ranged.used(asked, r) {
-                return Some(Reason::OverBeside(r));
-            }
-        }
-        None
+        (1..=ranged.district[RESOURCE_COUNT]).find_map(|r| {
+            let over = ranged.scaled_limit(r) < ranged.used(asked, r);
+            over.then_some(Reason::OverBeside(r))
+        })
     }
 
     // ---- leaders
@@ -104,7 +93,8 @@ impl Question<'_, '_> {
 
     // ---- all of them, the first before the next
 
-    // By `or`, here and below: tried with `or_else`, of whose closures' results the proof was told nothing.
+    // By `or`, here and below: of a closure in `or_else` nothing is inferred (tried), so each would state once more what the
+    // function that it calls ensures.
 
     // From the leader on: it has nothing, or a limit is passed.
     fn late_hindrance(&self) -> Option<Reason>

@@ -32,8 +32,8 @@ returns-then-a-eq0 c i e =
       | then-a-eq0-via-else-a-eq0+then-self-r w ↦ usage_past _ i _ _ w.if-self-r.true
     ]
 
-pub requirement_at-requires : goal.requirement_at-requires
-requirement_at-requires c = (strategy (goal.at.requirement_at-requires c).Else-a-eq0, c.requires.0)
+pub strategy_at-requires : goal.strategy_at-requires
+strategy_at-requires c = (strategy (goal.at.strategy_at-requires c).Else-a-eq0, omega (arith, c.requires.0))
 
 pub overflow_mul-result : goal.overflow_mul-result
 unfolding requirement_of
@@ -41,8 +41,8 @@ overflow_mul-result c =
     let ok = c.args.self.now.in_range in
     let p = c.requires in
     let j = strategy (goal.at.overflow_mul-result c).Else-a-eq0 in
-    product_fits _ _ 1_999_800 999_999 (rw p.1.treated (area_in_le _ _ _ (area_le _ ok _ p.1.there))) (rw c.requirement_at.ensures (ok.requirement _ _ j.0 j.1 p.0.0 p.0.1)) tt
+    product_fits _ _ 1_999_800 999_999 (rw p.1.treated (area_in_le _ _ _ (area_le _ ok _ p.1.there))) (rw c.strategy_at.ensures (ok.requirement _ _ j.0 j.1 p.0.0 p.0.1)) tt
 
 pub returns : goal.returns
 unfolding requirement_of
-returns c i e = ap₂ ◌*◌ e c.requirement_at.ensures ∙ usage_some _ i _ _ (there (goal.at.returns c).Else-a-eq0 i e) c.requires.0.0 c.if-self-r.false
+returns c i e = ap₂ ◌*◌ e c.strategy_at.ensures ∙ usage_some _ i _ _ (there (goal.at.returns c).Else-a-eq0 i e) c.requires.0.0 c.if-self-r.false

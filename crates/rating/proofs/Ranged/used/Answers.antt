@@ -1,30 +1,34 @@
--- `rating::Ranged::used` meets its contract: the sum so far is that of the segments passed.
-use Prim.Native.Nat.{◌-◌}
+-- `rating::Ranged::used` meets its contract.
+use mathlib.Core.Path.{◌∙◌}
 use native.Mathlib.Omega.{arith}
-use Rattle.base.proofs.Sums.{sum_none, sum_end}
-use Rattle.rules.specs.Phases.{used}
+use Rattle.std.proofs.Common.{rules}
+use Rattle.std.proofs.lemmas.Iterator.{YieldsList-from_map}
+use Rattle.std.proofs.lemmas.Iterator.Consumers.{YieldsList-at, sum_by_from_yields_List, fits_by_from_yields_list}
+use Rattle.std.specs.List.{range_with_len}
+use Rattle.rules.specs.District.{segments_of}
+use Rattle.rules.specs.Phases.{chosen_usage, used}
 use Rattle.rules.specs.Table.{table_of}
-use Rattle.rating.proofs.Loops.{sum_passed, sum_last}
-use Rattle.rating.proofs.Uses.{chosen_le, sum_le}
+use Rattle.rating.proofs.Chains.{from_1, sum_listed}
+use Rattle.rating.proofs.Uses.{sum_le}
 use Rattle.rating.proofs.Ranged.used.Goals as goal
 
-pub loop-i-init : goal.loop-i-init
-loop-i-init c = (omega arith, sum_none _)
-
-pub overflow_add-sum : goal.overflow_add-sum
-overflow_add-sum c =
-    let l = c.loop-i in
+pub sum-requires-clause-fits : goal.sum-requires-clause-fits
+sum-requires-clause-fits c =
+    let d = c.args.self.now.district.now in
     let ok = c.args.self.now.in_range in
-    let n = ok.segments in
-    omega (arith, l.invariant.1, c.chosen_usage-sum.ensures, sum_le _ ok c.args.c c.args.r (l.i - 1), chosen_le _ ok c.args.c c.args.r l.i)
-
-pub loop-i-preserved : goal.loop-i-preserved
-loop-i-preserved c = (omega arith, rw c.chosen_usage-sum.ensures (sum_passed _ _ c.loop-i.auto.i c.loop-i.invariant.1))
+    let uses = chosen_usage (table_of d) c.args.c c.args.r in
+    let range = c.new.ensures in
+    let few = ok.segments in
+    fits_by_from_yields_list uses (range_with_len 1 (segments_of d)) c.map.result _
+    (YieldsList-from_map _ uses (YieldsList-at c.map.ensures.source (from_1 range.start range.end range.exhausted)) c.map.ensures.closure (λ x r q k. search rules))
+    (omega (arith, sum_listed (segments_of d) uses, sum_le d ok c.args.c c.args.r (segments_of d)))
 
 pub returns : goal.returns
 unfolding used table_of
-returns c = sum_end _ _ _ c.loop-i.invariant.1 (omega arith) (omega arith)
-
-pub returns-2 : goal.returns-2
-unfolding used table_of
-returns-2 c = rw c.chosen_usage-sum.ensures (sum_last _ _ _ c.loop-i.auto.i c.loop-i.invariant.1 (omega arith) (omega arith))
+returns c =
+    let d = c.args.self.now.district.now in
+    let uses = chosen_usage (table_of d) c.args.c c.args.r in
+    let range = c.new.ensures in
+    sum_by_from_yields_List uses (range_with_len 1 (segments_of d)) c.map.result _ c.sum.ensures.ran
+    (YieldsList-from_map _ uses (YieldsList-at c.map.ensures.source (from_1 range.start range.end range.exhausted)) c.map.ensures.closure (λ x r q k. search rules))
+    ∙ sum_listed (segments_of d) uses

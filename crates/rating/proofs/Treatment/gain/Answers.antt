@@ -11,6 +11,7 @@ use Rattle.base.proofs.Integers.{abs_neg, told, sfits_abs, pos_minus}
 use Rattle.rules.specs.District.{gain_of, greatest_of, rating_of}
 use Rattle.rules.specs.Rating.{capped_gain, gain}
 use Rattle.rating.proofs.Least.{least, greatest}
+use Rattle.rating.proofs.Places.{rating_is}
 use Rattle.rating.proofs.Treatment.gain.Goals as goal
 use Rattle.rating.proofs.Treatment.gain.Goals.{After-own_gain-own, After-greatest_at, After-min}
 
@@ -23,19 +24,19 @@ own : (c : After-own_gain-own) → let s = c.args.self.now in to_z w64 (of_z w64
 own c = told w64 c.own_gain-own.type_inv c.own_gain-own.ensures
 
 pub overflow_sub-left : goal.overflow_sub-left
-unfolding greatest_of rating_of
+unfolding greatest_of
 overflow_sub-left c =
     let s = c.args.self.now in
-    rw (c.rating_at-current.ensures, c.greatest_at.ensures) (s.ranged.in_range.rating _ _ s.segment_in.0 s.segment_in.1 c.requires.0 c.requires.1)
+    rw ((rating_is c.args.self.now.ranged.district.now c.args.self.now.segment c.args.k c.segment_at-current.ensures), c.greatest_at.ensures) (s.ranged.in_range.rating _ _ s.segment_in.0 s.segment_in.1 c.requires.0 c.requires.1)
 
 left : (c : After-greatest_at) →
     let s = c.args.self.now in
-    to_z w64 (c.greatest_at.result - c.rating_at-current.result) ≡ pos (greatest_of s.ranged.district.now c.args.k) -ℤ pos (rating_of s.ranged.district.now s.segment c.args.k)
-unfolding greatest_of rating_of
+    to_z w64 (c.greatest_at.result - c.segment_at-current.result) ≡ pos (greatest_of s.ranged.district.now c.args.k) -ℤ pos (rating_of s.ranged.district.now s.segment c.args.k)
+unfolding greatest_of
 left c =
     to_z_pos w64 (omega (arith, small c))
     ∙ sym (pos_minus _ _ (overflow_sub-left c))
-    ∙ ap₂ (λ a b. pos a -ℤ pos b) c.greatest_at.ensures c.rating_at-current.ensures
+    ∙ ap₂ (λ a b. pos a -ℤ pos b) c.greatest_at.ensures (rating_is c.args.self.now.ranged.district.now c.args.self.now.segment c.args.k c.segment_at-current.ensures)
 
 capped : (c : After-min) →
     let s = c.args.self.now in
@@ -43,11 +44,11 @@ capped : (c : After-min) →
 unfolding capped_gain
 capped c = told w64 c.min.type_inv (c.min.ensures.value ∙ least _ _ ∙ ap₂ min_z (own (goal.at.After-min c).After-own_gain-own) (left (goal.at.After-min c).After-greatest_at))
 
-current-small : (c : After-greatest_at) → c.rating_at-current.result ≤ 50
+current-small : (c : After-greatest_at) → c.segment_at-current.result ≤ 50
 current-small c = omega (arith, small c, overflow_sub-left c)
 
-minus : (c : After-greatest_at) → pos 0 -ℤ to_z w64 c.rating_at-current.result ≡ neg_ℤ (pos c.rating_at-current.result)
-minus c = +ℤ_idl _ ∙ ap neg_ℤ (to_z_pos w64 {n = c.rating_at-current.result} (omega (arith, current-small c)))
+minus : (c : After-greatest_at) → pos 0 -ℤ to_z w64 c.segment_at-current.result ≡ neg_ℤ (pos c.segment_at-current.result)
+minus c = +ℤ_idl _ ∙ ap neg_ℤ (to_z_pos w64 {n = c.segment_at-current.result} (omega (arith, current-small c)))
 
 pub overflow_cast-left : goal.overflow_cast-left
 overflow_cast-left c = sfits_abs (omega (arith, small (goal.at.overflow_cast-left c).After-greatest_at))
@@ -58,19 +59,18 @@ overflow_cast-lowest c = sfits_abs (omega (arith, current-small (goal.at.overflo
 pub overflow_sub-lowest : goal.overflow_sub-lowest
 overflow_sub-lowest c =
     let b = (goal.at.overflow_sub-lowest c).After-greatest_at in
-    rw (minus b) (sfits_abs (rw (abs_neg (pos c.rating_at-current.result)) (omega (arith, current-small b))))
+    rw (minus b) (sfits_abs (rw (abs_neg (pos c.segment_at-current.result)) (omega (arith, current-small b))))
 
 lowest : (c : After-greatest_at) →
     let s = c.args.self.now in
-    to_z w64 (of_z w64 (pos 0 -ℤ to_z w64 c.rating_at-current.result)) ≡ neg_ℤ (pos (rating_of s.ranged.district.now s.segment c.args.k))
-unfolding rating_of
+    to_z w64 (of_z w64 (pos 0 -ℤ to_z w64 c.segment_at-current.result)) ≡ neg_ℤ (pos (rating_of s.ranged.district.now s.segment c.args.k))
 lowest c =
-    to_z-of_z {w = w64} (rw (minus c) (sfits_abs (rw (abs_neg (pos c.rating_at-current.result)) (omega (arith, current-small c)))))
+    to_z-of_z {w = w64} (rw (minus c) (sfits_abs (rw (abs_neg (pos c.segment_at-current.result)) (omega (arith, current-small c)))))
     ∙ minus c
-    ∙ ap (λ v. neg_ℤ (pos v)) c.rating_at-current.ensures
+    ∙ ap (λ v. neg_ℤ (pos v)) (rating_is c.args.self.now.ranged.district.now c.args.self.now.segment c.args.k c.segment_at-current.ensures)
 
 pub returns : goal.returns
-unfolding gain rating_of
+unfolding gain
 returns c =
     told w64 c.max.type_inv
     (c.max.ensures.value

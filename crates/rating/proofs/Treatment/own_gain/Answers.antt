@@ -9,28 +9,29 @@ use mir.Facts.{to_z_pos, to_z-of_z}
 use Rattle.base.proofs.Integers.{abs_add, sfits_abs}
 use Rattle.rules.specs.District.{gain_of}
 use Rattle.rating.proofs.Bounds.{byte_le}
+use Rattle.rating.proofs.Places.{gain_is}
 use Rattle.rating.proofs.Treatment.own_gain.Goals as goal
 use Rattle.rating.proofs.Treatment.own_gain.Goals.{Else-byte-lt128}
 
-small : (c : Else-byte-lt128) → c.gain_byte-byte.result ≤ 306
+small : (c : Else-byte-lt128) → c.strategy_at-byte.result ≤ 306
 small c =
     let s = c.args.self.now in
-    rw c.gain_byte-byte.ensures (byte_le _ s.ranged.in_range _ _ s.strategy_in c.requires)
+    rw (gain_is c.args.self.now.ranged.district.now c.args.self.now.strategy c.args.k c.strategy_at-byte.ensures) (byte_le _ s.ranged.in_range _ _ s.strategy_in c.requires)
 
 pub returns-then-byte-lt128 : goal.returns-then-byte-lt128
 unfolding gain_of
-returns-then-byte-lt128 c = to_z_pos w64 {n = c.gain_byte-byte.result} (omega arith) ∙ rw (← c.gain_byte-byte.ensures, lt-ltb _ _ c.if-byte-lt128.true)
+returns-then-byte-lt128 c = to_z_pos w64 {n = c.strategy_at-byte.result} (omega arith) ∙ rw (← gain_is c.args.self.now.ranged.district.now c.args.self.now.strategy c.args.k c.strategy_at-byte.ensures, lt-ltb _ _ c.if-byte-lt128.true)
 
 pub overflow_cast-result-else-byte-lt128 : goal.overflow_cast-result-else-byte-lt128
 overflow_cast-result-else-byte-lt128 c = sfits_abs (omega (arith, small c))
 
 pub overflow_sub-result : goal.overflow_sub-result
 overflow_sub-result c =
-    let b = c.gain_byte-byte.result in
+    let b = c.strategy_at-byte.result in
     rw (to_z_pos w64 {n = b} (omega (arith, small c))) (sfits_abs (omega (arith, small c, abs_add (pos b) (negsuc 255))))
 
 pub returns-else-byte-lt128 : goal.returns-else-byte-lt128
 unfolding gain_of
 returns-else-byte-lt128 c =
     to_z-of_z (overflow_sub-result c)
-    ∙ rw (to_z_pos w64 {n = c.gain_byte-byte.result} (omega (arith, small c)), ← c.gain_byte-byte.ensures, le-ltb _ _ c.if-byte-lt128.false)
+    ∙ rw (to_z_pos w64 {n = c.strategy_at-byte.result} (omega (arith, small c)), ← gain_is c.args.self.now.ranged.district.now c.args.self.now.strategy c.args.k c.strategy_at-byte.ensures, le-ltb _ _ c.if-byte-lt128.false)

@@ -1,41 +1,13 @@
--- `rating::Treatment::total_credits` meets its contract.
-use mathlib.Core.Path.{◌≡◌, ◌∙◌, ap}
-use native.Mathlib.Omega.{arith}
-use lib.IntN.{◌+ℤ◌}
-use mir.Syntax.{w64}
-use mir.Val.{to_z, of_z}
-use mir.Facts.{to_z-of_z}
-use Rattle.base.proofs.Integers.{told, sum_z_none}
+-- `rating::Treatment::total_credits` meets its contract: the credits of a type are small.
+use mathlib.Core.Path.{◌≡◌}
+use Rattle.std.proofs.Common.{rules}
 use Rattle.rules.specs.Rating.{credits}
 use Rattle.rating.proofs.Bounds.{credits_abs}
-use Rattle.rating.proofs.Loops.{sum_z_passed, sum_z_last, sum_z_grows}
 use Rattle.rating.proofs.Treatment.total_credits.Goals as goal
-use Rattle.rating.proofs.Treatment.total_credits.Goals.{After-credits-sum}
 
--- the term that is added
-here : (c : After-credits-sum) →
+pub over_distresses-requires-clause-small : goal.over_distresses-requires-clause-small
+over_distresses-requires-clause-small c =
     let s = c.args.self.now in
-    to_z w64 (of_z w64 c.credits-sum.result) ≡ credits s.ranged.district.now s.segment s.strategy c.loop-k.k
-here c = told w64 c.credits-sum.type_inv c.credits-sum.ensures
-
-pub loop-k-init : goal.loop-k-init
-loop-k-init c = sum_z_none _
-
-pub overflow_add-sum : goal.overflow_add-sum
-overflow_add-sum c =
-    let s = c.args.self.now in
-    let n = s.ranged.in_range.distresses in
-    rw (here (goal.at.overflow_add-sum c).After-credits-sum)
-    (sum_z_grows _ 1_000_000_000 _ c.loop-k.auto.k c.loop-k.invariant (λ k l h. credits_abs _ s.ranged.in_range _ _ k s.segment_in s.strategy_in (l, omega arith)) (omega arith))
-
-pub loop-k-preserved : goal.loop-k-preserved
-loop-k-preserved c =
-    to_z-of_z (overflow_add-sum (goal.at.loop-k-preserved c).After-credits-sum)
-    ∙ ap (λ z. to_z w64 c.loop-k.sum-bits +ℤ z) (here (goal.at.loop-k-preserved c).After-credits-sum)
-    ∙ sum_z_passed _ _ c.loop-k.auto.k c.loop-k.invariant
-
-pub returns-2 : goal.returns-2
-returns-2 c =
-    to_z-of_z (overflow_add-sum (goal.at.returns-2 c).After-credits-sum)
-    ∙ ap (λ z. to_z w64 c.loop-k.sum-bits +ℤ z) (here (goal.at.returns-2 c).After-credits-sum)
-    ∙ sum_z_last _ _ _ c.loop-k.auto.k c.loop-k.invariant (omega arith) (omega arith)
+    λ k z p e.
+    let here : z ≡ credits s.ranged.district.now s.segment s.strategy k = search rules in
+    rw here (credits_abs _ s.ranged.in_range _ _ k s.segment_in s.strategy_in p)

@@ -13,8 +13,8 @@ overflow_mul-result c =
     let s = c.args.self.now in
     let j = s.strategy_in in
     let r = c.requires in
-    product_fits _ _ 1_999_800 999_999 (rw c.area.ensures (area_le _ s.ranged.in_range _ s.segment_in)) (rw c.requirement_at.ensures (s.ranged.in_range.requirement _ _ j.0 j.1 r.0 r.1)) tt
+    product_fits _ _ 1_999_800 999_999 (rw c.area.ensures (area_le _ s.ranged.in_range _ s.segment_in)) (rw c.strategy_at.ensures (s.ranged.in_range.requirement _ _ j.0 j.1 r.0 r.1)) tt
 
 pub returns : goal.returns
 unfolding requirement_of
-returns c = ap₂ ◌*◌ c.area.ensures c.requirement_at.ensures ∙ usage_of _ _ _ _ c.args.self.now.strategy_in.0
+returns c = ap₂ ◌*◌ c.area.ensures c.strategy_at.ensures ∙ usage_of _ _ _ _ c.args.self.now.strategy_in.0

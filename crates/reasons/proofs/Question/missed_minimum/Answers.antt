@@ -1,20 +1,19 @@
 -- `reasons::Question::missed_minimum` meets its contract.
-use native.Mathlib.Omega.{arith}
-use mathlib.Core.Path.{sym, ◌∙◌}
-use Rattle.reasons.proofs.Searches.{none_yet, found_now, none_passed, none_last, none_at_all}
+use Rattle.std.proofs.Common.{rules}
+use Rattle.base.specs.Search.{first}
+use Rattle.rules.specs.District.{years_of, distresses_of}
+use Rattle.rules.specs.Reasons.{given}
+use Rattle.rules.specs.declared.Reason.TheVariants.{MinimumMissed}
+use Rattle.rating.proofs.Chains.{from_1}
+use Rattle.reasons.proofs.Searches.{first_from_find_map}
 use Rattle.reasons.proofs.Question.missed_minimum.Goals as goal
 
-pub loop-k-init : goal.loop-k-init
-loop-k-init c = none_yet _
-
-pub returns-in-Some : goal.returns-in-Some
-returns-in-Some c = found_now _ _ _ c.loop-k.auto.k c.loop-k-test.true c.loop-k.invariant (sym c.missed_year.ensures ∙ c.in-Some.is)
-
-pub loop-k-preserved : goal.loop-k-preserved
-loop-k-preserved c = none_passed _ _ c.loop-k.invariant (sym c.missed_year.ensures ∙ c.in_default.is)
-
 pub returns : goal.returns
-returns c = none_at_all _ _ _ (omega arith) c.loop-k.invariant
-
-pub returns-in_default : goal.returns-in_default
-returns-in_default c = none_last _ _ _ (omega arith) (omega arith) c.loop-k.invariant (sym c.missed_year.ensures ∙ c.in_default.is)
+returns c =
+    let t = c.args.self.now.treatment in
+    let d = t.ranged.district.now in
+    let range = c.new.ensures in
+    first_from_find_map _ _ _
+    (λ k. first (years_of d) (λ y. given d c.args.self.now.programme.now t.segment t.strategy (MinimumMissed k y)))
+    (λ x r q k. search rules)
+    (distresses_of d) c.find_map.result c.find_map.ensures.ran c.find_map.ensures.runs (from_1 range.start range.end range.exhausted)

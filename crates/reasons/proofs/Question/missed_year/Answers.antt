@@ -1,21 +1,19 @@
 -- `reasons::Question::missed_year` meets its contract.
-use mathlib.Core.Path.{sym, ◌∙◌}
-use native.Mathlib.Omega.{arith}
-use Rattle.reasons.proofs.Searches.{none_yet, found_now, none_passed, none_last, none_at_all, missed, not_missed}
+use Rattle.std.proofs.Common.{rules, tests}
+use Rattle.rules.specs.District.{years_of}
+use Rattle.rules.specs.Reasons.{holds, given}
+use Rattle.rules.specs.declared.Reason.TheVariants.{MinimumMissed}
+use Rattle.rating.proofs.Chains.{from_1}
+use Rattle.reasons.proofs.Searches.{first_from_find_map, given_by}
 use Rattle.reasons.proofs.Question.missed_year.Goals as goal
 
-pub loop-t-init : goal.loop-t-init
-loop-t-init c = none_yet _
-
-pub returns-then-not-minimum_reached : goal.returns-then-not-minimum_reached
-returns-then-not-minimum_reached c =
-    found_now _ _ _ c.loop-t.auto.t c.loop-t-test.true c.loop-t.invariant (missed _ _ _ _ _ _ (sym c.minimum_reached.ensures ∙ c.if-not-minimum_reached.true))
-
-pub loop-t-preserved : goal.loop-t-preserved
-loop-t-preserved c = none_passed _ _ c.loop-t.invariant (not_missed _ _ _ _ _ _ (sym c.minimum_reached.ensures ∙ c.if-not-minimum_reached.false))
-
 pub returns : goal.returns
-returns c = none_at_all _ _ _ (omega arith) c.loop-t.invariant
-
-pub returns-else-not-minimum_reached : goal.returns-else-not-minimum_reached
-returns-else-not-minimum_reached c = none_last _ _ _ (omega arith) (omega arith) c.loop-t.invariant (not_missed _ _ _ _ _ _ (sym c.minimum_reached.ensures ∙ c.if-not-minimum_reached.false))
+unfolding holds
+returns c =
+    let t = c.args.self.now.treatment in
+    let d = t.ranged.district.now in
+    let range = c.new.ensures in
+    first_from_find_map _ _ _
+    (λ r. given d c.args.self.now.programme.now t.segment t.strategy (MinimumMissed c.args.k r))
+    (λ x r q k. search (rules, tests, given_by))
+    (years_of d) c.find_map.result c.find_map.ensures.ran c.find_map.ensures.runs (from_1 range.start range.end range.exhausted)

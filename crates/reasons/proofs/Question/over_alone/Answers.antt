@@ -1,21 +1,20 @@
 -- `reasons::Question::over_alone` meets its contract.
-use native.Mathlib.Omega.{arith}
-use Rattle.reasons.proofs.Searches.{none_yet, found_now, none_passed, none_last, none_at_all, over, not_over}
+use Rattle.std.proofs.Common.{rules, tests}
+use Rattle.rules.specs.District.{resources_of}
+use Rattle.rules.specs.Reasons.{holds, given}
+use Rattle.rules.specs.declared.Reason.TheVariants.{OverAlone}
+use Rattle.rules.specs.Rating.{fits_limit}
+use Rattle.rating.proofs.Chains.{from_1}
+use Rattle.reasons.proofs.Searches.{first_from_find_map, given_by}
 use Rattle.reasons.proofs.Question.over_alone.Goals as goal
 
-pub loop-r-init : goal.loop-r-init
-loop-r-init c = none_yet _
-
-pub returns-then-scaled_limit-usage : goal.returns-then-scaled_limit-usage
-returns-then-scaled_limit-usage c =
-    found_now _ _ _ c.loop-r.auto.r c.loop-r-test.true c.loop-r.invariant (over _ _ _ _ _ c.scaled_limit.ensures c.usage.ensures c.if-scaled_limit-usage.true)
-
-pub loop-r-preserved : goal.loop-r-preserved
-loop-r-preserved c = none_passed _ _ c.loop-r.invariant (not_over _ _ _ _ _ c.scaled_limit.ensures c.usage.ensures c.if-scaled_limit-usage.false)
-
 pub returns : goal.returns
-returns c = none_at_all _ _ _ (omega arith) c.loop-r.invariant
-
-pub returns-else-scaled_limit-usage : goal.returns-else-scaled_limit-usage
-returns-else-scaled_limit-usage c =
-    none_last _ _ _ (omega arith) (omega arith) c.loop-r.invariant (not_over _ _ _ _ _ c.scaled_limit.ensures c.usage.ensures c.if-scaled_limit-usage.false)
+unfolding holds fits_limit
+returns c =
+    let t = c.args.self.now.treatment in
+    let d = t.ranged.district.now in
+    let range = c.new.ensures in
+    first_from_find_map _ _ _
+    (λ r. given d c.args.self.now.programme.now t.segment t.strategy (OverAlone r))
+    (λ x r q k. search (rules, tests, given_by))
+    (resources_of d) c.find_map.result c.find_map.ensures.ran c.find_map.ensures.runs (from_1 range.start range.end range.exhausted)
