@@ -1,28 +1,26 @@
 -- Laws of the price search: which price a step takes, and that prices stay below 2 ^ 41.
 use Prim.Native.Nat.{ℕ, zero, suc, ◌+◌, ◌-◌, ◌*◌, ◌^◌, ◌≤◌, ◌<◌, min}
-use mathlib.Core.Path.{◌≡◌, refl, ap, sym, ◌∙◌}
+use mathlib.Core.Path.{◌≡◌, refl, sym, ◌∙◌}
 use mathlib.Core.Bool.{◌&&◌}
 use mathlib.Core.List.{List}
-use Rattle.std.specs.Prelude.{Option, None, Some}
-use Rattle.std.specs.Option.{MatchOption, unwrap_or}
 use native.Mathlib.Nat.{zero-mul}
 use native.Mathlib.Numerals.{add-one}
 use native.Mathlib.Omega.{arith}
 use borrow.Author.Tests.{lt-ltb, le-ltb, le-leb, lt-leb}
 use lib.Dec.{leb}
-use lib.ListN.{get_or, length, set, take, drop, replicate, length-take, length-drop, length-set, length-replicate}
+use lib.ListN.{get_or, length, set, replicate, length-set, length-replicate}
 use lib.Pow.{pow_pos}
-use lib.Seq.{get_or-set_other, get_or-take, get_or-drop}
+use lib.Seq.{get_or-set_other}
 use Rattle.base.proofs.Choice.{pick_all}
 use Rattle.base.specs.Over.{sum, most}
-use Rattle.base.proofs.Sums.{sum_cong, sum_zero, most_none, most_part, most_bound, most_cong}
+use Rattle.base.proofs.Sums.{sum_cong, sum_zero, most_cong}
 use Rattle.rules.specs.District.{most_resources}
 use Rattle.rules.specs.Table.{Table}
 use Rattle.rules.specs.Ceiling.{price_at, down_share, cost_by, cost, net, margin, raised, lowered, ceiling_at, lowers, priced, priced_all, prices_after}
 use Rattle.laws.proofs.Give.{set_le}
-use Rattle.tables.specs.Arrays.{columns, entry, entries}
+use Rattle.tables.specs.Arrays.{entry, entry_at, entries}
 use Rattle.tables.specs.declared.Size.{Size}
-use Rattle.ceiling.specs.Prices.{Sized, priced_table, free, Prices, Costs, Headroom}
+use Rattle.ceiling.specs.Prices.{priced_table, free, Prices, Costs, Headroom}
 
 -- ---- which case a step takes
 
@@ -141,40 +139,6 @@ raisable_room {p} {s} {r} h = omega (arith, h.room (r + 1 - 1) (omega arith))
 
 -- ---- the start: all prices are 0, so nothing costs anything
 
--- what a strategy is worth where nothing costs anything
-abbrev pub worth : List ℕ → ℕ → ℕ → ℕ
-worth b i j = get_or b (entry i j) 0
-
--- a segment's row of benefits
-module _ {z : Size} {b d : List ℕ} (sized : Sized z b d) (i : ℕ) (low : 1 ≤ i) (high : i ≤ z.segments) where
-  abbrev pub from : ℕ
-  from = columns * (i - 1) + 1
-
-  abbrev pub row : List ℕ
-  row = take (from + z.strategies - from) (drop from b)
-
-  pub row_long : length row ≡ z.strategies
-  row_long = simp (length-take, length-drop) (omega (arith, sized.segments, sized.strategies, sized.benefits_length))
-
-  pub row_worth : (k : ℕ) → k < length row → get_or row k 0 ≡ worth b i (k + 1)
-  row_worth k h =
-      let at : from + k ≡ entry i (k + 1) = omega arith in
-      get_or-take (from + z.strategies - from) (drop from b) k 0 (omega (arith, row_long)) ∙ get_or-drop from b k 0 ∙ ap (λ (m : ℕ). get_or b m 0) at
-
-  -- the greatest of it: no other is above it, and it is among them
-  pub row_most : (r : Option ℕ) → MatchOption r (length row ≡ 0) (λ m. (k : ℕ) → k < length row → get_or row k 0 ≤ m)
-      → MatchOption r (length row ≡ 0) (λ m. (k : ℕ) × (k < length row) × (get_or row k 0 ≡ m)) → unwrap_or r 0 ≡ most z.strategies (worth b i)
-  row_most None empty among = let none : z.strategies ≡ 0 = omega (arith, row_long) in rw none (most_none (worth b i))
-  row_most (Some m) within among =
-      let above : most z.strategies (worth b i) ≤ m =
-      most_bound z.strategies m (worth b i)
-      (λ j lj hj.
-      let at : j - 1 + 1 ≡ j = omega arith in
-      let inside : j - 1 < length row = omega (arith, row_long) in
-      omega (arith, within (j - 1) inside, rw at at (row_worth (j - 1) inside))) in
-      let part = most_part z.strategies (worth b i) (among.0 + 1) (omega arith) (omega (arith, among.1, row_long)) in
-      omega (arith, among.2, row_worth among.0 among.1)
-
 pub free_prices : Prices free
 free_prices = record { places = length-replicate {A = ℕ} most_resources 0; small = λ k. omega (arith, zeros most_resources k) }
 
@@ -194,9 +158,9 @@ module _ (z : Size) (b d : List ℕ) where
             zeros entries (entry i j) ∙ sym (rw e (free_cost i j));
       }
 
-  pub free_margin_is : (i : ℕ) {x : ℕ} → x ≡ most z.strategies (worth b i) → x ≡ margin (priced_table z b d) free i
+  pub free_margin_is : (i : ℕ) {x : ℕ} → x ≡ most z.strategies (entry_at b i) → x ≡ margin (priced_table z b d) free i
   unfolding margin net
-  free_margin_is i e = e ∙ most_cong z.strategies (worth b i) (net (priced_table z b d) free i) (λ j l h. let none = free_cost i j in omega arith)
+  free_margin_is i e = e ∙ most_cong z.strategies (entry_at b i) (net (priced_table z b d) free i) (λ j l h. let none = free_cost i j in omega arith)
 
   pub free_ceiling_is : {x : ℕ} → x ≡ sum z.segments (margin (priced_table z b d) free) → x ≡ ceiling_at (priced_table z b d) free
   unfolding ceiling_at

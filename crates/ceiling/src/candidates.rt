@@ -3,7 +3,7 @@ ghost use Rattle.std.specs.Prelude.{◌≡◌, ◌+◌, ◌*◌, ◌-◌, ◌≤
 ghost use Rattle.ceiling.specs.Prices.{Sized};
 
 use rules::places::MOST_RESOURCES;
-use tables::{COLUMNS, Size};
+use tables::{COLUMNS, Size, greatest};
 
 #[derive(Clone, Copy)]
 pub(crate) struct Candidates<'a> {
@@ -33,12 +33,7 @@ impl Candidates<'_> {
         requires { (1 ≤ i) × (i ≤ self.size.segments) }
         ensures { result ≡ margin (priced_in self.entry) free i }
     {
-        let from = COLUMNS * (i - 1) + 1;
-        self.benefits[from..from + self.size.strategies]
-            .iter()
-            .copied()
-            .max()
-            .unwrap_or(0)
+        greatest(self.benefits, self.size.strategies, i)
     }
 
     // The ceiling where all prices are 0.
