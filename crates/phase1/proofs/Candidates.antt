@@ -1,7 +1,7 @@
 -- The candidates of a segment in the order of the searches, and the programme of the top ones.
 use Prim.Native.Nat.{ℕ, zero, suc, ◌+◌, ◌-◌, ◌≤◌, ◌<◌}
 use mathlib.Core.Path.{◌≡◌, refl, sym, ◌∙◌}
-use mathlib.Core.Bool.{Bool, true, false, ◌&&◌, true≢false}
+use mathlib.Core.Bool.{Bool, true, false, ◌&&◌, and-true, true≢false}
 use mathlib.Core.List.{List}
 use native.Mathlib.Omega.{arith}
 use borrow.Author.Tests.{ltb-true, lt-ltb, leb-true, leb-false}
@@ -9,7 +9,7 @@ use lib.Dec.{leb, ltb}
 use lib.ListN.{length, get_or-eq_default}
 use lib.Seq.{ext_get_or}
 use Rattle.base.proofs.Choice.{and_both}
-use Rattle.base.proofs.Best.{best_le, Leads, leads_none, leads_taken, leads_kept, leads_end}
+use Rattle.base.proofs.Best.{best_le, best_cong, Leads, leads_none, leads_taken, leads_kept}
 use Rattle.base.proofs.Listed.{listed_length}
 use Rattle.rules.specs.District.{most_segments}
 use Rattle.rules.specs.Table.{Table}
@@ -18,54 +18,40 @@ use Rattle.laws.proofs.Steps.{bests_at}
 use Rattle.tables.specs.declared.Size.{Size}
 use Rattle.tables.specs.Arrays.{benefit_at, tables, Chosen}
 use Rattle.tables.proofs.Arrays.{benefit_nothing}
-use Rattle.phase1.specs.Reduce.{follows}
+use Rattle.phase1.specs.Reduce.{follows, best_passing}
 
--- ---- candidates, in the order of the search
+-- ---- the candidates of which a test holds, in the order of the search
 
-abbrev pub valuable : List ℕ → ℕ → ℕ → Bool
-valuable b i k = ltb 0 (benefit_at b i k)
+abbrev pub passing : List ℕ → ℕ → (ℕ → Bool) → ℕ → Bool
+passing b i p k = ltb 0 (benefit_at b i k) && p k
 
-abbrev pub later : List ℕ → ℕ → ℕ → ℕ → Bool
-later b i a k = valuable b i k && follows (benefit_at b i k) (benefit_at b i a) a k
+module _ (b : List ℕ) (i : ℕ) (p : ℕ → Bool) where
+  pub passing_none : Leads (passing b i p) (benefit_at b i) 0 0 0
+  passing_none = leads_none (passing b i p) (benefit_at b i) (benefit_nothing b i) (λ k e. ltb-true 0 (benefit_at b i k) (and_both (ltb 0 (benefit_at b i k)) (p k) e).0)
 
-pub top_none : (b : List ℕ) (i : ℕ) → Leads (valuable b i) (benefit_at b i) 0 0 0
-top_none b i = leads_none (valuable b i) (benefit_at b i) (benefit_nothing b i) (λ k e. ltb-true 0 (benefit_at b i k) e)
+  -- a turn: strategy n + 1 has the benefit `value`
+  module _ {n top most : ℕ} (leads : Leads (passing b i p) (benefit_at b i) n top most) {value : ℕ} (is : value ≡ benefit_at b i (n + 1)) where
+    pub passing_taken : most < value → p (n + 1) ≡ true → Leads (passing b i p) (benefit_at b i) (n + 1) (n + 1) value
+    passing_taken h e = leads_taken (passing b i p) (benefit_at b i) n top most leads is (rw (lt-ltb 0 (benefit_at b i (n + 1)) (omega arith)) e) h
 
-pub next_none : (b : List ℕ) (i a : ℕ) → Leads (later b i a) (benefit_at b i) 0 0 0
-next_none b i a = leads_none (later b i a) (benefit_at b i) (benefit_nothing b i) (λ k e. ltb-true 0 (benefit_at b i k) (and_both (valuable b i k) _ e).0)
+    pub passing_kept : value ≤ most → Leads (passing b i p) (benefit_at b i) (n + 1) top most
+    passing_kept h = leads_kept (passing b i p) (benefit_at b i) n top most leads (λ e. omega arith)
 
--- a turn: strategy n + 1 has the benefit `value`
-module _ (b : List ℕ) (i n : ℕ) {value : ℕ} (is : value ≡ benefit_at b i (n + 1)) where
-  positive : {most : ℕ} → most < value → valuable b i (n + 1) ≡ true
-  positive h = lt-ltb 0 (benefit_at b i (n + 1)) (omega arith)
-
-  module _ {top most : ℕ} (leads : Leads (valuable b i) (benefit_at b i) n top most) where
-    pub top_taken : most < value → Leads (valuable b i) (benefit_at b i) (n + 1) (n + 1) value
-    top_taken h = leads_taken (valuable b i) (benefit_at b i) n top most leads is (positive h) h
-
-    pub top_kept : value ≤ most → Leads (valuable b i) (benefit_at b i) (n + 1) top most
-    top_kept h = leads_kept (valuable b i) (benefit_at b i) n top most leads (λ e. omega arith)
-
-  module _ (a : ℕ) {old : ℕ} (was : old ≡ benefit_at b i a) {next most : ℕ} (leads : Leads (later b i a) (benefit_at b i) n next most) where
-    pub next_taken : most < value → follows value old a (n + 1) ≡ true → Leads (later b i a) (benefit_at b i) (n + 1) (n + 1) value
-    next_taken h e = leads_taken (later b i a) (benefit_at b i) n next most leads is (rw (positive h, ← is, ← was) e) h
-
-    pub next_kept : value ≤ most → Leads (later b i a) (benefit_at b i) (n + 1) next most
-    next_kept h = leads_kept (later b i a) (benefit_at b i) n next most leads (λ e. omega arith)
-
-    pub next_passed : follows value old a (n + 1) ≡ false → Leads (later b i a) (benefit_at b i) (n + 1) next most
-    next_passed f =
-        leads_kept (later b i a) (benefit_at b i) n next most leads
-        (λ e. absurd (true≢false (sym (and_both (valuable b i (n + 1)) _ e).1 ∙ rw (← is, ← was) f)))
+    pub passing_failed : p (n + 1) ≡ false → Leads (passing b i p) (benefit_at b i) (n + 1) top most
+    passing_failed f =
+        leads_kept (passing b i p) (benefit_at b i) n top most leads
+        (λ e. absurd (true≢false (sym (and_both (ltb 0 (benefit_at b i (n + 1))) (p (n + 1)) e).1 ∙ f)))
 
 module _ (z : Size) (b u l : List ℕ) (i : ℕ) where
-  pub top_end : {n top most : ℕ} → Leads (valuable b i) (benefit_at b i) n top most → n ≡ z.strategies → top ≡ top_candidate (tables z b u l) i
+  pub top_is : best_passing z.strategies (benefit_at b i) (λ _. true) ≡ top_candidate (tables z b u l) i
   unfolding top_candidate is_candidate greater
-  top_end {n} {top} {most} leads e = leads_end (valuable b i) (benefit_at b i) n top most leads e
+  top_is =
+      best_cong z.strategies (λ k. ltb 0 (benefit_at b i k) && true) (λ k. ltb 0 (benefit_at b i k)) (λ j k. ltb (benefit_at b i k) (benefit_at b i j)) (λ j k. ltb (benefit_at b i k) (benefit_at b i j))
+      (λ k lk hk. and-true (ltb 0 (benefit_at b i k))) (λ j k lj hj lk hk pj pk. refl)
 
-  pub next_end : (a : ℕ) {n next most : ℕ} → Leads (later b i a) (benefit_at b i) n next most → n ≡ z.strategies → next ≡ next_candidate (tables z b u l) i a
-  unfolding next_candidate comes_after is_candidate greater follows
-  next_end a {n} {next} {most} leads e = leads_end (later b i a) (benefit_at b i) n next most leads e
+  pub next_is : (a : ℕ) → best_passing z.strategies (benefit_at b i) (λ j. follows (benefit_at b i j) (benefit_at b i a) a j) ≡ next_candidate (tables z b u l) i a
+  unfolding next_candidate comes_after is_candidate greater
+  next_is a = refl
 
 -- ---- the top candidates together
 

@@ -1,5 +1,5 @@
 -- Pruning over arrays: segment by segment, and what a programme keeps in it.
-use Prim.Native.Nat.{ℕ, zero, suc, ◌+◌, ◌-◌, ◌≤◌}
+use Prim.Native.Nat.{ℕ, zero, suc, ◌+◌, ◌-◌, ◌≤◌, ◌<◌}
 use mathlib.Core.Path.{◌≡◌, refl, sym, ◌∙◌}
 use mathlib.Core.Bool.{Bool, true, false}
 use mathlib.Core.List.{List, []}
@@ -8,6 +8,7 @@ use native.Mathlib.Omega.{arith}
 use borrow.Author.Tests.{eq-eqb}
 use lib.ListN.{get_or, set}
 use lib.Seq.{set-get_or}
+use Rattle.base.proofs.Sums.{up_to}
 use Rattle.rules.specs.Table.{Table}
 use Rattle.rules.specs.Phases.{strategy_at, led, pruned, bests, start}
 use Rattle.laws.proofs.Gives.{Gives, gives_keeps, allowed_number}
@@ -52,14 +53,15 @@ module _ (leader : ℕ → ℕ) where
 -- ---- up to the last segment that has a leader
 
 module _ (ls : List ℕ) where
-  pub led_all : (n : ℕ) → LedWithin ls n n
-  led_all n = record { few = omega arith; same = λ c. refl }
-
-  pub led_passed : (n m : ℕ) → LedWithin ls n m → get_or ls n 0 ≤ 0 → LedWithin ls (n + 1) m
-  led_passed n m within free =
-      let at : n + 1 - 1 ≡ n = omega arith in
-      let none : leader_in ls (n + 1) ≡ 0 = rw at (omega arith) in
-      record { few = omega (arith, within.few); same = λ c. within.same c ∙ free_kept (leader_in ls) n c none }
+  -- none from segment m + 1 to n has one
+  pub led_past : (n m : ℕ) → m ≤ n → ((k : ℕ) → m ≤ k → k < n → get_or ls k 0 ≤ 0) → LedWithin ls n m
+  led_past zero m few free = let none : m ≡ 0 = omega arith in rw none (record { few = omega arith; same = λ c. refl })
+  led_past (suc n) m few free = up_to few (λ all. rw all (record { few = omega arith; same = λ c. refl }))
+      (λ less.
+      let before = led_past n m less (λ k lk hk. free k lk (omega arith)) in
+      let at : suc n - 1 ≡ n = omega arith in
+      let none : leader_in ls (suc n) ≡ 0 = rw at (omega (arith, free n less (omega arith))) in
+      record { few = few; same = λ c. before.same c ∙ rw add-one at (free_kept (leader_in ls) n c (rw (← add-one) at none)) })
 
 -- ---- the start, and strategy numbers that stay those of the table
 

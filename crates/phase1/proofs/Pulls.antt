@@ -1,43 +1,37 @@
 -- Shares, surpluses and pulls that arrays hold, and the weakest segment by them.
 use Prim.Native.Nat.{ℕ, zero, suc, ◌+◌, ◌-◌, ◌*◌, ◌/◌, ◌^◌, ◌≤◌, ◌<◌}
 use mathlib.Core.Path.{◌≡◌, refl, ap, sym, ◌∙◌}
-use mathlib.Core.Bool.{Bool, true, false}
-use mathlib.Core.List.{List, []}
+use mathlib.Core.Bool.{Bool, true, false, false≢true}
+use mathlib.Core.List.{List, [], ◌++◌, map}
 use Rattle.std.specs.Prelude.{Option, None, Some}
 use Rattle.std.specs.Option.{option_map}
 use Rattle.std.proofs.Common.{IsTrue, ◌↔◌}
 use native.Mathlib.Nat.{mul-le-mul}
 use native.Mathlib.Omega.{arith}
 use borrow.Author.Tests.{lt-ltb, le-ltb, le-leb, lt-leb, leb-true}
-use lib.ListN.{get_or, length, take, length-take}
+use lib.ListN.{get_or, length, take, drop, length-take, get_or-append}
 use lib.Seq.{get_or-take}
+use Rattle.std.specs.Bool.{MatchBool}
+use Rattle.std.specs.List.{zip, AllWithin, HoldsAt, sum_by, sum as list_sum}
+use Rattle.std.proofs.lemmas.List.{take_all, get_or_default}
+use Rattle.std.proofs.lemmas.List.Sums.{sum_by_more, sum-map}
+use native.Mathlib.Numerals.{add-one}
+use Rattle.std.proofs.lemmas.Slice.Zip.{length-zip, get_or-zip}
 use Rattle.base.specs.Over.{sum, best}
 use Rattle.base.proofs.Choice.{pick_all}
-use Rattle.base.proofs.Sums.{sum_next, sum_part, sum_bound, sum_cong}
+use Rattle.base.proofs.Sums.{sum_part, sum_bound, sum_cong}
 use Rattle.base.proofs.Best.{best_next, better_passed, better_first, better_taken, better_worse}
 use Rattle.rules.specs.District.{most_segments, most_strategies, most_resources}
 use Rattle.rules.specs.Table.{Table}
 use Rattle.rules.specs.Phases.{strategy_at, give, chosen_benefit, chosen_usage, used, holds, within, chosen_share, surplus, pull_by, pull, pulls, ratio, lesser_ratio, weakest}
 use Rattle.laws.proofs.Give.{given, sum_give}
 use Rattle.tables.specs.declared.Size.{Size}
-use Rattle.tables.specs.Arrays.{columns, use_entry, limit_at, tables, Uses, Bounded, Chosen, Running}
+use Rattle.tables.specs.Arrays.{columns, use_entry, limit_at, tables, Uses, Limits, Bounded, Chosen, Running}
+use Rattle.tables.specs.Moves.{Shiftable, Shifted}
 use Rattle.tables.proofs.Moves.{all_is}
 use Rattle.tables.proofs.Arrays.{limit_at_lem, usage_at_lem, cell_of}
 use Rattle.phase1.specs.declared.weighed.Weak.{Weak}
 use Rattle.phase1.specs.Reduce.{share_at, ShareSums, ShareMove, held_share, row_pull, Shares, Summable, Measured, Surpluses, segment_in, weak_at, weaker_of, IsWeaker}
-
--- a turn adds a resource's part of the pull, which is 0 where there is no surplus
-module _ (row over : List ℕ) (r : ℕ) {so_far : ℕ} (is : so_far ≡ sum r (row_pull row over)) where
-  pub pull_turn : so_far + get_or row r 0 * get_or over r 0 ≡ sum (r + 1) (row_pull row over)
-  pull_turn =
-      let here : r + 1 - 1 ≡ r = omega arith in
-      rw here at (sum_next r (row_pull row over) is)
-
-  pub pull_skip : get_or over r 0 ≤ 0 → so_far ≡ sum (r + 1) (row_pull row over)
-  pull_skip h =
-      let none : get_or over r 0 ≡ 0 = omega arith in
-      let same = rw none at pull_turn in
-      omega arith
 
 -- ---- bounds
 
@@ -55,6 +49,41 @@ pull_le row over m few small surplus-small n h =
     let each = sum_bound n 6_400_000_000 (row_pull row over)
     (λ r lr hr. mul-le-mul {n₁ = get_or row (r - 1) 0} {m₁ = get_or over (r - 1) 0} {n₂ = 10_000} {m₂ = 640_000} (small r lr (omega arith)) (surplus-small r lr (omega arith))) in
     omega arith
+
+-- a row of shares and the surpluses as pairs
+module _ (row over : List ℕ) (n : ℕ) (few : n ≤ most_resources) (row_long : length row ≡ most_resources) (over_long : length over ≡ most_resources) where
+  abbrev pub weights : List (ℕ × ℕ)
+  weights = zip (take n row) over
+
+  weights_long : length weights ≡ n
+  weights_long = omega (arith, length-zip (take n row) over, length-take n row)
+
+  weight_at : (k : ℕ) (d : ℕ × ℕ) → k < n → get_or weights k d ≡ (get_or row k d.0, get_or over k d.1)
+  weight_at k d h = get_or-zip (take n row) over k d (omega (arith, length-take n row)) (omega arith) ∙ rw (get_or-take n row k d.0 h)
+
+  pub weight_small : ((r : ℕ) → 1 ≤ r → r ≤ n → get_or row (r - 1) 0 ≤ 10_000) → ((r : ℕ) → 1 ≤ r → r ≤ n → get_or over (r - 1) 0 ≤ 640_000)
+      → (k : ℕ) (p : ℕ × ℕ) → k < length weights → p ≡ get_or weights k p → p.0 * p.1 ≤ 6_400_000_000
+  weight_small small surplus-small k p h e =
+      let at : k + 1 - 1 ≡ k = omega arith in
+      let inside : k < n = omega (arith, weights_long) in
+      let is : p ≡ (get_or row k 0, get_or over k 0) = e ∙ get_or_default weights k p (0, 0) h ∙ weight_at k (0, 0) inside in
+      let first : p.0 ≤ 10_000 = omega (arith, ap (λ (q : ℕ × ℕ). q.0) is, rw at at (small (k + 1) (omega arith) (omega arith))) in
+      let second : p.1 ≤ 640_000 = omega (arith, ap (λ (q : ℕ × ℕ). q.1) is, rw at at (surplus-small (k + 1) (omega arith) (omega arith))) in
+      mul-le-mul {n₁ = p.0} {m₁ = p.1} {n₂ = 10_000} {m₂ = 640_000} first second
+
+  sum_to : (m : ℕ) → m ≤ n → sum_by (λ (p : ℕ × ℕ). p.0 * p.1) (take m weights) ≡ sum m (row_pull row over)
+  unfolding sum
+  sum_to zero h = refl
+  sum_to (suc m) h =
+      let at : suc m - 1 ≡ m = omega arith in
+      rw add-one at (sum_by_more (λ (p : ℕ × ℕ). p.0 * p.1) weights m (0, 0) (omega (arith, weights_long)))
+      ∙ rw (sum_to m (omega arith), weight_at m (0, 0) (omega arith), at)
+
+  pub weights_sum : list_sum (map (λ (p : ℕ × ℕ). p.0 * p.1) weights) ≡ sum n (row_pull row over)
+  weights_sum =
+      sum-map (λ (p : ℕ × ℕ). p.0 * p.1) weights
+      ∙ ap (sum_by (λ (p : ℕ × ℕ). p.0 * p.1)) (sym (take_all n weights (omega (arith, weights_long))))
+      ∙ sum_to n (omega arith)
 
 -- ---- sums of uses
 
@@ -153,6 +182,29 @@ module _ {z : Size} {u c sums : List ℕ} (running : Running z u c sums) (b l : 
           let le = leb-true (used (tables z b u l) c (k + 1)) (limit_at l (k + 1)) e in
           omega (arith, limit_is (k + 1) (omega arith) (omega arith), running.sums_are b l (k + 1) (omega arith) (omega arith), ap (λ (i : ℕ). get_or sums i 0) here, ap (λ (i : ℕ). get_or l i 0) here)
 
+  -- by the sums and the limits as pairs
+  module _ (limits : Limits l) where
+    few : z.resources ≤ most_resources
+    few = running.bounded.resources
+
+    summed : length (take z.resources sums) ≡ z.resources
+    summed = omega (arith, length-take z.resources sums, few, running.sums_length)
+
+    paired : length (zip (take z.resources sums) l) ≡ z.resources
+    paired = omega (arith, length-zip (take z.resources sums) l, summed, few, limits.places)
+
+    pair_at : (k : ℕ) → k < z.resources → get_or (zip (take z.resources sums) l) k (0, 0) ≡ (get_or sums k 0, get_or l k 0)
+    pair_at k h = get_or-zip (take z.resources sums) l k (0, 0) (omega (arith, summed)) (omega (arith, few, limits.places)) ∙ rw (get_or-take z.resources sums k 0 h)
+
+    pub within_zip : (r : Bool)
+        → MatchBool r (AllWithin (λ (p : ℕ × ℕ). p.0 ≤ p.1) (zip (take z.resources sums) l) 0 (length (zip (take z.resources sums) l)))
+        ((k : ℕ) × (k < length (zip (take z.resources sums) l)) × HoldsAt (λ (p : ℕ × ℕ). p.1 < p.0) (zip (take z.resources sums) l) k)
+        → r ≡ within (tables z b u l) c
+    within_zip true each = within_is ((λ t k h. rw pair_at at (each k (0, 0) (omega arith) (omega (arith, paired)))), (λ h. refl))
+    within_zip false some =
+        let inside : some.0 < z.resources = omega (arith, some.1, paired) in
+        within_is ((λ t. absurd (false≢true t)), (λ h. absurd (omega (arith, h some.0 inside, rw pair_at at (some.2 (0, 0))))))
+
 -- ---- a surplus: 0 where the limit holds, else what the shares are beyond 10,000
 
 module _ {z : Size} {b u l s c : List ℕ} (shares : Shares z b u l s) (measured : Measured z s c) (r : ℕ) (lr : 1 ≤ r) (hr : r ≤ z.resources) where
@@ -187,6 +239,41 @@ module _ {z : Size} {s c held : List ℕ} (measured : Measured z s c) (are : Sha
   pub shares_moved : {v : List ℕ} → ((r : ℕ) → 1 ≤ r → r ≤ z.resources → get_or v (r - 1) 0 + share_at s i (strategy_at c i) r ≡ get_or held (r - 1) 0 + share_at s i a r) → ShareSums z s (give c i a) v
   shares_moved h =
       record { each = λ r lr hr. omega (arith, h r lr hr, are.each r lr hr, sum_give (tables z [] [] []) c i a li hi room (λ k j. share_at s k j r)) }
+
+-- one resource after another
+module _ {s sums less more : List ℕ} {i x a n : ℕ} (few : n ≤ most_resources) (long : length sums ≡ most_resources)
+    (moves : (r : ℕ) → 1 ≤ r → r ≤ n → ShareMove s sums i x a r) (less_long : length less ≡ most_resources) (more_long : length more ≡ most_resources)
+    (less_are : (r : ℕ) → 1 ≤ r → r ≤ most_resources → get_or less (r - 1) 0 ≡ share_at s i x r)
+    (more_are : (r : ℕ) → 1 ≤ r → r ≤ most_resources → get_or more (r - 1) 0 ≡ share_at s i a r) where
+  pub shares_shiftable : Shiftable (take n sums) less more
+  shares_shiftable =
+      let part : length (take n sums) ≡ n = omega (arith, length-take n sums) in
+      record {
+        less_there = omega arith;
+        more_there = omega arith;
+        held = λ k h.
+            let at : k + 1 - 1 ≡ k = omega arith in
+            let m = moves (k + 1) (omega arith) (omega arith) in
+            omega (arith, m.holds, less_are (k + 1) (omega arith) (omega arith), get_or-take n sums k 0 (omega arith), ap (λ (q : ℕ). get_or less q 0) at, ap (λ (q : ℕ). get_or sums q 0) at);
+        small = λ k h.
+            let at : k + 1 - 1 ≡ k = omega arith in
+            let m = moves (k + 1) (omega arith) (omega arith) in
+            omega (arith, m.few, m.small, more_are (k + 1) (omega arith) (omega arith), get_or-take n sums k 0 (omega arith), ap (λ (q : ℕ). get_or more q 0) at, ap (λ (q : ℕ). get_or sums q 0) at);
+      }
+
+  pub shares_shifted : {moved : List ℕ} → Shifted (take n sums) less more moved → (r : ℕ) → 1 ≤ r → r ≤ n
+      → get_or (moved ++ drop n sums) (r - 1) 0 + share_at s i x r ≡ get_or sums (r - 1) 0 + share_at s i a r
+  shares_shifted {moved} is r low high =
+      let part : length (take n sums) ≡ n = omega (arith, length-take n sums) in
+      let inside : r - 1 < n = omega arith in
+      omega (
+        arith,
+        get_or-append moved (drop n sums) 0 (r - 1) (omega (arith, is.places)),
+        is.each (r - 1) (omega arith),
+        get_or-take n sums (r - 1) 0 inside,
+        less_are r low (omega arith),
+        more_are r low (omega arith),
+      )
 
 -- ---- the weaker of two: w stands for segment k, and segment i is compared with it
 

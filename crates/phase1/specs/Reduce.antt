@@ -1,12 +1,12 @@
 -- What the steps of phase 1 read and keep: shares at the places of uses, surpluses, and the weakest segment so far.
 use Rattle.std.specs.Prelude.{ℕ, zero, suc, ◌-◌, ◌*◌, ◌^◌, ◌≤◌, ◌≡◌, List, Bool, ◌&&◌, ◌||◌, eqb, ltb, get_or, length}
-use Rattle.std.specs.Prelude.{Option, None, Some}
-use Rattle.base.specs.Over.{sum, better_of}
+use Rattle.std.specs.Prelude.{Option, None, Some, MatchOption, false}
+use Rattle.base.specs.Over.{sum, best, better_of}
 use Rattle.rules.specs.Table.{Table}
-use Rattle.rules.specs.Phases.{strategy_at, pruned, share, surplus, pulls, ratio, lesser_ratio}
+use Rattle.rules.specs.Phases.{strategy_at, pruned, within, share, surplus, pulls, ratio, lesser_ratio, weakest, step}
 use Rattle.laws.specs.Tables.{FitAlone, OfCandidates}
 use Rattle.tables.specs.declared.Size.{Size}
-use Rattle.tables.specs.Arrays.{use_entry, tables, leader_in, Benefits, Limits, Bounded, Chosen, Running, use_entries}
+use Rattle.tables.specs.Arrays.{use_entry, tables, leader_in, Bounded, Chosen, use_entries}
 use Rattle.phase1.specs.declared.weighed.Weak.{Weak}
 
 -- what an array at the places of uses holds for resource r of strategy j on segment i
@@ -42,11 +42,9 @@ pub record Measured (z : Size) (s c : List ℕ) : Type 0 where
   pub places : length s ≡ use_entries
   pub small : (i r : ℕ) → 1 ≤ i → i ≤ z.segments → 1 ≤ r → r ≤ z.resources → held_share s c r i ≤ 10_000
 
--- what reduce takes, and keeps from step to step: a programme of candidates with its running sums
-pub record Held (z : Size) (b u l s c sums : List ℕ) : Type 0 where
-  pub benefits : Benefits b
-  pub limits : Limits l
-  pub running : Running z u c sums
+-- what reduce takes beside a table and a programme, and keeps from step to step: the table's shares, and that the programme is one of
+-- candidates, each of which fits alone
+pub record Held (z : Size) (b u l s c : List ℕ) : Type 0 where
   pub fit : FitAlone (tables z b u l)
   pub shares : Shares z b u l s
   pub candidates : OfCandidates (tables z b u l) c
@@ -70,6 +68,17 @@ pub record ShareMove (s held : List ℕ) (i x a r : ℕ) : Type 0 where
 pub record Surpluses (t : Table) (c over : List ℕ) : Type 0 where
   pub surplus_is : (r : ℕ) → 1 ≤ r → r ≤ t.resources → get_or over (r - 1) 0 ≡ surplus t c r
 
+-- segment i is the one to step
+pub record IsStep (t : Table) (c : List ℕ) (i : ℕ) : Type 0 where
+  pub over : within t c ≡ false
+  pub is : i ≡ weakest t c
+  pub low : 1 ≤ i
+  pub high : i ≤ t.segments
+
+-- what a search for it answers: none where there is no step
+abbrev pub ToStep : Table → (ℕ → ℕ) → List ℕ → Option ℕ → Type 0
+ToStep t leader c r = MatchOption r (step t leader c ≡ None) (IsStep t c)
+
 -- the segment that a number names; 0 names none
 abbrev pub segment_in : ℕ → Option ℕ
 segment_in zero = None
@@ -91,3 +100,11 @@ IsWeaker t c i w v = (k : ℕ) → w ≡ weak_at t c k → v ≡ weak_at t c (we
 -- by falling benefit, of value and old, and among equals by number, j comes after a
 abbrev pub follows : ℕ → ℕ → ℕ → ℕ → Bool
 follows value old a j = ltb value old || (eqb value old && ltb a j)
+
+-- a test of number and value holds of those of 1, .. n that p says, where j has the value f j
+abbrev pub IsTest : ℕ → (ℕ → ℕ → Bool → Type 0) → (ℕ → ℕ) → (ℕ → Bool) → Type 0
+IsTest n answers f p = (j : ℕ) → 1 ≤ j → j ≤ n → (r : Bool) → answers j (f j) r → r ≡ p j
+
+-- of 1, .. n the one of greatest value, of equals the lowest, among those of which p holds and the value is not 0; 0 where there is none
+abbrev pub best_passing : ℕ → (ℕ → ℕ) → (ℕ → Bool) → ℕ
+best_passing n f p = best n (λ k. ltb 0 (f k) && p k) (λ a b. ltb (f b) (f a))

@@ -2,18 +2,18 @@
 // whose leader has nothing has nothing.
 #![tactic(auto)]
 
-ghost use Rattle.std.specs.Prelude.{◌≡◌, false, List, ℕ, ◌≤◌, length};
-ghost use Rattle.std.specs.Prelude.{Some};
+ghost use Rattle.std.specs.Prelude.{◌≡◌, Bool, false, List, ℕ, ◌≤◌, Some};
 ghost use Rattle.base.specs.Over.{sum};
 ghost use Rattle.rules.specs.District.{most_segments, most_strategies, most_resources};
 ghost use Rattle.rules.specs.Phases.{strategy_at, pruned, top_candidate, bests, start, next_candidate, step_down, phase1};
-ghost use Rattle.tables.specs.Arrays.{tables, leader_in, Bounded, Cell, Running};
-ghost use Rattle.tables.specs.Views.{table_in, leaders_in, Drafted};
-ghost use Rattle.phase1.specs.Reduce.{ShareSums, held_share, Summable, LedWithin, follows};
+ghost use Rattle.tables.specs.Arrays.{tables, benefit_at, leader_in, Bounded, Cell, Running};
+ghost use Rattle.tables.specs.Views.{table_in, leaders_in};
+ghost use Rattle.phase1.specs.Reduce.{ShareSums, held_share, Summable, LedWithin, IsTest, ToStep, best_passing};
 ghost use Rattle.phase1.specs.Views.{HeldIn};
 
 use rules::places::{MOST_RESOURCES, MOST_SEGMENTS};
-use tables::{BenefitTable, COLUMNS, Draft, LeaderList, Size, TableView, UsageTable};
+use shares::Summed;
+use tables::{BenefitTable, COLUMNS, Draft, LeaderList, Move, Planning, Size, UsageTable};
 use weighed::Weighed;
 
 pub mod shares;
@@ -21,17 +21,24 @@ mod weighed;
 
 pub use shares::ShareTable;
 
-// The candidate of segment i with the greatest benefit, of equals the lowest; 0 where there is none, which is the number of
-// nothing. A loop, since max_by_key would take the last of equals, and a benefit of 0.
-fn top_candidate(z: Size, benefits: BenefitTable<'_>, i: usize) -> usize
-    requires { Cell i z.strategies }
-    ensures { (u l : List ℕ) → result ≡ top_candidate (tables z benefits.entry.entries.now u l) i }
+// The candidate of segment i with the greatest benefit, of equals the lowest, among those of which the test, of number and
+// benefit, holds; 0 where there is none, which is the number of nothing. A loop, since max_by_key would take the last of equals,
+// and a benefit of 0.
+fn best_candidate<F: Fn(usize, u64) -> bool>(
+    z: Size,
+    benefits: BenefitTable<'_>,
+    i: usize,
+    passes: F,
+) -> usize
+    requires cell { Cell i z.strategies }
+    requires callable { F.IsAlwaysCallable passes }
+    ensures { (p : ℕ → Bool) → IsTest z.strategies (F.post passes) (benefit_at benefits.entry.entries.now i) p → result ≡ best_passing z.strategies (benefit_at benefits.entry.entries.now i) p }
 {
     let mut top: usize = 0;
     let mut most: u64 = 0;
     for j in 0..z.strategies {
         let value = benefits.at(i, j + 1);
-        if most < value {
+        if most < value && passes(j + 1, value) {
             top = j + 1;
             most = value;
         }
@@ -39,35 +46,26 @@ fn top_candidate(z: Size, benefits: BenefitTable<'_>, i: usize) -> usize
     top
 }
 
-// By falling benefit, and among equals by number, strategy j comes after a: value and old are their benefits.
-#[tactic(auto, using(std::proofs::lemmas::Bool::Decides::nat_tests))]
-fn comes_after(value: u64, old: u64, a: usize, j: usize) -> bool
-    ensures { result ≡ follows value old a j }
+// The candidate of segment i with the greatest benefit, of equals the lowest, or nothing.
+fn top_candidate(z: Size, benefits: BenefitTable<'_>, i: usize) -> usize
+    requires { Cell i z.strategies }
+    ensures { (u l : List ℕ) → result ≡ top_candidate (tables z benefits.entry.entries.now u l) i }
 {
-    value < old || value == old && a < j
+    best_candidate(z, benefits, i, |_, _| true)
 }
 
-// The candidate of segment i that comes next after a, or nothing after the last.
+// The candidate of segment i that comes next after a, by falling benefit and among equals by number, or nothing after the last.
 fn next_candidate(z: Size, benefits: BenefitTable<'_>, i: usize, a: usize) -> usize
     requires { Cell i z.strategies × (a ≤ z.strategies) }
     ensures { (u l : List ℕ) → result ≡ next_candidate (tables z benefits.entry.entries.now u l) i a }
 {
-    let mut next: usize = 0;
-    let mut greatest: u64 = 0;
     let old = benefits.at(i, a);
-    for k in 0..z.strategies {
-        let value = benefits.at(i, k + 1);
-        if greatest < value && comes_after(value, old, a, k + 1) {
-            next = k + 1;
-            greatest = value;
-        }
-    }
-    next
+    best_candidate(z, benefits, i, |j, value| (value, a) < (old, j))
 }
 
 // Of an array at the places of uses, what stands there for a programme's strategies in resource r, together.
 #[tactic(auto, using(crate::proofs::Pulls::first_le))]
-fn sum_in(z: Size, entries: &[u64], choice: &[usize], r: usize) -> u64
+fn sum_in(z: Size, entries: &[u64], choice: &[usize; MOST_SEGMENTS], r: usize) -> u64
     requires summable { Summable z entries.now choice.now }
     requires le_r { (1 ≤ r) × (r ≤ z.resources) }
     ensures { result ≡ sum z.segments (held_share entries.now choice.now r) }
@@ -80,7 +78,7 @@ fn sum_in(z: Size, entries: &[u64], choice: &[usize], r: usize) -> u64
 }
 
 // The same in each resource: of uses the sums that a draft keeps, of shares those that the surpluses need.
-fn sums_of(z: Size, entries: &[u64], choice: &[usize]) -> [u64; MOST_RESOURCES]
+fn sums_of(z: Size, entries: &[u64], choice: &[usize; MOST_SEGMENTS]) -> [u64; MOST_RESOURCES]
     requires { Summable z entries.now choice.now }
     ensures { ShareSums z entries.now choice.now result }
 {
@@ -92,9 +90,9 @@ fn sums_of(z: Size, entries: &[u64], choice: &[usize]) -> [u64; MOST_RESOURCES]
 }
 
 // Of the first segments those get nothing whose leaders have nothing, by rising number. Returns whether one of them had
-// something.
-fn prune(segments: usize, leaders: LeaderList<'_>, choice: &mut [usize]) -> bool
-    requires { (length choice.old ≡ most_segments) × (segments ≤ most_segments) }
+// something. A loop over numbers, since whether a segment keeps what it has goes by what the ones before it still have.
+fn prune(segments: usize, leaders: LeaderList<'_>, choice: &mut [usize; MOST_SEGMENTS]) -> bool
+    requires { segments ≤ most_segments }
     ensures choice_after { choice.new ≡ pruned (leader_in leaders.entry.entries.now) segments choice.old }
     ensures choice_unchanged { result ≡ false → choice.new ≡ choice.old }
 {
@@ -113,75 +111,73 @@ fn last_led(segments: usize, leaders: LeaderList<'_>) -> usize
     requires { segments ≤ most_segments }
     ensures { LedWithin leaders.entry.entries.now segments result }
 {
-    let mut last: usize = 0;
-    for (i, leader) in leaders.entries[..segments].iter().enumerate() {
-        if *leader > 0 {
-            last = i + 1;
-        }
+    match leaders.entries[..segments]
+        .iter()
+        .rposition(|leader| *leader > 0)
+    {
+        Some(i) => i + 1,
+        None => 0,
     }
-    last
 }
 
 // Segment i takes its next candidate; where that leaves others without their leaders, they lose what they have in the same
 // step. The first `led` segments have all the leaders.
-fn step(
-    t: TableView<'_>,
-    shares: ShareTable<'_>,
-    led: usize,
-    draft: &mut Draft,
-    share_sums: &mut [u64; MOST_RESOURCES],
-    i: usize,
-)
-    requires leaders { LedWithin t.leaders.entries.now t.size.segments led }
-    requires held { HeldIn t shares.entries.now draft.old }
-    requires share_sums { ShareSums t.size shares.entries.now draft.old.choice share_sums.old }
-    requires le_i { (1 ≤ i) × (i ≤ t.size.segments) }
-    ensures running { Drafted t.entry draft.new }
-    ensures stepped { step_down (table_in t.entry) (leaders_in t.entry) draft.old.choice i ≡ Some draft.new.choice }
-    ensures share_sums { ShareSums t.entry.size shares.entry.entries.now draft.new.choice share_sums.new }
+fn step(planning: &mut Planning<'_>, summed: &mut Summed<'_>, led: usize, i: usize)
+    requires leaders { LedWithin planning.old.t.leaders.entries.now planning.old.t.size.segments led }
+    requires held { HeldIn planning.old.t summed.old.shares.entries.now planning.old.draft.choice }
+    requires sums { ShareSums planning.old.t.size summed.old.shares.entries.now planning.old.draft.choice summed.old.sums }
+    requires le_i { (1 ≤ i) × (i ≤ planning.old.t.size.segments) }
+    ensures same_table { planning.new.t ≡ planning.old.t }
+    ensures same_shares { summed.new.shares ≡ summed.old.shares }
+    ensures stepped { step_down (table_in planning.old.t) (leaders_in planning.old.t) planning.old.draft.choice i ≡ Some planning.new.draft.choice }
+    ensures sums { ShareSums planning.old.t.size summed.old.shares.entries.now planning.new.draft.choice summed.new.sums }
 {
-    let x = draft.choice[i - 1];
-    let j = next_candidate(t.size, t.benefits, i, x);
-    draft.give(t.size, t.uses, i, j);
-    if prune(led, t.leaders, &mut draft.choice) {
-        draft.sums = sums_of(t.size, t.uses.entries, &draft.choice);
-        *share_sums = sums_of(t.size, shares.entries, &draft.choice);
+    let t = planning.t;
+    let x = planning.draft.choice[i - 1];
+    let next = Move(i, next_candidate(t.size, t.benefits, i, x));
+    planning.give(next);
+    if prune(led, t.leaders, &mut planning.draft.choice) {
+        planning.draft.sums = sums_of(t.size, t.uses.entries, &planning.draft.choice);
+        summed.sums = sums_of(t.size, summed.shares.entries, &planning.draft.choice);
     } else {
-        shares.move_sums(t.size.resources, share_sums, i, x, j);
+        summed.give(t.size.resources, x, next);
     }
+}
+
+// The segment to step, the weakest; none where every limit holds.
+fn to_step(planning: &Planning<'_>, summed: &Summed<'_>) -> Option<usize>
+    requires held { HeldIn planning.now.t summed.now.shares.entries.now planning.now.draft.choice }
+    requires sums { ShareSums planning.now.t.size summed.now.shares.entries.now planning.now.draft.choice summed.now.sums }
+    ensures { ToStep (table_in planning.now.t) (leaders_in planning.now.t) planning.now.draft.choice result }
+{
+    let weighed = Weighed { planning, summed };
+    if weighed.limits_hold() {
+        return None;
+    }
+    weighed.weakest()
 }
 
 // Phase 1, the steps: until every limit holds. Returns how many there were.
-pub fn reduce(t: TableView<'_>, shares: ShareTable<'_>, draft: &mut Draft) -> u64
-    requires { HeldIn t shares.entries.now draft.old }
-    ensures running { Drafted t.entry draft.new }
-    ensures choice_after { draft.new.choice ≡ (phase1 (table_in t.entry) (leaders_in t.entry) draft.old.choice).last }
-    ensures value { result ≡ (phase1 (table_in t.entry) (leaders_in t.entry) draft.old.choice).count }
+pub fn reduce(planning: &mut Planning<'_>, shares: ShareTable<'_>) -> u64
+    requires { HeldIn planning.old.t shares.entries.now planning.old.draft.choice }
+    ensures same_table { planning.new.t ≡ planning.old.t }
+    ensures choice_after { planning.new.draft.choice ≡ (phase1 (table_in planning.old.t) (leaders_in planning.old.t) planning.old.draft.choice).last }
+    ensures value { result ≡ (phase1 (table_in planning.old.t) (leaders_in planning.old.t) planning.old.draft.choice).count }
 {
-    let led = last_led(t.size.segments, t.leaders);
-    let mut share_sums = sums_of(t.size, shares.entries, &draft.choice);
-    let bound = (t.size.segments * t.size.strategies) as u64;
-    for steps in 0..bound {
-        let weighed = Weighed {
-            t,
-            shares,
-            draft,
-            share_sums: &share_sums,
-        };
-        if weighed.limits_hold() {
-            return steps;
-        }
-        let Some(i) = weighed.weakest() else {
-            return steps;
-        };
-        step(t, shares, led, draft, &mut share_sums, i);
+    let led = last_led(planning.t.size.segments, planning.t.leaders);
+    let sums = sums_of(planning.t.size, shares.entries, &planning.draft.choice);
+    let mut summed = Summed { shares, sums };
+    let mut steps: u64 = 0;
+    while let Some(i) = to_step(planning, &summed) {
+        step(planning, &mut summed, led, i);
+        steps += 1;
     }
-    bound
+    steps
 }
 
 // Each segment takes its top candidate.
-fn choose_tops(z: Size, benefits: BenefitTable<'_>, choice: &mut [usize])
-    requires { (z.strategies ≤ most_strategies) × (length choice.old ≡ most_segments) }
+fn choose_tops(z: Size, benefits: BenefitTable<'_>, choice: &mut [usize; MOST_SEGMENTS])
+    requires { z.strategies ≤ most_strategies }
     ensures { (u l : List ℕ) → choice.new ≡ bests (tables z benefits.entry.entries.now u l) }
 {
     for (i, chosen) in choice.iter_mut().enumerate() {

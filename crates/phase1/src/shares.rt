@@ -5,7 +5,7 @@ ghost use Rattle.tables.specs.Arrays.{use_entries, Cell};
 ghost use Rattle.phase1.specs.Reduce.{share_at, ShareMove};
 
 use rules::places::MOST_RESOURCES;
-use tables::COLUMNS;
+use tables::{Move, row_of, shift};
 
 #[derive(Clone, Copy)]
 pub struct ShareTable<'a> {
@@ -20,20 +20,28 @@ impl<'a> ShareTable<'a> {
         ensures len { length result.now ≡ most_resources }
         ensures shares { (r : ℕ) → 1 ≤ r → r ≤ most_resources → get_or result.now (r - 1) 0 ≡ share_at self.entry.entries.now i j r }
     {
-        let at = MOST_RESOURCES * (COLUMNS * (i - 1) + j);
-        &self.entries[at..at + MOST_RESOURCES]
+        row_of(self.entries, i, j)
     }
+}
 
-    // The sums of shares move along where segment i goes from x to a.
-    pub(crate) fn move_sums(self, resources: usize, sums: &mut [u64], i: usize, x: usize, a: usize)
-        requires cells { (resources ≤ most_resources) × (length sums.old ≡ most_resources) × Cell i x × Cell i a }
-        requires moves { (r : ℕ) → 1 ≤ r → r ≤ resources → ShareMove self.entries.now sums.old i x a r }
-        ensures { (r : ℕ) → 1 ≤ r → r ≤ resources → get_or sums.new (r - 1) 0 + share_at self.entry.entries.now i x r ≡ get_or sums.old (r - 1) 0 + share_at self.entry.entries.now i a r }
+// A table of shares with the sums of a programme's, one for each resource.
+#[derive(Drop)]
+pub(crate) struct Summed<'a> {
+    pub(crate) shares: ShareTable<'a>,
+    pub(crate) sums: [u64; MOST_RESOURCES],
+}
+
+impl Summed<'_> {
+    // The sums go along where a segment that has strategy x makes the move.
+    pub(crate) fn give(&mut self, resources: usize, x: usize, m: Move)
+        requires cells { (resources ≤ most_resources) × Cell m.0 x × Cell m.0 m.1 }
+        requires moves { (r : ℕ) → 1 ≤ r → r ≤ resources → ShareMove self.old.shares.entries.now self.old.sums m.0 x m.1 r }
+        ensures same_shares { self.new.shares ≡ self.old.shares }
+        ensures sums { (r : ℕ) → 1 ≤ r → r ≤ resources → get_or self.new.sums (r - 1) 0 + share_at self.old.shares.entries.now m.0 x r ≡ get_or self.old.sums (r - 1) 0 + share_at self.old.shares.entries.now m.0 m.1 r }
     {
-        let less = self.row(i, x);
-        let more = self.row(i, a);
-        for r in 0..resources {
-            sums[r] = sums[r] - less[r] + more[r];
-        }
+        let Move(i, j) = m;
+        let less = self.shares.row(i, x);
+        let more = self.shares.row(i, j);
+        shift(&mut self.sums[..resources], less, more);
     }
 }

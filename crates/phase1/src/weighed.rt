@@ -3,13 +3,13 @@ ghost use Rattle.std.specs.Prelude.{◌≡◌, ℕ, ◌-◌, ◌*◌, ◌/◌, �
 ghost use Rattle.base.specs.Over.{sum};
 ghost use Rattle.rules.specs.District.{most_resources};
 ghost use Rattle.rules.specs.Phases.{within, surplus, pull, weakest};
-ghost use Rattle.tables.specs.Views.{table_in, Drafted};
+ghost use Rattle.tables.specs.Views.{table_in};
 ghost use Rattle.phase1.specs.Reduce.{ShareSums, Measured, Surpluses, IsWeaker, row_pull, segment_in};
 ghost use Rattle.phase1.specs.Views.{SharesIn};
 
-use crate::shares::ShareTable;
+use crate::shares::Summed;
 use rules::places::MOST_RESOURCES;
-use tables::{Draft, TableView};
+use tables::Planning;
 
 // A segment with its ratio.
 #[derive(Clone, Copy)]
@@ -18,44 +18,49 @@ struct Weak {
     ratio: u64,
 }
 
-// A table with its shares, a programme, and the sum of the programme's shares in each resource.
+// A table and a programme in the making, weighed by shares.
 #[derive(Clone, Copy)]
 pub(crate) struct Weighed<'a> {
-    pub(crate) t: TableView<'a>,
-    pub(crate) shares: ShareTable<'a>,
-    pub(crate) draft: &'a Draft,
-    pub(crate) share_sums: &'a [u64; MOST_RESOURCES],
-    ghost shares_are: { SharesIn t shares.entries.now },
-    ghost running: { Drafted t draft.now },
-    ghost measured: { Measured t.size shares.entries.now draft.now.choice },
-    ghost sums_are: { ShareSums t.size shares.entries.now draft.now.choice share_sums.now },
+    pub(crate) planning: &'a Planning<'a>,
+    pub(crate) summed: &'a Summed<'a>,
+    ghost shares_are: { SharesIn planning.now.t summed.now.shares.entries.now },
+    ghost measured: { Measured planning.now.t.size summed.now.shares.entries.now planning.now.draft.choice },
+    ghost sums_are: { ShareSums planning.now.t.size summed.now.shares.entries.now planning.now.draft.choice summed.now.sums },
 }
 
 impl Weighed<'_> {
     // Every limit holds.
     pub(crate) fn limits_hold(&self) -> bool
-        ensures { result ≡ within (table_in self.now.t) self.now.draft.now.choice }
+        ensures { result ≡ within (table_in self.now.planning.now.t) self.now.planning.now.draft.choice }
     {
-        (0..self.t.size.resources).all(|r| self.draft.sums[r] <= self.t.limits.entries[r])
+        let Planning { t, draft } = self.planning;
+        draft.sums[..t.size.resources]
+            .iter()
+            .zip(t.limits.entries)
+            .all(|(sum, limit)| sum <= limit)
     }
 
     // The surplus of resource r: what its shares are beyond 10,000, where its limit does not hold.
     fn surplus(&self, r: usize) -> u64
-        requires { (1 ≤ r) × (r ≤ self.now.t.size.resources) }
-        ensures { result ≡ surplus (table_in self.now.t) self.now.draft.now.choice r }
+        requires { (1 ≤ r) × (r ≤ self.now.planning.now.t.size.resources) }
+        ensures { result ≡ surplus (table_in self.now.planning.now.t) self.now.planning.now.draft.choice r }
     {
-        if self.draft.sums[r - 1] <= self.t.limits.entries[r - 1] {
+        let Planning { t, draft } = self.planning;
+        if draft.sums[r - 1] <= t.limits.entries[r - 1] {
             return 0;
         }
-        self.share_sums[r - 1].saturating_sub(10_000)
+        self.summed.sums[r - 1].saturating_sub(10_000)
     }
 
     // The surplus of each resource.
     fn surpluses(&self) -> [u64; MOST_RESOURCES]
-        ensures { Surpluses (table_in self.now.t) self.now.draft.now.choice result }
+        ensures { Surpluses (table_in self.now.planning.now.t) self.now.planning.now.draft.choice result }
     {
         let mut over = [0u64; MOST_RESOURCES];
-        for (r, beyond) in over[..self.t.size.resources].iter_mut().enumerate() {
+        for (r, beyond) in over[..self.planning.t.size.resources]
+            .iter_mut()
+            .enumerate()
+        {
             *beyond = self.surplus(r + 1);
         }
         over
@@ -63,59 +68,58 @@ impl Weighed<'_> {
 
     // The pull of segment i: the shares of its strategy times the surpluses.
     fn pull(&self, over: &[u64; MOST_RESOURCES], i: usize) -> u64
-        requires over { Surpluses (table_in self.now.t) self.now.draft.now.choice over.now }
-        requires le_i { (1 ≤ i) × (i ≤ self.now.t.size.segments) }
-        ensures { result ≡ pull (table_in self.now.t) self.now.draft.now.choice i }
+        requires over { Surpluses (table_in self.now.planning.now.t) self.now.planning.now.draft.choice over.now }
+        requires le_i { (1 ≤ i) × (i ≤ self.now.planning.now.t.size.segments) }
+        ensures { result ≡ pull (table_in self.now.planning.now.t) self.now.planning.now.draft.choice i }
     {
-        let row = self.shares.row(i, self.draft.choice[i - 1]);
-        pull_by(self.t.size.resources, row, over)
+        let row = self.summed.shares.row(i, self.planning.draft.choice[i - 1]);
+        pull_by(self.planning.t.size.resources, row, over)
     }
 
     // The weaker of w and segment i: the one of the lesser ratio, of equals w; only a segment that pulls counts.
     fn weaker(&self, over: &[u64; MOST_RESOURCES], w: Option<Weak>, i: usize) -> Option<Weak>
-        requires over { Surpluses (table_in self.now.t) self.now.draft.now.choice over.now }
-        requires le_i { (1 ≤ i) × (i ≤ self.now.t.size.segments) }
-        ensures { IsWeaker (table_in self.now.t) self.now.draft.now.choice i w result }
+        requires over { Surpluses (table_in self.now.planning.now.t) self.now.planning.now.draft.choice over.now }
+        requires le_i { (1 ≤ i) × (i ≤ self.now.planning.now.t.size.segments) }
+        ensures { IsWeaker (table_in self.now.planning.now.t) self.now.planning.now.draft.choice i w result }
     {
         let pulled = self.pull(over, i);
         if pulled == 0 {
             return w;
         }
-        let ratio = ratio_of(self.t.benefits.chosen(&self.draft.choice, i), pulled);
+        let Planning { t, draft } = self.planning;
+        let benefit = t.benefits.chosen(&draft.choice, i);
+        let ratio = ratio_of(benefit, pulled);
         match w {
             Some(least) if least.ratio <= ratio => w,
             _ => Some(Weak { segment: i, ratio }),
         }
     }
 
-    // The segment to step: of those that pull the one of least ratio, of equals the lowest.
+    // Of the segments that pull the one of least ratio, of equals the lowest. A loop over numbers: a method weighs the next segment,
+    // by its number, against the weakest so far, and a fold would carry the same.
     pub(crate) fn weakest(&self) -> Option<usize>
-        ensures { result ≡ segment_in (weakest (table_in self.now.t) self.now.draft.now.choice) }
+        ensures { result ≡ segment_in (weakest (table_in self.now.planning.now.t) self.now.planning.now.draft.choice) }
     {
         let over = self.surpluses();
         let mut least = None;
-        for i in 0..self.t.size.segments {
+        for i in 0..self.planning.t.size.segments {
             least = self.weaker(&over, least, i + 1);
         }
         least.map(|w| w.segment)
     }
 }
 
-// A row of shares times the surpluses. A loop that passes over a resource without surplus, since a chain of products would
-// multiply all.
+// A row of shares times the surpluses.
 fn pull_by(resources: usize, row: &[u64], over: &[u64; MOST_RESOURCES]) -> u64
     requires resources_le_most_resources { (resources ≤ most_resources) × (length row.now ≡ most_resources) }
     requires by_index { ((r : ℕ) → 1 ≤ r → r ≤ resources → get_or row.now (r - 1) 0 ≤ 10_000) × ((r : ℕ) → 1 ≤ r → r ≤ resources → get_or over.now (r - 1) 0 ≤ 640_000) }
     ensures { result ≡ sum resources (row_pull row.now over.now) }
 {
-    let mut all: u64 = 0;
-    for r in 0..resources {
-        let beyond = over[r];
-        if beyond > 0 {
-            all += row[r] * beyond;
-        }
-    }
-    all
+    row[..resources]
+        .iter()
+        .zip(over)
+        .map(|(share, beyond)| share * beyond)
+        .sum()
 }
 
 // What a benefit gives for a pull, in millionths.

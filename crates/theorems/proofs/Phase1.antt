@@ -166,10 +166,10 @@ module _ (t : Table) (i : ℕ) where
       omega (arith, rank_some a some-a, rank_some j l))
 
 -- how many candidates stand at the chosen ones or after them
-potential : Table → List ℕ → ℕ
+pub potential : Table → List ℕ → ℕ
 potential t c = sum t.segments (λ i. rank t i (strategy_at c i))
 
-potential_small : (t : Table) (c : List ℕ) → OfCandidates t c → potential t c ≤ t.segments * t.strategies
+pub potential_small : (t : Table) (c : List ℕ) → OfCandidates t c → potential t c ≤ t.segments * t.strategies
 unfolding potential
 potential_small t c o = sum_bound t.segments t.strategies (λ i. rank t i (strategy_at c i)) (λ i l h. rank_small t i (strategy_at c i) (o.each i l h))
 
@@ -194,7 +194,7 @@ module _ (t : Table) (leader : ℕ → ℕ) (fit : FitAlone t) where
   unfolding weakest pulls
   weakest_pulls c = best_ind (pulls t c) (lesser_ratio t c) (λ b. 1 ≤ b → 1 ≤ pull t c b) t.segments (λ l. absurd (omega arith)) (λ k l h e some-k. ltb-true 0 (pull t c k) e)
 
-  step_falls : (c d : List ℕ) → step t leader c ≡ Some d → OfCandidates t c → potential t d < potential t c
+  pub step_falls : (c d : List ℕ) → step t leader c ≡ Some d → OfCandidates t c → potential t d < potential t c
   unfolding potential
   step_falls c d e o =
       step_cases t leader c (λ x. x ≡ Some d → potential t d < potential t c) (λ w n. absurd (no_step n)) (λ w z n. absurd (no_step n))

@@ -1,10 +1,8 @@
 use mathlib.Core.Path.{◌≡◌}
 use mathlib.Core.Bool.{false}
-use lib.ListN.{length}
-use Rattle.rules.specs.District.{most_segments}
 use Rattle.rules.specs.Phases.{pruned}
 use Rattle.tables.specs.Arrays.{leader_in}
 use Rattle.phase1.proofs.prune.Given as goal
 
 abbrev pub invariant-loop-i : goal.invariant-loop-i
-invariant-loop-i l = (length l.choice ≡ most_segments) × (l.choice ≡ pruned (leader_in l.leaders.entries.now) l.i l.initial.choice) × (l.lost ≡ false → l.choice ≡ l.initial.choice)
+invariant-loop-i l = (l.choice ≡ pruned (leader_in l.leaders.entries.now) l.i l.initial.choice) × (l.lost ≡ false → l.choice ≡ l.initial.choice)

@@ -1,6 +1,14 @@
+use Prim.Native.Nat.{◌-◌}
+use mathlib.Core.Path.{◌≡◌}
 use Rattle.phase1.specs.Reduce.{ShareSums}
-use Rattle.phase1.proofs.Reduction.{Down}
+use Rattle.phase1.proofs.Reduction.{Down, most_steps}
 use Rattle.phase1.proofs.reduce.Given as goal
 
-abbrev pub invariant-loop-steps : goal.invariant-loop-steps
-invariant-loop-steps l = Down l.t l.shares.entries.now l.initial.draft.choice l.draft l.steps × ShareSums l.t.size l.shares.entries.now l.draft.choice l.share_sums
+abbrev pub invariant-loop-i : goal.invariant-loop-i
+invariant-loop-i l =
+    (l.planning.t ≡ l.initial.planning.t) × (l.summed.shares ≡ l.initial.summed.shares)
+    × Down l.initial.planning.t l.initial.summed.shares.entries.now l.initial.planning.draft.choice l.planning.draft.choice l.steps
+    × ShareSums l.initial.planning.t.size l.initial.summed.shares.entries.now l.planning.draft.choice l.summed.sums
+
+abbrev pub decreases-loop-i : goal.decreases-loop-i
+decreases-loop-i l = most_steps l.initial.planning.t - l.steps

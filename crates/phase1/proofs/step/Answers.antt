@@ -6,43 +6,50 @@ use Rattle.phase1.proofs.Pulls.{uses_summable, uses_running, measured_summable, 
 use Rattle.phase1.proofs.Reduction.{held_measured, next_measured, pruned_measured, steps_down}
 use Rattle.phase1.proofs.step.Goals as goal
 
-pub give-requires-clause-le_i : goal.give-requires-clause-le_i
-give-requires-clause-le_i c = let p = c.requires in (p.le_i.0, p.le_i.1, next_le _ _ [] [] _ _ (c.next_candidate-j.ensures [] []))
+pub give-requires : goal.give-requires
+give-requires c = let p = c.requires in (p.le_i.0, p.le_i.1, next_le _ _ [] [] _ _ (c.next_candidate.ensures [] []))
 
-pub sums_of-draft-requires : goal.sums_of-draft-requires
-sums_of-draft-requires c =
+pub sums_of-planning-requires : goal.sums_of-planning-requires
+sums_of-planning-requires c =
     let p = c.requires in
-    let after = pruned_measured p.held _ p.le_i.0 p.le_i.1 (c.next_candidate-j.ensures _ _) p.leaders c.give.ensures.choice_after c.prune.ensures.choice_after in
-    uses_summable after.bounded c.args.t.uses.held after.chosen
+    let r = c.args.planning.now.running in
+    let after = pruned_measured r.bounded r.chosen p.held _ p.le_i.0 p.le_i.1 (c.next_candidate.ensures _ _) p.leaders c.give.ensures.choice_after c.prune.ensures.choice_after in
+    uses_summable after.bounded r.uses after.chosen
 
-pub sums_of-requires : goal.sums_of-requires
-sums_of-requires c =
+pub invariant_of-planning : goal.invariant_of-planning
+invariant_of-planning c =
     let p = c.requires in
-    measured_summable (pruned_measured p.held _ p.le_i.0 p.le_i.1 (c.next_candidate-j.ensures _ _) p.leaders c.give.ensures.choice_after c.prune.ensures.choice_after)
+    let r = c.args.planning.now.running in
+    let after = pruned_measured r.bounded r.chosen p.held _ p.le_i.0 p.le_i.1 (c.next_candidate.ensures _ _) p.leaders c.give.ensures.choice_after c.prune.ensures.choice_after in
+    record { running = rw c.give.ensures.same_table (uses_running after.bounded r.uses after.chosen (omega arith) c.sums_of-planning.ensures) }
 
-pub move_sums-requires-clause-moves : goal.move_sums-requires-clause-moves
-move_sums-requires-clause-moves c =
+pub sums_of-summed-requires : goal.sums_of-summed-requires
+sums_of-summed-requires c =
     let p = c.requires in
-    share_moves (held_measured p.held) p.share_sums _ _ p.le_i.0 p.le_i.1 (next_measured p.held _ p.le_i.0 p.le_i.1 (c.next_candidate-j.ensures _ _))
+    let r = c.args.planning.now.running in
+    measured_summable (pruned_measured r.bounded r.chosen p.held _ p.le_i.0 p.le_i.1 (c.next_candidate.ensures _ _) p.leaders c.give.ensures.choice_after c.prune.ensures.choice_after)
 
-pub returns-then-prune-clause-running : goal.returns-then-prune-clause-running
-returns-then-prune-clause-running c =
+pub give-requires-else-prune-clause-moves : goal.give-requires-else-prune-clause-moves
+give-requires-else-prune-clause-moves c =
     let p = c.requires in
-    let after = pruned_measured p.held _ p.le_i.0 p.le_i.1 (c.next_candidate-j.ensures _ _) p.leaders c.give.ensures.choice_after c.prune.ensures.choice_after in
-    uses_running after.bounded c.args.t.uses.held after.chosen (omega arith) c.sums_of-draft.ensures
+    let r = c.args.planning.now.running in
+    share_moves (held_measured r.bounded r.chosen p.held) p.sums _ _ p.le_i.0 p.le_i.1 (next_measured r.bounded r.chosen p.held _ p.le_i.0 p.le_i.1 (c.next_candidate.ensures _ _))
 
 pub returns-then-prune-clause-stepped : goal.returns-then-prune-clause-stepped
 returns-then-prune-clause-stepped c =
     let p = c.requires in
-    steps_down p.held _ p.le_i.0 p.le_i.1 (c.next_candidate-j.ensures _ _) p.leaders c.give.ensures.choice_after c.prune.ensures.choice_after
+    let r = c.args.planning.now.running in
+    steps_down r.bounded r.chosen p.held _ p.le_i.0 p.le_i.1 (c.next_candidate.ensures _ _) p.leaders c.give.ensures.choice_after c.prune.ensures.choice_after
 
 pub returns-else-prune-clause-stepped : goal.returns-else-prune-clause-stepped
 returns-else-prune-clause-stepped c =
     let p = c.requires in
-    steps_down p.held _ p.le_i.0 p.le_i.1 (c.next_candidate-j.ensures _ _) p.leaders c.give.ensures.choice_after c.prune.ensures.choice_after
+    let r = c.args.planning.now.running in
+    steps_down r.bounded r.chosen p.held _ p.le_i.0 p.le_i.1 (c.next_candidate.ensures _ _) p.leaders c.give.ensures.choice_after c.prune.ensures.choice_after
 
-pub returns-else-prune-clause-share_sums : goal.returns-else-prune-clause-share_sums
-returns-else-prune-clause-share_sums c =
+pub returns-else-prune-clause-sums : goal.returns-else-prune-clause-sums
+returns-else-prune-clause-sums c =
     let p = c.requires in
+    let r = c.args.planning.now.running in
     let kept = c.prune.ensures.choice_unchanged c.if-prune.false in
-    rw (kept, c.give.ensures.choice_after) (shares_moved (held_measured p.held) p.share_sums _ _ p.le_i.0 p.le_i.1 c.move_sums.ensures)
+    rw (kept, c.give.ensures.choice_after) (shares_moved (held_measured r.bounded r.chosen p.held) p.sums _ _ p.le_i.0 p.le_i.1 c.give-else-prune.ensures.sums)

@@ -1,34 +1,42 @@
--- `phase1::pull_by` meets its contract: the sum so far is that of the resources passed.
-use Prim.Native.Nat.{◌+◌}
-use mathlib.Core.Path.{◌∙◌}
-use native.Mathlib.Omega.{arith}
-use Rattle.base.proofs.Sums.{sum_none}
-use Rattle.phase1.proofs.Pulls.{pull_turn, pull_skip, pull_le}
+-- `phase1::pull_by` meets its contract: the chain's sum is the rules'.
+use Rattle.std.proofs.Common.{rules, ◌*◌, ◌^◌, ℕ, arith, refl, ◌∙◌}
+use lib.ListN.{take}
+use Rattle.std.proofs.lemmas.Iterator.{YieldsList-from_slice, YieldsList-from_zip, YieldsList-from_map}
+use Rattle.std.proofs.lemmas.Iterator.Adapters.{serves_from_places}
+use Rattle.std.proofs.lemmas.Iterator.Consumers.{sum_from_yields_List, fits_from_yields_list}
+use Rattle.phase1.proofs.Pulls.{weight_small, weights_sum, pull_le}
 use Rattle.phase1.proofs.weighed.pull_by.Goals as goal
-use Rattle.phase1.proofs.weighed.pull_by.Goals.{then-beyond-gt0, else-beyond-gt0}
 
-pub loop-r-init : goal.loop-r-init
-loop-r-init c = sum_none _
-
-pub overflow_mul-all : goal.overflow_mul-all
-overflow_mul-all c =
+pub sum-requires-clause-can : goal.sum-requires-clause-can
+sum-requires-clause-can c =
     let a = c.args in
-    let l = c.loop-r in
-    let more = pull_turn a.row.now a.over.now l.r l.invariant in
-    omega (arith, more, pull_le a.row.now a.over.now a.resources c.requires.resources_le_most_resources.0 c.requires.by_index.0 c.requires.by_index.1 (l.r + 1) (omega arith))
+    let p = c.requires in (
+      (tt, tt),
+      serves_from_places (YieldsList-from_zip (YieldsList-from_slice (take a.resources a.row.now) (search rules)) (YieldsList-from_slice a.over.now (search rules)))
+          (λ x q e. refl)
+          (λ x k inside at.
+          let small = weight_small a.row.now a.over.now a.resources p.resources_le_most_resources.0 p.resources_le_most_resources.1 (omega arith) p.by_index.0 p.by_index.1 k (x.0.now, x.1.now) inside at in
+          search rules),
+    )
 
-pub overflow_add-all : goal.overflow_add-all
-overflow_add-all c =
+pub sum-requires-clause-fits : goal.sum-requires-clause-fits
+sum-requires-clause-fits c =
     let a = c.args in
-    let l = c.loop-r in
-    let more = pull_turn a.row.now a.over.now l.r l.invariant in
-    omega (arith, more, pull_le a.row.now a.over.now a.resources c.requires.resources_le_most_resources.0 c.requires.by_index.0 c.requires.by_index.1 (l.r + 1) (omega arith))
+    let p = c.requires in
+    fits_from_yields_list c.map.result (2 ^ 64)
+    (YieldsList-from_map _ (λ (q : ℕ × ℕ). q.0 * q.1)
+    (YieldsList-from_zip (YieldsList-from_slice (take a.resources a.row.now) (search rules)) (YieldsList-from_slice a.over.now (search rules))) c.map.ensures.closure (λ x r q k. search rules))
+    (omega (
+      arith,
+      weights_sum a.row.now a.over.now a.resources p.resources_le_most_resources.0 p.resources_le_most_resources.1 (omega arith),
+      pull_le a.row.now a.over.now a.resources p.resources_le_most_resources.0 p.by_index.0 p.by_index.1 a.resources (omega arith),
+    ))
 
-pub loop-r-preserved : goal.loop-r-preserved
-loop-r-preserved c =
+pub returns : goal.returns
+returns c =
     let a = c.args in
-    let l = c.loop-r in
-    elim c.if-beyond-gt0.branch [
-      | then-beyond-gt0 w ↦ w.all-is ∙ pull_turn a.row.now a.over.now l.r l.invariant
-      | else-beyond-gt0 w ↦ w.all-is ∙ pull_skip a.row.now a.over.now l.r l.invariant w.if-beyond-gt0.false
-    ]
+    let p = c.requires in
+    sum_from_yields_List c.map.result c.sum.result c.sum.ensures.ran
+    (YieldsList-from_map _ (λ (q : ℕ × ℕ). q.0 * q.1)
+    (YieldsList-from_zip (YieldsList-from_slice (take a.resources a.row.now) (search rules)) (YieldsList-from_slice a.over.now (search rules))) c.map.ensures.closure (λ x r q k. search rules))
+    ∙ weights_sum a.row.now a.over.now a.resources p.resources_le_most_resources.0 p.resources_le_most_resources.1 (omega arith)

@@ -13,5 +13,5 @@ loop-i-preserved c = weakest_next _ _ _ (c.weaker-least.ensures _ c.loop-i.invar
 
 pub returns : goal.returns
 returns c =
-    let e = weakest_end (table_in c.args.self.now.t) c.args.self.now.draft.now.choice _ c.loop-i.invariant (omega arith) in
+    let e = weakest_end (table_in c.args.self.now.planning.now.t) c.args.self.now.planning.now.draft.choice _ c.loop-i.invariant (omega arith) in
     grind (arith, common_steps)

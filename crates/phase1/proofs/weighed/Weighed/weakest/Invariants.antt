@@ -5,4 +5,4 @@ use Rattle.phase1.proofs.Pulls.{weakest_of}
 use Rattle.phase1.proofs.weighed.Weighed.weakest.Given as goal
 
 abbrev pub invariant-loop-i : goal.invariant-loop-i
-invariant-loop-i l = l.least ≡ weak_at (table_in l.self.t) l.self.draft.now.choice (weakest_of (table_in l.self.t) l.self.draft.now.choice l.i)
+invariant-loop-i l = l.least ≡ weak_at (table_in l.self.planning.now.t) l.self.planning.now.draft.choice (weakest_of (table_in l.self.planning.now.t) l.self.planning.now.draft.choice l.i)
