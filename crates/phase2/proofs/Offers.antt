@@ -14,7 +14,11 @@ use Rattle.rules.specs.Table.{Table}
 use Rattle.rules.specs.Phases.{strategy_at, give, is_candidate, greater, within, led, fitting, offer, offer_benefit, vacant, greater_offer, best_offer, picked_up, pick_up, phase2}
 use Rattle.laws.proofs.PickUps.{offer_fits, vacancies, vacancies_le, pick_up_falls}
 use Rattle.tables.specs.declared.Size.{Size}
-use Rattle.tables.specs.Arrays.{benefit_at, tables, leader_in, Running}
+use Rattle.tables.specs.declared.view.TableView.{TableView}
+use Rattle.tables.specs.Arrays.{benefit_at, tables}
+use Rattle.tables.specs.Views.{table_in, leaders_in}
+use Rattle.rules.specs.District.{most_segments}
+use lib.ListN.{length}
 use Rattle.tables.proofs.Arrays.{benefit_nothing}
 use Rattle.phase2.specs.declared.Offer.{Offer}
 use Rattle.phase2.specs.Offers.{IsOffer, worth}
@@ -22,11 +26,11 @@ use Rattle.phase2.specs.Offers.{IsOffer, worth}
 -- the numbers of an offer; without one 0
 abbrev strategy_of : Option Offer → ℕ
 strategy_of None = 0
-strategy_of (Some o) = o.strategy
+strategy_of (Some o) = o.takes.1
 
 abbrev segment_of : Option Offer → ℕ
 segment_of None = 0
-segment_of (Some o) = o.segment
+segment_of (Some o) = o.takes.0
 
 module _ (z : Size) (b u l c : List ℕ) where
   abbrev t : Table
@@ -37,7 +41,7 @@ module _ (z : Size) (b u l c : List ℕ) where
   -- an offer held is of segment i, and not of nothing
   abbrev OfSegment : ℕ → Option Offer → Type 0
   OfSegment i None = Unit {0}
-  OfSegment i (Some o) = (o.segment ≡ i) × (1 ≤ o.strategy)
+  OfSegment i (Some o) = (o.takes.0 ≡ i) × (1 ≤ o.takes.1)
 
   abbrev pub Held : ℕ → ℕ → Option Offer → Type 0
   Held i n best = Leads (fitting t c i) (benefit_at b i) n (strategy_of best) (worth best) × OfSegment i best
@@ -56,7 +60,7 @@ module _ (z : Size) (b u l c : List ℕ) where
       is_next : value ≡ benefit_at b i (n + 1)
       is_next = rw next at is
 
-      pub offer_taken : worth best < value → within t (give c i j) ≡ true → Held i m (Some (record { segment = i; strategy = j; benefit = value }))
+      pub offer_taken : worth best < value → within t (give c i j) ≡ true → Held i m (Some (record { takes = record { 0 = i; 1 = j }; benefit = value }))
       unfolding fitting is_candidate
       offer_taken h w =
           rw (up, next)
@@ -102,7 +106,7 @@ module _ (z : Size) (b u l c : List ℕ) where
     -- an offer held is its segment's
     abbrev Offered : Option Offer → Type 0
     Offered None = Unit {0}
-    Offered (Some o) = (1 ≤ o.segment) × IsOffer t c o.segment o
+    Offered (Some o) = (1 ≤ o.takes.0) × IsOffer t c o.takes.0 o
 
     abbrev pub Best : ℕ → Option Offer → Type 0
     Best n best = Leads (vacant t leader c) (offer_benefit t c) n (segment_of best) (worth best) × Offered best
@@ -126,7 +130,7 @@ module _ (z : Size) (b u l c : List ℕ) where
       best_taken None is e h = absurd (omega arith)
       best_taken (Some o) is e h =
           let passes = vacant_is i ∙ both (free i) (ltb 0 (offer t c i)) (sym tested ∙ e) (lt-ltb 0 (offer t c i) (omega (arith, is.strategy, is.some))) in
-          let seg : o.segment ≡ n + 1 = is.segment ∙ next in
+          let seg : o.takes.0 ≡ n + 1 = is.segment ∙ next in
           let worth₁ : o.benefit ≡ offer_benefit t c (n + 1) = rw next at is.benefit in (
             rw (up, next, seg) (leads_taken (vacant t leader c) (offer_benefit t c) n (segment_of best) (worth best) held.0 worth₁ (rw next at passes) h),
             (omega arith, subst (λ (k : ℕ). IsOffer t c k o) (sym is.segment) is),
@@ -163,15 +167,15 @@ module _ (z : Size) (b u l c : List ℕ) where
 
     -- ---- a pick-up
 
-    pub pick_none : best_offer t leader c ≡ 0 → pick_up t leader c ≡ None
+    pick_none : best_offer t leader c ≡ 0 → pick_up t leader c ≡ None
     unfolding pick_up picked_up
     pick_none e = rw e
 
     module _ {o : Offer} (found : Found (Some o)) where
-      pub pick_inside : (1 ≤ o.segment) × (o.segment ≤ z.segments) × (o.strategy ≤ z.strategies)
+      pub pick_inside : (1 ≤ o.takes.0) × (o.takes.0 ≤ z.segments) × (o.takes.1 ≤ z.strategies)
       pick_inside = (omega (arith, found.0, found.1.segment), omega (arith, found.1.segment, best_le_segments), omega (arith, found.1.strategy, offer_le (best_offer t leader c)))
 
-      pub pick_some : pick_up t leader c ≡ Some (give c o.segment o.strategy)
+      pick_some : pick_up t leader c ≡ Some (give c o.takes.0 o.takes.1)
       unfolding pick_up picked_up
       pick_some = rw (found.1.segment, found.1.strategy) (picked (best_offer t leader c) found.0)
         where
@@ -180,39 +184,36 @@ module _ (z : Size) (b u l c : List ℕ) where
           picked (suc i) h = refl
 
 -- after m pick-ups there are m segments less that have nothing
-pub record Picking (z : Size) (ls b u l start c sums : List ℕ) (m : ℕ) : Type 0 where
-  pub running : Running z u c sums
-  pub reached : Reached (pick_up (tables z b u l) (leader_in ls)) z.segments start c m
-  pub left : m + vacancies (tables z b u l) c ≤ z.segments
+pub record Picking (t : TableView) (start c : List ℕ) (m : ℕ) : Type 0 where
+  pub reached : Reached (pick_up (table_in t) (leaders_in t)) t.size.segments start c m
+  pub left : m + vacancies (table_in t) c ≤ t.size.segments
 
-pub picking_start : {z : Size} (ls b u l : List ℕ) {start sums : List ℕ} → Running z u start sums → Picking z ls b u l start start sums 0
-picking_start {z} ls b u l {start} running =
+pub picking_start : (t : TableView) (start : List ℕ) → Picking t start start 0
+picking_start t start =
     record {
-      running = running;
-      reached = reached_start (pick_up (tables z b u l) (leader_in ls)) z.segments start;
-      left = omega (arith, vacancies_le (tables z b u l) start);
+      reached = reached_start (pick_up (table_in t) (leaders_in t)) t.size.segments start;
+      left = omega (arith, vacancies_le (table_in t) start);
     }
 
-module _ {z : Size} {ls b u l start c sums : List ℕ} {m : ℕ} (here : Picking z ls b u l start c sums m) where
-  pub picking_end :
-      pick_up (tables z b u l) (leader_in ls) c ≡ None → (c ≡ (phase2 (tables z b u l) (leader_in ls) start).last) × (m ≡ (phase2 (tables z b u l) (leader_in ls) start).count)
+-- what the search for an offer found in programme c
+abbrev pub FoundIn : TableView → List ℕ → Option Offer → Type 0
+FoundIn t c r = Found t.size t.benefits.entries.now t.uses.entries.now t.limits.entries.now c (leaders_in t) r
+
+module _ {t : TableView} {start c : List ℕ} {m : ℕ} (here : Picking t start c m) where
+  pub picking_end : FoundIn t c None → (c ≡ (phase2 (table_in t) (leaders_in t) start).last) × (m ≡ (phase2 (table_in t) (leaders_in t) start).count)
   unfolding phase2
-  picking_end e =
-      let done = reached_end (pick_up (tables z b u l) (leader_in ls)) z.segments start c m here.reached e in
+  picking_end found =
+      let none = pick_none t.size t.benefits.entries.now t.uses.entries.now t.limits.entries.now c (leaders_in t) found in
+      let done = reached_end (pick_up (table_in t) (leaders_in t)) t.size.segments start c m here.reached none in
       (sym done.0, sym done.1)
 
   -- an offer found is taken
-  pub picking_next :
-      {o : Offer} {e sums₂ : List ℕ} → Found z b u l c (leader_in ls) (Some o) → e ≡ give c o.segment o.strategy
-      → Running z u e sums₂ → (m < z.segments) × Picking z ls b u l start e sums₂ (m + 1)
-  picking_next {o} {e} found given running =
-      let next : pick_up (tables z b u l) (leader_in ls) c ≡ Some e = pick_some z b u l c (leader_in ls) found ∙ ap Some (sym given) in
-      let fewer = pick_up_falls (tables z b u l) (leader_in ls) c e next (omega (arith, here.running.bounded.segments, here.running.chosen.places)) in
-      let less : m < z.segments = omega (arith, here.left) in (
+  pub picking_next : length c ≡ most_segments → {o : Offer} {e : List ℕ} → FoundIn t c (Some o) → e ≡ give c o.takes.0 o.takes.1 → (m < t.size.segments) × Picking t start e (m + 1)
+  picking_next places {o} {e} found given =
+      let next : pick_up (table_in t) (leaders_in t) c ≡ Some e =
+      pick_some t.size t.benefits.entries.now t.uses.entries.now t.limits.entries.now c (leaders_in t) found ∙ ap Some (sym given) in
+      let fewer = pick_up_falls (table_in t) (leaders_in t) c e next (omega (arith, t.bounded.segments)) in
+      let less : m < t.size.segments = omega (arith, here.left) in (
         less,
-        record {
-          running = running;
-          reached = reached_next (pick_up (tables z b u l) (leader_in ls)) z.segments start c e m here.reached less next;
-          left = omega (arith, here.left);
-        },
+        record { reached = reached_next (pick_up (table_in t) (leaders_in t)) t.size.segments start c e m here.reached less next; left = omega (arith, here.left) },
       )

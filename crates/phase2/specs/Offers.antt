@@ -6,9 +6,9 @@ use Rattle.phase2.specs.declared.Offer.{Offer}
 
 -- o is the best that segment i could take beside what the others have
 pub record IsOffer (t : Table) (c : List ℕ) (i : ℕ) (o : Offer) : Type 0 where
-  pub segment : o.segment ≡ i
-  pub strategy : o.strategy ≡ offer t c i
-  pub some : 1 ≤ o.strategy
+  pub segment : o.takes.0 ≡ i
+  pub strategy : o.takes.1 ≡ offer t c i
+  pub some : 1 ≤ o.takes.1
   pub benefit : o.benefit ≡ offer_benefit t c i
 
 -- the benefit of an offer; without one 0

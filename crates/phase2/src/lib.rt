@@ -1,20 +1,20 @@
 // Phase 2: segments with nothing are picked up, the greatest benefit that fits first, until none fits; none before its leader.
 #![tactic(auto)]
 
-ghost use Rattle.std.specs.Prelude.{◌≡◌, ◌&&◌, ◌≤◌, eqb, length, MatchOption};
+ghost use Rattle.std.specs.Prelude.{◌≡◌, ◌&&◌, ◌≤◌, eqb, MatchOption};
 ghost use Rattle.rules.specs.District.{most_segments};
 ghost use Rattle.rules.specs.Phases.{strategy_at, led, offer, best_offer, phase2};
 ghost use Rattle.tables.specs.Arrays.{leader_in};
-ghost use Rattle.tables.specs.Views.{table_in, leaders_in, Drafted};
+ghost use Rattle.tables.specs.Views.{table_in, leaders_in};
 ghost use Rattle.phase2.specs.Offers.{IsOffer, worth};
 
-use tables::{Draft, LeaderList, TableView};
+use rules::places::MOST_SEGMENTS;
+use tables::{LeaderList, Move, Planning};
 
 // What a segment could take, and its benefit.
 #[derive(Clone, Copy)]
 struct Offer {
-    segment: usize,
-    strategy: usize,
+    takes: Move,
     benefit: u64,
 }
 
@@ -27,45 +27,39 @@ fn worth(offer: Option<Offer>) -> u64
 
 // The best that segment i could take. A loop, since max_by_key would test the limits of each strategy; its end is n + 1, since
 // 1..=n has a second exit, where the proof stands once more.
-fn offer_of(t: TableView<'_>, draft: &Draft, i: usize) -> Option<Offer>
-    requires drafted { Drafted t draft.now }
-    requires le_i { (1 ≤ i) × (i ≤ t.size.segments) }
-    ensures { let c = draft.now.choice in MatchOption result (offer (table_in t.entry) c i ≡ 0) (IsOffer (table_in t.entry) c i) }
+fn offer_of(planning: &Planning<'_>, i: usize) -> Option<Offer>
+    requires { (1 ≤ i) × (i ≤ planning.now.t.size.segments) }
+    ensures { let t = table_in planning.now.t in let c = planning.now.draft.choice in MatchOption result (offer t c i ≡ 0) (IsOffer t c i) }
 {
     let mut best: Option<Offer> = None;
-    for j in 1..t.size.strategies + 1 {
-        let benefit = t.benefits.at(i, j);
-        if worth(best) < benefit && draft.fits(t.size, t.uses, t.limits, i, j) {
-            best = Some(Offer {
-                segment: i,
-                strategy: j,
-                benefit,
-            });
+    for j in 1..planning.t.size.strategies + 1 {
+        let benefit = planning.t.benefits.at(i, j);
+        let takes = Move(i, j);
+        if worth(best) < benefit && planning.fits(takes) {
+            best = Some(Offer { takes, benefit });
         }
     }
     best
 }
 
 // Segment i has nothing, and may have something.
-fn is_free(leaders: LeaderList<'_>, choice: &[usize], i: usize) -> bool
-    requires choice { length choice.now ≡ most_segments }
-    requires le_i { (1 ≤ i) × (i ≤ most_segments) }
+fn is_free(leaders: LeaderList<'_>, choice: &[usize; MOST_SEGMENTS], i: usize) -> bool
+    requires { (1 ≤ i) × (i ≤ most_segments) }
     ensures { result ≡ (eqb (strategy_at choice.now i) 0 && led (leader_in leaders.entry.entries.now) (strategy_at choice.now) i) }
 {
     choice[i - 1] == 0 && leaders.is_led(choice, i)
 }
 
-// The offer to pick up: of equals the one of the lowest segment.
-fn best_offer(t: TableView<'_>, draft: &Draft) -> Option<Offer>
-    requires { Drafted t draft.now }
-    ensures { let c = draft.now.choice in let i = best_offer (table_in t.entry) (leaders_in t.entry) c in MatchOption result (i ≡ 0) (λ o. (1 ≤ i) × IsOffer (table_in t.entry) c i o) }
+// The offer to pick up: of equals the one of the lowest segment. A loop, since max_by_key would take the last of equals.
+fn best_offer(planning: &Planning<'_>) -> Option<Offer>
+    ensures { let t = table_in planning.now.t in let c = planning.now.draft.choice in let i = best_offer t (leaders_in planning.now.t) c in MatchOption result (i ≡ 0) (λ o. (1 ≤ i) × IsOffer t c i o) }
 {
     let mut best: Option<Offer> = None;
-    for i in 1..t.size.segments + 1 {
-        if !is_free(t.leaders, &draft.choice, i) {
+    for i in 1..planning.t.size.segments + 1 {
+        if !is_free(planning.t.leaders, &planning.draft.choice, i) {
             continue;
         }
-        let offer = offer_of(t, draft, i);
+        let offer = offer_of(planning, i);
         if worth(best) < worth(offer) {
             best = offer;
         }
@@ -74,15 +68,14 @@ fn best_offer(t: TableView<'_>, draft: &Draft) -> Option<Offer>
 }
 
 // Phase 2. Returns how many segments were picked up.
-pub fn pick_up(t: TableView<'_>, draft: &mut Draft) -> u64
-    requires { Drafted t draft.old }
-    ensures running { Drafted t.entry draft.new }
-    ensures choice_after { draft.new.choice ≡ (phase2 (table_in t.entry) (leaders_in t.entry) draft.old.choice).last }
-    ensures value { result ≡ (phase2 (table_in t.entry) (leaders_in t.entry) draft.old.choice).count }
+pub fn pick_up(planning: &mut Planning<'_>) -> u64
+    ensures same_table { planning.new.t ≡ planning.old.t }
+    ensures choice_after { planning.new.draft.choice ≡ (phase2 (table_in planning.old.t) (leaders_in planning.old.t) planning.old.draft.choice).last }
+    ensures value { result ≡ (phase2 (table_in planning.old.t) (leaders_in planning.old.t) planning.old.draft.choice).count }
 {
     let mut picks: u64 = 0;
-    while let Some(offer) = best_offer(t, draft) {
-        draft.give(t.size, t.uses, offer.segment, offer.strategy);
+    while let Some(offer) = best_offer(planning) {
+        planning.give(offer.takes);
         picks += 1;
     }
     picks

@@ -13,9 +13,9 @@ pub loop-j-preserved : goal.loop-j-preserved
 loop-j-preserved c =
     let l = c.loop-j in
     elim c.if-worth-benefit.branch [
-      | then-worth-benefit+then-fits w ↦ rw w.best-is (offer_taken _ _ _ _ _ _ (l.j - 1) l.j _ l.best (omega arith) (omega arith) c.at-benefit.ensures.value l.invariant (omega arith) (sym (w.fits.ensures _) ∙ w.if-fits.true))
+      | then-worth-benefit+then-fits w ↦ rw w.best-is (offer_taken _ _ _ _ _ _ (l.j - 1) l.j _ l.best (omega arith) (omega arith) c.at-benefit.ensures.value l.invariant (omega arith) (sym w.fits.ensures ∙ w.if-fits.true))
       | else-worth-benefit w ↦ rw w.best-is (elim w.else-worth-benefit.branch [
-        | else-worth-benefit-via-then-worth-benefit+else-fits v ↦ offer_passed _ _ _ _ _ _ (l.j - 1) l.j _ l.best (omega arith) (omega arith) c.at-benefit.ensures.value l.invariant (sym (v.fits.ensures _) ∙ v.if-fits.false)
+        | else-worth-benefit-via-then-worth-benefit+else-fits v ↦ offer_passed _ _ _ _ _ _ (l.j - 1) l.j _ l.best (omega arith) (omega arith) c.at-benefit.ensures.value l.invariant (sym v.fits.ensures ∙ v.if-fits.false)
         | else-worth-benefit-via-else-worth-benefit v ↦ offer_kept _ _ _ _ _ _ (l.j - 1) l.j _ l.best (omega arith) (omega arith) c.at-benefit.ensures.value l.invariant (omega arith)
       ])
     ]
