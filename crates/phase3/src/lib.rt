@@ -39,12 +39,10 @@ fn next_change(
     ensures found { let p = planning.now in Found p.t.size p.draft.choice result (change (table_in p.t) (leaders_in p.t) p.draft.choice) }
     ensures memory { Remembers (table_in planning.now.t) (leaders_in planning.now.t) memory.new.rows }
 {
-    let t = &planning.t;
-    let slacks = slacks_of(t.size.resources, t.limits, &planning.draft.sums);
     let pass = Pass {
         planning,
         tops,
-        slacks,
+        slacks: slacks_of(planning),
     };
     pass.first_change(memory)
 }
@@ -56,7 +54,7 @@ pub fn improve(planning: &mut Planning<'_>) -> u64
     ensures choice_after { let p = planning.old in planning.new.draft.choice ≡ (phase3 (table_in p.t) (leaders_in p.t) p.draft.choice).last }
     ensures value { let p = planning.old in result ≡ (phase3 (table_in p.t) (leaders_in p.t) p.draft.choice).count }
 {
-    let tops = tops_of(planning.t.size, planning.t.benefits);
+    let tops = tops_of(planning.t);
     let unused = Row {
         holds_for: None,
         excesses: [0; MOST_RESOURCES],

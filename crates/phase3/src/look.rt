@@ -67,7 +67,7 @@ impl<'a> Look<'a> {
 
     // The first change of both segments that counts, by the strategy of each. The row remembers which limits refused the
     // others. The row is the pair's and `asked` the pass's, so one struct for both would be made of two loans for each pair.
-    // Loops, as of what a chain's closure changes, here both, a proof knows nothing.
+    // Loops: a proof knows nothing of what a chain's closure changes, here both.
     fn search(&'a self, row: &mut Row, asked: &mut usize) -> Option<Change>
         requires { SearchingAt self.now row.old 0 }
         ensures found { FoundAt self.now.pair.now result }

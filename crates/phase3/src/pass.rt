@@ -1,6 +1,5 @@
 // A pass over the changes of a programme, up to the first that counts.
-ghost use Rattle.std.specs.Prelude.{◌≡◌, ℕ, ◌-◌, ◌^◌, ◌≤◌, get_or};
-ghost use Rattle.rules.specs.District.{most_resources};
+ghost use Rattle.std.specs.Prelude.{◌≡◌, ◌≤◌};
 ghost use Rattle.phase3.specs.Improve.{Tops};
 ghost use Rattle.phase3.specs.Memory.{Slacks};
 
@@ -10,7 +9,7 @@ use crate::leaders::Changed;
 use crate::memory::Memory;
 use crate::pair::Pair;
 use rules::places::{MOST_RESOURCES, MOST_SEGMENTS};
-use tables::{LimitList, Move, Planning};
+use tables::{Move, Planning};
 
 // What a pass reads: the table, the programme as it stands, each segment's greatest benefit, and each resource's slack.
 #[derive(Clone, Copy)]
@@ -22,21 +21,16 @@ pub struct Pass<'a> {
     pub ghost slack: { let p = planning.now in Slacks p.t.size.resources p.t.limits.entries.now p.draft.sums slacks },
 }
 
-// Each resource's slack, where the first so many sums are small.
-pub fn slacks_of(
-    resources: usize,
-    limits: LimitList<'_>,
-    sums: &[u64; MOST_RESOURCES],
-) -> [u64; MOST_RESOURCES]
-    requires resources_le_most_resources { resources ≤ most_resources }
-    requires by_index { (r : ℕ) → 1 ≤ r → r ≤ resources → get_or sums.now (r - 1) 0 ≤ 2 ^ 47 }
-    ensures { Slacks resources limits.entry.entries.now sums.now result }
+// Each resource's slack.
+pub fn slacks_of(planning: &Planning<'_>) -> [u64; MOST_RESOURCES]
+    ensures { let p = planning.now in Slacks p.t.size.resources p.t.limits.entries.now p.draft.sums result }
 {
-    let mut each = [0u64; MOST_RESOURCES];
-    for (r, slack) in each[..resources].iter_mut().enumerate() {
-        *slack = limits.entries[r] + OFFSET - sums[r];
+    let t = &planning.t;
+    let mut slacks = [0u64; MOST_RESOURCES];
+    for (r, slack) in slacks[..t.size.resources].iter_mut().enumerate() {
+        *slack = t.limits.entries[r] + OFFSET - planning.draft.sums[r];
     }
-    each
+    slacks
 }
 
 impl Pass<'_> {
@@ -117,9 +111,9 @@ impl Pass<'_> {
         memory.look(&pair, asked)
     }
 
-    // The first pair that counts, ordered by the lower segment, the higher one, and then the strategy of each. Loops, as of what a
-    // chain's closure changes, here the memory, a proof knows nothing. Tried: with `asked` in the memory the phase takes a tenth
-    // more instructions.
+    // The first pair that counts, ordered by the lower segment, the higher one, and then the strategy of each. Loops: a proof
+    // knows nothing of what a chain's closure changes, here the memory. Tried: with `asked` in the memory the phase takes a
+    // tenth more instructions.
     #[tactic(auto, using(crate::proofs::ChangeSearch::of_low, crate::proofs::ChangeSearch::from_none, crate::proofs::ChangeSearch::pairs_end, crate::proofs::ChangeSearch::found_pair))]
     fn first_two(&self, memory: &mut Memory) -> Option<Change>
         requires { Kept self.now memory.old }

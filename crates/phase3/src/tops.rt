@@ -1,17 +1,15 @@
 // The greatest benefit of each segment.
-ghost use Rattle.tables.specs.Arrays.{Bounded};
 ghost use Rattle.phase3.specs.Improve.{Tops};
 
 use rules::places::MOST_SEGMENTS;
-use tables::{BenefitTable, Size, greatest};
+use tables::{TableView, greatest};
 
-pub fn tops_of(z: Size, benefits: BenefitTable<'_>) -> [u64; MOST_SEGMENTS]
-    requires { Bounded z }
-    ensures { Tops z benefits.entry.entries.now result }
+pub fn tops_of(t: TableView<'_>) -> [u64; MOST_SEGMENTS]
+    ensures { Tops t.entry.size t.entry.benefits.entries.now result }
 {
     let mut tops = [0u64; MOST_SEGMENTS];
     for (i, top) in tops.iter_mut().enumerate() {
-        *top = greatest(benefits.entries, z.strategies, i + 1);
+        *top = greatest(t.benefits.entries, t.size.strategies, i + 1);
     }
     tops
 }

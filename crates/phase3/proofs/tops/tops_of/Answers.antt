@@ -6,11 +6,11 @@ use Rattle.phase3.proofs.tops.tops_of.Goals as goal
 
 pub returns : goal.returns
 returns c =
-    let z = c.args.z in
-    let few = c.requires in
+    let t = c.args.t in
+    let few = t.bounded in
     record {
       places = omega arith;
       each = λ i low high.
           c.loop-i.invariant i low (omega (arith, few.segments))
-          ∙ greatest_benefit c.args.benefits.held z.strategies i (record { low = low; high = omega (arith, few.segments); number = few.strategies });
+          ∙ greatest_benefit t.benefits.held t.size.strategies i (record { low = low; high = omega (arith, few.segments); number = few.strategies });
     }

@@ -6,4 +6,4 @@ use Rattle.tables.specs.Arrays.{entry_at}
 use Rattle.phase3.proofs.tops.tops_of.Given as goal
 
 abbrev pub invariant-loop-i : goal.invariant-loop-i
-invariant-loop-i l = (p : ℕ) → 1 ≤ p → p ≤ l.i → get_or l.top-items (p - 1) 0 ≡ most l.z.strategies (entry_at l.benefits.entries.now p)
+invariant-loop-i l = (p : ℕ) → 1 ≤ p → p ≤ l.i → get_or l.top-items (p - 1) 0 ≡ most l.t.size.strategies (entry_at l.t.benefits.entries.now p)
