@@ -15,7 +15,7 @@ use phase1::ShareTable;
 use rating::Ranged;
 use rules::places::{MOST_RESOURCES, MOST_SEGMENTS};
 use rules::{District, Programme};
-use tables::{BenefitTable, Draft, LeaderList, LimitList, TableView, UsageTable};
+use tables::{BenefitTable, Draft, LeaderList, LimitList, Planning, TableView, UsageTable};
 
 // The three phases over a table one after another, with its ceiling beside them.
 fn phases(t: TableView<'_>, shares: ShareTable<'_>, bound: u64) -> Programme
@@ -28,13 +28,14 @@ fn phases(t: TableView<'_>, shares: ShareTable<'_>, bound: u64) -> Programme
         sums: [0; MOST_RESOURCES],
     };
     phase1::start(t.size, t.leaders, t.benefits, t.uses, &mut draft);
-    let steps = phase1::reduce(t, shares, &mut draft);
-    let pickups = phase2::pick_up(t, &mut draft);
-    let after_pickups = t.benefits.total(t.size, &draft.choice);
-    let changes = phase3::improve(t, &mut draft);
-    let total = t.benefits.total(t.size, &draft.choice);
+    let mut planning = Planning { t, draft };
+    let steps = phase1::reduce(&mut planning, shares);
+    let pickups = phase2::pick_up(&mut planning);
+    let after_pickups = t.benefits.total(t.size, &planning.draft.choice);
+    let changes = phase3::improve(&mut planning);
+    let total = t.benefits.total(t.size, &planning.draft.choice);
     Programme {
-        strategies: draft.choice,
+        strategies: planning.draft.choice,
         total,
         after_pickups,
         ceiling: bound,
