@@ -6,9 +6,9 @@ use mathlib.Core.List.{List, [], ◌++◌}
 use native.Mathlib.Omega.{arith}
 use lib.ListN.{length, drop}
 use Rattle.base.specs.Choice.{pick}
+use Rattle.base.specs.Text.{Put}
 use Rattle.grammar.proofs.InRanges.{in_ranges}
 use Rattle.file.proofs.Refusals.{exported_short, exported_fits}
-use Rattle.laws.proofs.Page.{lines_length, rows_length}
 use Rattle.rules.specs.Answers.{no_room_for_page, Answer, Accepted, Refused}
 use Rattle.rules.specs.Calls.{page_refusal, Export, exported}
 use Rattle.rules.specs.District.{District, segments_of}
@@ -28,11 +28,10 @@ module _ (d : District) (p : Programme) (buffer : List ℕ) where
     unfolding page page_length page_refusal
     page_short h = rw ranged (exported_short ((segments_of d + 3) * line_bytes) _ (lines (rows d p)) buffer (omega arith))
 
-    pub page_fits : line_bytes * (segments_of d + 3) ≤ length buffer → record { answer = Accepted (line_bytes * (segments_of d + 3)); buffer = lines (rows d p) ++ drop (length (lines (rows d p))) buffer } ≡ exported (page_refusal d buffer) (page d p) buffer
+    pub page_fits : line_bytes * (segments_of d + 3) ≤ length buffer → {new : List ℕ} {n : ℕ} → Put (lines (rows d p)) buffer new n → record { answer = Accepted n; buffer = new } ≡ exported (page_refusal d buffer) (page d p) buffer
     unfolding page page_length page_refusal
-    page_fits h =
-        let n : line_bytes * (segments_of d + 3) ≡ length (lines (rows d p)) = omega (arith, lines_length (rows d p), rows_length d p) in
-        rw (ranged, n) (exported_fits ((segments_of d + 3) * line_bytes) no_room_for_page (lines (rows d p)) buffer (omega arith))
+    page_fits h put =
+        rw (ranged, put.count, put.bytes) (exported_fits ((segments_of d + 3) * line_bytes) no_room_for_page (lines (rows d p)) buffer (omega arith))
 
 -- ---- a buffer with room for any page
 

@@ -1,19 +1,15 @@
--- What cells say, how they stand in a line, and what fills a buffer.
+-- What cells say, and how they stand in a line.
 use Prim.Native.Nat.{ℕ, ◌+◌, ◌-◌, ◌≤◌, ◌<◌}
 use mathlib.Core.Path.{◌≡◌, ap, ◌∙◌}
-use mathlib.Core.List.{List, ◌++◌, append-nil}
+use mathlib.Core.List.{List, ◌++◌}
 use borrow.Author.Tests.{le-leb, lt-leb}
 use native.Mathlib.Omega.{arith}
 use borrow.Rule.Slice.PartMut.{put_mid}
-use lib.ListN.{length, take, drop, replicate, length-append, length-replicate, drop_of_length-le}
+use lib.ListN.{length, take, drop, replicate, length-append, length-replicate}
 use Rattle.listing.proofs.Pieces.{put_two}
 use Rattle.base.specs.Text.{text, Put}
 use Rattle.laws.proofs.Page.{aligned_length}
 use Rattle.rules.specs.Page.{right_aligned}
-
--- what fills the buffer is all of it
-pub put_whole : {bs old new : List ℕ} {n : ℕ} → Put bs old new n → length old ≤ length bs → new ≡ bs
-put_whole {bs} {old} p h = p.bytes ∙ rw (drop_of_length-le old h) (append-nil bs)
 
 -- ---- a column
 

@@ -83,22 +83,23 @@ fn put_cell(out: &mut [u8], width: usize, cell: Cell) -> usize
 // ---- a line
 
 #[tactic(auto, unfolding(rules::specs::Page::right_aligned, rules::specs::Page::line, rules::specs::Page::heading, base::specs::Text::text))]
-pub fn put_heading(out: &mut [u8])
-    requires { length out.old ≡ line_bytes }
-    ensures { out.new ≡ line widths heading }
+pub fn put_heading(out: &mut [u8]) -> usize
+    requires { line_bytes ≤ length out.old }
+    ensures { Put (line widths heading) out.old out.new result }
 {
-    out.copy_from_slice(
+    listing::put(
+        out,
         b"NO MILES  FT ST        BENEFIT        R1        R2        R3        R4          \n",
-    );
+    )
 }
 
-pub fn put_row(row: [Cell; COLUMNS], out: &mut [u8])
-    requires { length out.old ≡ line_bytes }
-    ensures { out.new ≡ line widths (texts row) }
+pub fn put_row(out: &mut [u8], row: [Cell; COLUMNS]) -> usize
+    requires { line_bytes ≤ length out.old }
+    ensures { Put (line widths (texts row)) out.old out.new result }
 {
     let mut at = 0;
     for (width, cell) in WIDTHS.iter().zip(row.iter()) {
         at += put_cell(&mut out[at..], *width, *cell);
     }
-    listing::put(&mut out[at..], b"         \n");
+    at + listing::put(&mut out[at..], b"         \n")
 }

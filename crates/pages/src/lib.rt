@@ -5,12 +5,12 @@ mod cells;
 mod rows;
 
 ghost use Rattle.std.specs.Prelude.{◌++◌, ◌≡◌, ◌+◌, ◌*◌, ◌≤◌, length, drop};
+ghost use Rattle.base.specs.Over.{listed};
 ghost use Rattle.base.specs.Text.{Put};
 ghost use Rattle.rules.specs.Answers.{answer_in};
 ghost use Rattle.rules.specs.Calls.{exported, page_refusal};
 ghost use Rattle.rules.specs.District.{segments_of};
-ghost use Rattle.rules.specs.Page.{widths, line, rows as Page·rows, lines, page as Page·page};
-ghost use Rattle.pages.specs.Numbered.{row_at};
+ghost use Rattle.rules.specs.Page.{segment_row, rows as Page·rows, lines, page as Page·page};
 ghost use Rattle.pages.specs.Printed.{page_held, loaded_page, line_bytes, longest_page};
 
 use rating::Ranged;
@@ -27,31 +27,31 @@ const OTHER_LINES: usize = 3;
 // The most bytes of a page.
 pub const LONGEST_PAGE: usize = LINE_BYTES * (MOST_SEGMENTS + OTHER_LINES);
 
-// Line n, the heading being line 0.
-#[tactic(auto, using(std::proofs::lemmas::Bool::Decides::nat_tests), unfolding(crate::specs::Numbered::row_at))]
-fn put_line(sheet: &Sheet, n: usize, out: &mut [u8])
-    requires { length out.old ≡ line_bytes }
-    ensures { out.new ≡ line widths (row_at sheet.now.ranged.district.now sheet.now.programme.now n) }
+// The segments' lines.
+fn put_segments(out: &mut [u8], sheet: &Sheet) -> usize
+    requires { segments_of sheet.now.ranged.district.now * line_bytes ≤ length out.old }
+    ensures { let d = sheet.now.ranged.district.now in Put (lines (listed (segments_of d) (segment_row d sheet.now.programme.now.strategies))) out.old out.new result }
 {
-    if n == 0 {
-        cells::put_heading(out);
-    } else {
-        cells::put_row(sheet.row_under(n), out);
+    let mut at = 0;
+    for i in 0..sheet.ranged.district[SEGMENT_COUNT] {
+        at += cells::put_row(&mut out[at..], sheet.segment_row(i + 1));
     }
+    at
 }
 
-// Each line into its own part of the buffer. No chunks_exact_mut: of what is written through one a proof keeps the length alone.
-fn put_lines(sheet: &Sheet, out: &mut [u8])
+// Each line behind the one before it.
+fn put_lines(out: &mut [u8], sheet: &Sheet) -> usize
     requires { (segments_of sheet.now.ranged.district.now + 3) * line_bytes ≤ length out.old }
-    ensures { let page = lines (Page·rows sheet.now.ranged.district.now sheet.now.programme.now) in out.new ≡ page ++ drop (length page) out.old }
+    ensures { Put (lines (Page·rows sheet.now.ranged.district.now sheet.now.programme.now)) out.old out.new result }
 {
-    for n in 0..sheet.ranged.district[SEGMENT_COUNT] + OTHER_LINES {
-        put_line(sheet, n, &mut out[LINE_BYTES * n..LINE_BYTES * (n + 1)]);
-    }
+    let mut at = cells::put_heading(out);
+    at += put_segments(&mut out[at..], sheet);
+    at += cells::put_row(&mut out[at..], sheet.total_row());
+    at + cells::put_row(&mut out[at..], sheet.limits_row())
 }
 
 // The page of a district and a programme to the front of the buffer, where the buffer has room for it.
-#[tactic(auto, using(grammar::proofs::InRanges::in_ranges, crate::proofs::Given::page_none, crate::proofs::Given::page_short, crate::proofs::Given::page_fits))]
+#[tactic(auto, using(grammar::proofs::InRanges::in_ranges, crate::proofs::Given::page_none, crate::proofs::Given::page_short))]
 pub fn page(d: &District, p: &Programme, buffer: &mut [u8]) -> Answer
     ensures { record { answer = answer_in result; buffer = buffer.new } ≡ exported (page_refusal d.now buffer.old) (Page·page d.now p.now) buffer.old }
 {
@@ -66,8 +66,7 @@ pub fn page(d: &District, p: &Programme, buffer: &mut [u8]) -> Answer
         ranged: Ranged { district: d },
         programme: p,
     };
-    put_lines(&sheet, buffer);
-    Ok(length)
+    Ok(put_lines(buffer, &sheet))
 }
 
 // ---- for the programs

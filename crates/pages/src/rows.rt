@@ -6,12 +6,11 @@ ghost use Rattle.rules.specs.Page.{whole_units, segment_row, total_row, limits_r
 ghost use Rattle.rules.specs.Phases.{chosen_usage, used as Phases·used};
 ghost use Rattle.rules.specs.Table.{table_of};
 ghost use Rattle.pages.specs.Cells.{texts, Shows};
-ghost use Rattle.pages.specs.Numbered.{row_under};
 
 use crate::cells::{COLUMNS, Cell};
 use rating::Ranged;
 use rules::Programme;
-use rules::places::{LENGTH, RESOURCE_COUNT, SEGMENT_COUNT, WIDTH};
+use rules::places::{LENGTH, RESOURCE_COUNT, WIDTH};
 
 // A use in whole units, rounded up.
 fn whole_units(x: u64) -> usize
@@ -71,7 +70,7 @@ impl Sheet<'_, '_> {
     // ---- rows
 
     #[tactic(auto, unfolding(rules::specs::Page::segment_row, rules::specs::Page::by_resource, base::specs::Over::listed_from, crate::specs::Cells::text_of, crate::specs::Cells::texts, rules::specs::District::length_of, rules::specs::District::width_of, rules::specs::Phases::chosen_benefit, rules::specs::Table::table_of))]
-    fn segment_row(&self, i: usize) -> [Cell; COLUMNS]
+    pub fn segment_row(&self, i: usize) -> [Cell; COLUMNS]
         requires { Segment i }
         ensures { texts result ≡ segment_row self.now.ranged.district.now self.now.programme.now.strategies i }
     {
@@ -91,7 +90,7 @@ impl Sheet<'_, '_> {
     }
 
     #[tactic(auto, unfolding(rules::specs::Page::total_row, rules::specs::Page::by_resource, base::specs::Over::listed_from, crate::specs::Cells::text_of, crate::specs::Cells::texts))]
-    fn total_row(&self) -> [Cell; COLUMNS]
+    pub fn total_row(&self) -> [Cell; COLUMNS]
         ensures { texts result ≡ total_row self.now.ranged.district.now self.now.programme.now }
     {
         [
@@ -108,7 +107,7 @@ impl Sheet<'_, '_> {
     }
 
     #[tactic(auto, unfolding(rules::specs::Page::limits_row, rules::specs::Page::by_resource, base::specs::Over::listed_from, crate::specs::Cells::text_of, crate::specs::Cells::texts))]
-    fn limits_row(&self) -> [Cell; COLUMNS]
+    pub fn limits_row(&self) -> [Cell; COLUMNS]
         ensures { texts result ≡ limits_row self.now.ranged.district.now }
     {
         [
@@ -122,21 +121,5 @@ impl Sheet<'_, '_> {
             self.limit_cell(3),
             self.limit_cell(4),
         ]
-    }
-
-    // Row n, counted from 1: a segment's, the total's or the limits'.
-    #[tactic(auto, using(std::proofs::lemmas::Bool::Decides::nat_tests), unfolding(crate::specs::Numbered::row_under))]
-    pub fn row_under(&self, n: usize) -> [Cell; COLUMNS]
-        requires { 1 ≤ n }
-        ensures { texts result ≡ row_under self.now.ranged.district.now self.now.programme.now n }
-    {
-        let segments = self.ranged.district[SEGMENT_COUNT];
-        if n <= segments {
-            self.segment_row(n)
-        } else if n == segments + 1 {
-            self.total_row()
-        } else {
-            self.limits_row()
-        }
     }
 }

@@ -1,5 +1,5 @@
 -- `pages::cells::put_row` meets its contract: what is written and the cells to come are the line.
-use Rattle.std.proofs.Common.{ℕ, ◌≡◌, List, [], ◌∷◌, ◌++◌, length, replicate, ◌⊎◌, inl, inr, refl, arith, append_assoc}
+use Rattle.std.proofs.Common.{ℕ, ◌≡◌, ◌≤◌, List, [], ◌∷◌, ◌++◌, length, replicate, ◌⊎◌, inl, inr, refl, arith, append_assoc}
 use Rattle.std.proofs.lemmas.Slice.Zip.{Zip-more, either_empty_from_Zip}
 use Rattle.base.specs.Text.{text}
 use Rattle.base.proofs.Buffers.{Written, written_none}
@@ -9,11 +9,10 @@ use Rattle.rules.specs.Page.{widths, right_aligned, line}
 use Rattle.pages.specs.Cells.{text_of, texts}
 use Rattle.pages.specs.Printed.{line_bytes}
 use Rattle.pages.specs.declared.cells.Cell.{Cell}
-use Rattle.pages.proofs.Texts.{column_length, put_whole}
+use Rattle.pages.proofs.Texts.{column_length}
 use Rattle.pages.proofs.cells.put_row.Goals as goal
 
--- the line fills the buffer
-fits : (row : List Cell) (n : ℕ) → n ≡ line_bytes → length (line widths (texts row)) ≡ n
+fits : (row : List Cell) (n : ℕ) → line_bytes ≤ n → length (line widths (texts row)) ≤ n
 fits row n h = omega (arith, line_length (texts row))
 
 -- a cell with its blank
@@ -52,7 +51,7 @@ put_cell-at-requires c =
     let more = Zip-more l.width-iterator c.next.new.self c.next.result (c.in-Some.width, c.in-Some.cell) c.in-Some.is c.next.ensures.steps in
     let w = c.in-Some.width.now in
     let x = c.in-Some.cell.now in
-    let room = tail_fits (column w x) _ (next w x more.0 more.1 l.invariant.written) (omega (arith, fits c.args.row _ c.requires)) in
+    let room = tail_fits (column w x) _ (next w x more.0 more.1 l.invariant.written) (fits c.args.row _ c.requires) in
     omega (arith, column_length w (text_of x))
 
 pub loop-width-preserved : goal.loop-width-preserved
@@ -63,7 +62,7 @@ loop-width-preserved c =
     let x = c.in-Some.cell.now in
     record {
       same = let e = rw (more.0, more.1) at l.invariant.same in omega arith;
-      written = put_more (column w x) _ (next w x more.0 more.1 l.invariant.written) (omega (arith, fits c.args.row _ c.requires)) c.put_cell-at.ensures;
+      written = put_more (column w x) _ (next w x more.0 more.1 l.invariant.written) (fits c.args.row _ c.requires) c.put_cell-at.ensures;
     }
 
 pub put-requires : goal.put-requires
@@ -71,12 +70,11 @@ unfolding text
 put-requires c =
     let l = c.loop-width in
     let none = none_left _ _ l.invariant.same (either_empty_from_Zip l.width-iterator c.next.new.self c.next.result c.in-None.is c.next.ensures.steps) in
-    last_fits (end_next _ _ none l.invariant.written) (omega (arith, fits c.args.row _ c.requires))
+    last_fits (end_next _ _ none l.invariant.written) (fits c.args.row _ c.requires)
 
 pub returns : goal.returns
 unfolding text
 returns c =
     let l = c.loop-width in
     let none = none_left _ _ l.invariant.same (either_empty_from_Zip l.width-iterator c.next.new.self c.next.result c.in-None.is c.next.ensures.steps) in
-    let e = fits c.args.row _ c.requires in
-    put_whole (put_last (end_next _ _ none l.invariant.written) (omega arith) c.put.ensures) (omega arith)
+    put_last (end_next _ _ none l.invariant.written) (fits c.args.row _ c.requires) c.put.ensures
