@@ -4,8 +4,8 @@ use mathlib.Core.Path.{◌≡◌, refl, sym, ap, ap₂, ◌∙◌}
 use mathlib.Core.List.{List, ◌∷◌, ◌++◌}
 use native.Mathlib.Omega.{arith}
 use lib.ListN.{drop, replicate}
-use Rattle.base.specs.Over.{listed_from}
-use Rattle.base.proofs.Listed.{listed_append}
+use Rattle.base.specs.Over.{listed, listed_from}
+use Rattle.base.proofs.Listed.{listed_cong, listed_append}
 
 drop_zeros : (n k : ℕ) → drop {A = ℕ} n (replicate (n + k) 0) ≡ replicate k 0
 drop_zeros zero k = let e : 0 + k ≡ k = omega arith in rw e
@@ -26,3 +26,7 @@ module _ (f : ℕ → ℕ) where
       ap (drop n) (zeros ∙ ap (λ (v : ℕ). replicate v 0) (sym e)) ∙ drop_zeros n (k - n)
       ∙ zeros_listed (k - n) (m + n) (λ x l. let b : m + n + x ≡ m + (n + x) = omega arith in ap f b ∙ past (n + x) (omega arith) (omega arith)) in
       ap (λ (l : List ℕ). listed_from n m f ++ l) rest ∙ listed_append f n (k - n) m ∙ ap (λ (v : ℕ). listed_from v m f) e
+
+-- what is made of numbers from 0 is what the rules list from 1
+pub from_1 : {n m : ℕ} (f : ℕ → ℕ) → n ≡ m → listed_from n 0 (λ k. f (k + 1)) ≡ listed m f
+from_1 {n} {m} f e = rw e (listed_cong m 0 1 (λ k. f (k + 1)) f (λ x h. ap f (omega arith)))

@@ -14,9 +14,9 @@ use Rattle.tables.specs.Arrays.{leader_in, Leaders}
 use Rattle.fill.specs.Lists.{leader_list}
 
 -- the place of the leader of segment i + 1
-pub leader_at_lem : (d : District) (i : ℕ) → get_or d (segments_at + per_segment * i + leader_at) 0 ≡ leader_of d (1 + i)
+pub leader_at_lem : (d : District) (i : ℕ) → get_or d (segments_at + per_segment * i + leader_at) 0 ≡ leader_of d (i + 1)
 unfolding leader_of
-leader_at_lem d i = let e : 1 + i - 1 ≡ i = omega arith in rw e
+leader_at_lem d i = let e : i + 1 - 1 ≡ i = omega arith in rw e
 
 module _ (d : District) (ok : Ranges d) where
   length_is : length (leader_list d) ≡ most_segments

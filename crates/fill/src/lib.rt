@@ -3,7 +3,7 @@
 #![tactic(auto)]
 
 ghost use Rattle.std.specs.Prelude.{◌≡◌, ℕ, ◌+◌, ◌-◌, ◌*◌, ◌/◌, ◌^◌, ◌<◌, ◌≤◌, length, get_or, replicate};
-ghost use Rattle.base.specs.Over.{listed, divide_up};
+ghost use Rattle.base.specs.Over.{listed, listed_from, divide_up};
 ghost use Rattle.tables.specs.Arrays.{columns, entries, use_entries};
 ghost use Rattle.rules.specs.District.{most_segments, most_resources};
 ghost use Rattle.rules.specs.Table.{usage_in};
@@ -19,13 +19,21 @@ use rules::places::{
 };
 use tables::{COLUMNS, ENTRIES, LimitList, Size, USE_ENTRIES, UsageTable};
 
+// Each place of a list, counted from 0, gets what is made of its number.
+fn fill_each<T: Copy, F: Fn(usize) -> T>(list: &mut [T], entry: F)
+    requires { (n : ℕ) → n < length list.old → F.pre entry n }
+    ensures { (f : ℕ → T) → ((n : ℕ) (v : T) → n < length list.old → F.post entry n v → v ≡ f n) → list.new ≡ listed_from (length list.old) 0 f }
+{
+    for (n, place) in list.iter_mut().enumerate() {
+        *place = entry(n);
+    }
+}
+
 // The leaders of all segments.
 fn fill_leaders(d: &District, leaders: &mut [usize; MOST_SEGMENTS])
     ensures { leaders.new ≡ leader_list d.now }
 {
-    for (i, leader) in leaders.iter_mut().enumerate() {
-        *leader = d[SEGMENTS + PER_SEGMENT * i + LEADER];
-    }
+    fill_each(leaders, |i| d[SEGMENTS + PER_SEGMENT * i + LEADER]);
 }
 
 // The benefits of all segments and strategies.
@@ -34,9 +42,9 @@ fn fill_benefits(d: Ranged<'_>, table: &mut [u64; ENTRIES])
     ensures { table.new ≡ benefit_list d.entry.district.now }
 {
     let end = COLUMNS * d.district[SEGMENT_COUNT];
-    for (n, benefit) in table[..end].iter_mut().enumerate() {
-        *benefit = d.candidate_benefit(n / COLUMNS + 1, n % COLUMNS);
-    }
+    fill_each(&mut table[..end], |n| {
+        d.candidate_benefit(n / COLUMNS + 1, n % COLUMNS)
+    });
 }
 
 // The uses that strategy j on segment i makes of each resource.
@@ -45,9 +53,7 @@ fn fill_row(d: Ranged<'_>, i: usize, j: usize, row: &mut [u64])
     ensures { row.new ≡ listed most_resources (usage_in d.entry.district.now i j) }
 {
     let a = d.area_in(i, j);
-    for (r, usage) in row.iter_mut().enumerate() {
-        *usage = d.usage_in(j, r + 1, a);
-    }
+    fill_each(row, |r| d.usage_in(j, r + 1, a));
 }
 
 // The uses of all segments and strategies, a row for each pair. A range: over `chunks_exact_mut` the proof of what the table
@@ -65,9 +71,7 @@ fn fill_uses(d: Ranged<'_>, table: &mut [u64; USE_ENTRIES])
 fn fill_limits(d: Ranged<'_>, table: &mut [u64; MOST_RESOURCES])
     ensures { table.new ≡ limit_list d.entry.district.now }
 {
-    for (r, limit) in table.iter_mut().enumerate() {
-        *limit = d.limit_in(r + 1);
-    }
+    fill_each(table, |r| d.limit_in(r + 1));
 }
 
 // The share that a use is of a limit, in ten-thousandths, rounded up; none of a limit of 0.
@@ -108,7 +112,8 @@ fn fill_shares(
     }
 }
 
-// The arrays of one plan.
+// The arrays of one plan. Each is one of its own, though they hold entries of the same pairs: each is lent as a typed list to
+// the phases that read it alone.
 #[derive(Drop)]
 pub struct Arrays {
     pub leaders: [usize; MOST_SEGMENTS],
