@@ -5,7 +5,7 @@ ghost use Rattle.std.specs.Prelude.{◌≡◌, true, false, MatchOption, ℕ, �
 ghost use Rattle.base.specs.Choice.{pick};
 ghost use Rattle.base.specs.Over.{sum, sum_z};
 ghost use Rattle.grammar.specs.Ranges.{Ranges};
-ghost use Rattle.rules.specs.District.{most_years, per_strategy, per_pavement, per_segment, value_at, limit_place, greatest_place, strategy_place, pavement_place, segment_place, gain_of, years_of, distresses_of, segments_of, barred_in};
+ghost use Rattle.rules.specs.District.{most_years, per_strategy, per_pavement, per_segment, value_at, limit_place, greatest_place, strategy_place, pavement_place, segment_place, gain_of, pavement_of, years_of, distresses_of, segments_of, barred_in};
 ghost use Rattle.rules.specs.Rating.{gain, survival, both_ends, credits, rating, effect, area, benefit, usage, scaled_limit, reaches, minimum_reached, years_reached, minima_reached, first_rating, overall_reached, permitted, fits_alone, candidate};
 ghost use Rattle.rules.specs.Phases.{chosen_usage, used as Phases·used};
 ghost use Rattle.rules.specs.Table.{has, candidate_benefit, usage_in, limit_in, table_of};
@@ -185,7 +185,7 @@ impl<'a> Treatment<'a> {
     // ---- effect, area, benefit
 
     // What is left of a gain at the start and at the end of each year, summed over the years. All of it is there when
-    // year 1 starts.
+    // year 1 starts. A loop, which hands the end of a year on to the next: a sum of both ends would find each twice.
     fn survivals(&self, k: usize) -> usize
         requires { Distress k }
         ensures { result ≡ sum (years_of self.now.ranged.district.now) (both_ends self.now.ranged.district.now self.now.segment self.now.strategy k) }
@@ -247,6 +247,15 @@ impl<'a> Treatment<'a> {
 
     // ---- permitted
 
+    // The segment's pavement type.
+    fn pavement(&self) -> usize
+        requires { self.now.segment ≤ segments_of self.now.ranged.district.now }
+        ensures value { result ≡ pavement_of self.now.ranged.district.now self.now.segment }
+        ensures there { Pavement result }
+    {
+        segment_at(self.ranged.district, self.segment, PAVEMENT)
+    }
+
     // The rating in year t, in millionths, g being the gain.
     fn rating(&self, k: usize, t: usize, g: i64) -> i64
         requires { Distress k × Year t × (g ≡ gain self.now.ranged.district.now self.now.segment self.now.strategy k) }
@@ -260,7 +269,7 @@ impl<'a> Treatment<'a> {
         requires { (self.now.segment ≤ segments_of self.now.ranged.district.now) × Distress k × Year t × (g ≡ gain self.now.ranged.district.now self.now.segment self.now.strategy k) }
         ensures { result ≡ minimum_reached self.now.ranged.district.now self.now.segment self.now.strategy k t }
     {
-        let pavement = segment_at(self.ranged.district, self.segment, PAVEMENT);
+        let pavement = self.pavement();
         let required = pavement_at(self.ranged.district, pavement, MINIMA + row_place(k, t));
         reaches(self.rating(k, t, g), required)
     }
@@ -292,7 +301,7 @@ impl<'a> Treatment<'a> {
         requires { self.now.segment ≤ segments_of self.now.ranged.district.now }
         ensures { result ≡ overall_reached self.now.ranged.district.now self.now.segment self.now.strategy }
     {
-        let pavement = segment_at(self.ranged.district, self.segment, PAVEMENT);
+        let pavement = self.pavement();
         let required = pavement_at(self.ranged.district, pavement, OVERALL);
         reaches(self.first_ratings(), required)
     }

@@ -5,25 +5,17 @@ use mir.Syntax.{w64}
 use Rattle.base.proofs.Integers.{told}
 use Rattle.rules.specs.District.{minimum_of}
 use Rattle.rules.specs.Rating.{reaches, minimum_reached}
-use Rattle.rating.specs.Numbers.{Pavement}
-use Rattle.rating.proofs.Bounds.{pavement_in}
-use Rattle.rating.proofs.Places.{pavement_is, minimum_is}
+use Rattle.rating.proofs.Places.{minimum_is}
 use Rattle.rating.proofs.Treatment.minimum_reached.Goals as goal
-use Rattle.rating.proofs.Treatment.minimum_reached.Goals.{After-segment_at-pavement}
-
-type-in : (c : After-segment_at-pavement) → Pavement c.segment_at-pavement.result
-type-in c =
-    let s = c.args.self.now in
-    rw (pavement_is c.args.self.now.ranged.district.now c.args.self.now.segment c.segment_at-pavement.ensures) (pavement_in _ s.ranged.in_range _ (s.segment_in.0, c.requires.0))
 
 pub pavement_at-required-requires : goal.pavement_at-required-requires
-pavement_at-required-requires c = (type-in (goal.at.pavement_at-required-requires c).After-segment_at-pavement, omega (arith, c.row_place.ensures))
+pavement_at-required-requires c = (c.pavement-pavement.ensures.there, omega (arith, c.row_place.ensures))
 
 pub reaches-requires : goal.reaches-requires
 reaches-requires c =
     let p = c.requires in
-    let y = type-in (goal.at.reaches-requires c).After-segment_at-pavement in
-    omega (arith, minimum_is c.args.self.now.ranged.district.now c.args.k c.args.t c.row_place.ensures c.segment_at-pavement.result c.pavement_at-required.ensures, c.args.self.now.ranged.in_range.minimum _ _ _ y.0 y.1 p.1.0 p.1.1 p.2.0 p.2.1)
+    let y = c.pavement-pavement.ensures.there in
+    omega (arith, minimum_is c.args.self.now.ranged.district.now c.args.k c.args.t c.row_place.ensures c.pavement-pavement.result c.pavement_at-required.ensures, c.args.self.now.ranged.in_range.minimum _ _ _ y.0 y.1 p.1.0 p.1.1 p.2.0 p.2.1)
 
 pub returns : goal.returns
 unfolding minimum_reached
@@ -34,5 +26,5 @@ returns c =
     let t = c.args.t in
     c.reaches.ensures
     ∙ ap₂ reaches (told w64 c.rating.type_inv c.rating.ensures)
-    (minimum_is d k t c.row_place.ensures c.segment_at-pavement.result c.pavement_at-required.ensures
-    ∙ ap (λ y. minimum_of d y k t) (pavement_is d s.segment c.segment_at-pavement.ensures))
+    (minimum_is d k t c.row_place.ensures c.pavement-pavement.result c.pavement_at-required.ensures
+    ∙ ap (λ y. minimum_of d y k t) c.pavement-pavement.ensures.value)
