@@ -32,7 +32,8 @@ pub fn fresh() -> Office
     }
 }
 
-// An edit of the unit's district; the window stays.
+// An edit of the unit's district; the window stays. It is the one call of the unit that changes an office here: the loads
+// are the station's, and their contract keeps both windows too (station/specs/Kept, PlansBoth).
 pub fn alter(o: &mut Office, e: Edit) -> Answer
     ensures { Plans o.old (Alter e) (reply result o.new) }
 {

@@ -22,7 +22,8 @@ fn answer(file: &[u8], out: &mut [u8]) -> usize
     pages::put_paged(out, &unit::of_file(file))
 }
 
-// What is printed for the first bytes of the input goes to the output.
+// What is printed for the first bytes of the input goes to the output. The programs of this kind are one call each: what a
+// program has of its own is what it answers, by its contract, and the room for it.
 #[tactic(auto, using(base::proofs::Text::put_within))]
 fn run<R: Read, W: Write>(input: &mut R, output: &mut W) -> io::Result<()>
     ensures { OnOk result (Prints printed most_read (R.remaining input.old) (W.contents output.old) (W.contents output.new)) }

@@ -21,15 +21,11 @@ use Rattle.command.specs.Reading.{path_of, command_in}
 use Rattle.command.specs.declared.Command.{Command}
 use Rattle.command.specs.declared.Command.TheVariants.{Nothing, Unknown, Load, Export, Alter, Show, Points, Page, Why, Send, Roughness, Office, Queue, Step}
 use Rattle.listing.specs.Listing.{shown, refusal, done, valued, explained, told, stepped, failed}
-use Rattle.pages.specs.Printed.{page_held, longest_page}
+use Rattle.pages.specs.Printed.{page_held}
 use Rattle.desk.specs.Kept.{KeepsDesk}
 use Rattle.station.specs.Questions.{why_for, roughness_for}
 use Rattle.panel.specs.declared.Console.{Console}
 use Rattle.rules.specs.declared.Which.{Which}
-
--- an answer has at most as many bytes as the longest page
-abbrev pub longest_answer : ℕ
-longest_answer = longest_page
 
 -- what the console goes by: a desk, and the number of the office that calls name
 pub record State : Type 0 where

@@ -23,16 +23,9 @@ pub enum Failure {
 pub fn read(rt: &impl Files, path: &[u8], space: &mut [u8]) -> Result<usize, Failure>
     ensures { ReadsAtMost result space.new }
 {
-    let Ok(path) = str::from_utf8(path) else {
-        return Err(Failure::Open);
-    };
-    let Ok(mut file) = File::open(rt, path) else {
-        return Err(Failure::Open);
-    };
-    match input::read_full(&mut file, space) {
-        Ok(count) => Ok(count),
-        Err(_) => Err(Failure::Read),
-    }
+    let path = str::from_utf8(path).map_err(|_| Failure::Open)?;
+    let mut file = File::open(rt, path).map_err(|_| Failure::Open)?;
+    input::read_full(&mut file, space).map_err(|_| Failure::Read)
 }
 
 // ---- a new file in the place of another
@@ -74,15 +67,7 @@ fn random_letters(rt: &impl RandomSource) -> io::Result<[u8; LETTERS]>
 {
     let mut bytes = [0u8; LETTERS];
     rt.fill_bytes(&mut bytes)?;
-    let [a, b, c, d, e, f] = bytes;
-    Ok([
-        letter(a),
-        letter(b),
-        letter(c),
-        letter(d),
-        letter(e),
-        letter(f),
-    ])
+    Ok(bytes.map(letter))
 }
 
 // The letters go to the end of the name, where there is room for them.
@@ -99,10 +84,7 @@ fn put_letters(name: &mut [u8], word: [u8; LETTERS])
 fn text_of(name: &[u8]) -> io::Result<&str>
     ensures { IfOk result (λ text. text.now ≡ name.now) }
 {
-    match str::from_utf8(name) {
-        Ok(text) => Ok(text),
-        Err(_) => Err(io::Error::from(ErrorKind::InvalidInput)),
-    }
+    str::from_utf8(name).map_err(|_| io::Error::from(ErrorKind::InvalidInput))
 }
 
 // A new file of this name; an error where one has it.

@@ -14,7 +14,7 @@ ghost use Rattle.rules.specs.Offices.{Held};
 ghost use Rattle.rules.specs.Stations.{Both};
 ghost use Rattle.station.specs.Kept.{KeepsBoth};
 ghost use Rattle.desk.specs.Kept.{KeepsDesk};
-ghost use Rattle.panel.specs.Console.{longest_answer, State, start as Console·start, state_of, printed, said, after, Loads, Exports, LineLeads, KeepsState, turn, UnitNamed, Tells, Turns};
+ghost use Rattle.panel.specs.Console.{State, start as Console·start, state_of, printed, said, after, Loads, Exports, LineLeads, KeepsState, turn, UnitNamed, Tells, Turns};
 ghost use Rattle.panel.specs.Lines.{kept_bytes, keeping, ByEvents, Answered, Fed};
 
 use arrayvec::ArrayVec;
@@ -23,6 +23,7 @@ use desk::Desk;
 use files::Failure;
 use input::MOST_READ;
 use output::Output;
+use pages::LONGEST_PAGE;
 use rules::records::LONGEST_FILE;
 use rules::{Refusal, Unit, Waiting, Which};
 use std::io;
@@ -36,7 +37,8 @@ const KEPT: usize = command::LONGEST_LINE + 1;
 // The byte that ends a line.
 const LINE_FEED: u8 = 10;
 
-// The desk, and the number of the office that calls name.
+// The desk, and the number of the office that calls name. That events led to the desk stands in the clauses that need it: a
+// ghost field has to be a proposition, and which events they were is more than that (tried).
 #[derive(Drop)]
 pub struct Console {
     pub desk: Desk,
@@ -64,9 +66,8 @@ fn unit(c: &Console) -> Result<&Unit, Refusal>
     Ok(&station::own(&c.desk.station, w).unit)
 }
 
-// Its programme.
-fn show(c: &Console, out: &mut [u8]) -> usize
-    requires { longest_answer ≤ length out.old }
+// Its programme. Its page below is the same match: of one function that takes the writer listing says what was tried.
+fn show(c: &Console, out: &mut [u8; LONGEST_PAGE]) -> usize
     ensures { (b : Both Held) → KeepsBoth c.now.desk.station b → Put (printed shown b c.now.office) out.old out.new result }
 {
     match unit(c) {
@@ -76,8 +77,7 @@ fn show(c: &Console, out: &mut [u8]) -> usize
 }
 
 // Its page.
-fn page(c: &Console, out: &mut [u8]) -> usize
-    requires { longest_answer ≤ length out.old }
+fn page(c: &Console, out: &mut [u8; LONGEST_PAGE]) -> usize
     ensures { (b : Both Held) → KeepsBoth c.now.desk.station b → Put (printed page_held b c.now.office) out.old out.new result }
 {
     match unit(c) {
@@ -86,8 +86,9 @@ fn page(c: &Console, out: &mut [u8]) -> usize
     }
 }
 
-fn obey(c: &mut Console, command: Command, out: &mut [u8]) -> usize
-    requires { longest_answer ≤ length out.old }
+// Load and export are answered by respond, which has the path: a type of the commands but for these two would have the other
+// twelve once more.
+fn obey(c: &mut Console, command: Command, out: &mut [u8; LONGEST_PAGE]) -> usize
     ensures { (h : Desks.Desk) → KeepsDesk c.old.desk h → Tells (after (state_of h c.old.office) command) (said (state_of h c.old.office) command) out.old out.new (turn c.new result) }
 {
     match command {
@@ -127,8 +128,8 @@ fn obey(c: &mut Console, command: Command, out: &mut [u8]) -> usize
 
 // ---- commands with a file
 
-fn load(rt: &impl Files, c: &mut Console, path: &[u8], out: &mut [u8]) -> usize
-    requires { (length path.now ≤ kept_bytes) × (longest_answer ≤ length out.old) }
+fn load(rt: &impl Files, c: &mut Console, path: &[u8], out: &mut [u8; LONGEST_PAGE]) -> usize
+    requires { length path.now ≤ kept_bytes }
     ensures { (h : Desks.Desk) → KeepsDesk c.old.desk h → Turns (Loads (state_of h c.old.office) path.now) out.old out.new (turn c.new result) }
 {
     let mut file = [0u8; MOST_READ];
@@ -139,8 +140,13 @@ fn load(rt: &impl Files, c: &mut Console, path: &[u8], out: &mut [u8]) -> usize
     }
 }
 
-fn export<H: Files + RandomSource>(rt: &H, c: &Console, path: &[u8], out: &mut [u8]) -> usize
-    requires { (length path.now ≤ kept_bytes) × (longest_answer ≤ length out.old) × ByEvents c.now }
+fn export<H: Files + RandomSource>(
+    rt: &H,
+    c: &Console,
+    path: &[u8],
+    out: &mut [u8; LONGEST_PAGE],
+) -> usize
+    requires { (length path.now ≤ kept_bytes) × ByEvents c.now }
     ensures { (h : Desks.Desk) → KeepsDesk c.now.desk h → Turns (Exports (state_of h c.now.office) path.now) out.old out.new (turn c.now result) }
 {
     let mut file = [0u8; LONGEST_FILE];
@@ -155,8 +161,13 @@ fn export<H: Files + RandomSource>(rt: &H, c: &Console, path: &[u8], out: &mut [
 
 // ---- lines
 
-fn respond<H: Files + RandomSource>(rt: &H, c: &mut Console, line: &[u8], out: &mut [u8]) -> usize
-    requires { (length line.now ≤ kept_bytes) × (longest_answer ≤ length out.old) × ByEvents c.old }
+fn respond<H: Files + RandomSource>(
+    rt: &H,
+    c: &mut Console,
+    line: &[u8],
+    out: &mut [u8; LONGEST_PAGE],
+) -> usize
+    requires { (length line.now ≤ kept_bytes) × ByEvents c.old }
     ensures { (s : State) → KeepsState c.old s → Turns (LineLeads s line.now) out.old out.new (turn c.new result) }
 {
     match command::parse(line) {
@@ -176,7 +187,7 @@ fn answer<H: Files + RandomSource, W: Write>(
     requires { (length line.now ≤ kept_bytes) × ByEvents c.old }
     ensures { Answered c.old line.now c.new }
 {
-    let mut out = [0u8; pages::LONGEST_PAGE];
+    let mut out = [0u8; LONGEST_PAGE];
     let n = respond(rt, c, line, &mut out);
     output.put(&out[..n]);
 }

@@ -30,9 +30,7 @@ impl<W: Write> Output<W> {
         ensures first { self.new.failure ≡ None → self.old.failure ≡ None }
     {
         if let Err(e) = self.writer.write_all(bytes) {
-            if self.failure.is_none() {
-                self.failure = Some(e);
-            }
+            self.failure.get_or_insert(e);
         }
     }
 }

@@ -23,7 +23,9 @@ use pages::LONGEST_PAGE;
 use rules::records::LONGEST_FILE;
 use rules::{Answer, Waiting};
 
-// Kinds whose rows do not say all. A kind is any byte: past the last row it names no command.
+// Kinds whose rows do not say all. A kind is any byte: past the last row it names no command. It is no Option of a name:
+// tried, and the last arm of a match over Some(Name::Queue) tells the proof of no other name; let-else and a second match
+// would say that arm twice.
 const LOAD: u8 = Name::Load as u8;
 
 const QUEUE: u8 = Name::Queue as u8;

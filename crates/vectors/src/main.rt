@@ -25,6 +25,7 @@ fn answer(script: &[u8], out: &mut [u8]) -> usize
     }
 }
 
+// One call, as transcode has it: its own is what a frame is answered, and the room for it.
 #[tactic(auto, using(base::proofs::Text::put_within))]
 fn main(rt: HostRuntime) -> io::Result<()> {
     frames::answered::<LONGEST_LISTING, _, _, _>(&mut rt.stdin(), &mut rt.stdout(), answer)

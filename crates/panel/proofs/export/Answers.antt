@@ -29,16 +29,16 @@ fits {x} buffer n known lends is =
 
 pub slice_bounds-file-end : goal.slice_bounds-file-end
 slice_bounds-file-end g c =
-    omega (arith, fits _ c.in-Ok.n c.requires.2 c.export-answer.ensures (ap answer_in c.in-Ok.is), c.export-answer.auto.buffer)
+    omega (arith, fits _ c.in-Ok.n c.requires.1 c.export-answer.ensures (ap answer_in c.in-Ok.is), c.export-answer.auto.buffer)
 
 pub slice_bounds-save-end : goal.slice_bounds-save-end
 slice_bounds-save-end g c =
     let room : c.in-Ok.n ≤ length c.export-answer.new.buffer =
-    omega (arith, fits _ c.in-Ok.n c.requires.2 c.export-answer.ensures (ap answer_in c.in-Ok.is), c.export-answer.auto.buffer) in
+    omega (arith, fits _ c.in-Ok.n c.requires.1 c.export-answer.ensures (ap answer_in c.in-Ok.is), c.export-answer.auto.buffer) in
     sym (length-take-le _ _ room)
 
 pub put_failed-requires : goal.put_failed-requires
-put_failed-requires g c = rw failed_length (omega (arith, c.requires.0, c.requires.1))
+put_failed-requires g c = rw failed_length (omega (arith, c.requires.0))
 
 pub returns-then-is_err : goal.returns-then-is_err
 unfolding answer_to text

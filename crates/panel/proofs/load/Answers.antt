@@ -8,10 +8,10 @@ use Rattle.panel.proofs.Says.{failed_length, stays, replied, turns}
 use Rattle.panel.proofs.load.Goals as goal
 
 pub put_failed-requires : goal.put_failed-requires
-put_failed-requires g c = rw failed_length (omega (arith, c.requires.0, c.requires.1))
+put_failed-requires g c = rw failed_length (omega (arith, c.requires))
 
 pub put_failed-requires-in-Err-Read : goal.put_failed-requires-in-Err-Read
-put_failed-requires-in-Err-Read g c = rw failed_length (omega (arith, c.requires.0, c.requires.1))
+put_failed-requires-in-Err-Read g c = rw failed_length (omega (arith, c.requires))
 
 pub returns-in-Ok : goal.returns-in-Ok
 returns-in-Ok g c = λ h k. turns (replied (plan_happens _ _ _ _ c.load.ensures h k) refl c.put_done.ensures) (read _)

@@ -1,15 +1,14 @@
 -- `panel::respond` meets its contract, of all that may be held.
-use native.Mathlib.Omega.{arith}
 use mathlib.Core.Path.{sym, ◌∙◌}
 use Rattle.panel.specs.Console.{Loads, Exports, load, export}
 use Rattle.panel.proofs.Says.{path_short, turns_file, turns_other}
 use Rattle.panel.proofs.respond.Goals as goal
 
 pub load-requires : goal.load-requires
-load-requires g c = (path_short _ _ _ c.path.ensures c.requires.0, omega (arith, c.requires.1))
+load-requires g c = path_short _ _ _ c.path.ensures c.requires.0
 
 pub export-requires : goal.export-requires
-export-requires g c = (path_short _ _ _ c.path-in-Export.ensures c.requires.0, omega (arith, c.requires.1), c.requires.2)
+export-requires g c = (path_short _ _ _ c.path-in-Export.ensures c.requires.0, c.requires.1)
 
 pub returns-in-Load : goal.returns-in-Load
 returns-in-Load g c =
