@@ -38,7 +38,8 @@ const KEPT: usize = command::LONGEST_LINE + 1;
 const LINE_FEED: u8 = 10;
 
 // The desk, and the number of the office that calls name. That events led to the desk stands in the clauses that need it: a
-// ghost field has to be a proposition, and which events they were is more than that (tried).
+// ghost field has to be a proposition, which a list of events is not (tried). Truncated it would give demand 3 only after a
+// proof that demand 3 is one.
 #[derive(Drop)]
 pub struct Console {
     pub desk: Desk,
