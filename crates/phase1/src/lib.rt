@@ -23,15 +23,15 @@ pub use shares::ShareTable;
 
 // The candidate of segment i with the greatest benefit, of equals the lowest, among those of which the test, of number and
 // benefit, holds; 0 where there is none, which is the number of nothing. A loop, since max_by_key would take the last of equals,
-// and a benefit of 0.
-fn best_candidate<F: Fn(usize, u64) -> bool>(
+// and a benefit of 0, and would make the test of each.
+pub fn best_candidate<F: Fn(usize, u64) -> bool>(
     z: Size,
     benefits: BenefitTable<'_>,
     i: usize,
     passes: F,
 ) -> usize
     requires cell { Cell i z.strategies }
-    requires callable { F.IsAlwaysCallable passes }
+    requires callable { (j : ℕ) → 1 ≤ j → j ≤ z.strategies → F.pre passes j (benefit_at benefits.entries.now i j) }
     ensures { (p : ℕ → Bool) → IsTest z.strategies (F.post passes) (benefit_at benefits.entry.entries.now i) p → result ≡ best_passing z.strategies (benefit_at benefits.entry.entries.now i) p }
 {
     let mut top: usize = 0;

@@ -20,14 +20,11 @@ use Rattle.tables.specs.Views.{table_in, leaders_in}
 use Rattle.rules.specs.District.{most_segments}
 use lib.ListN.{length}
 use Rattle.tables.proofs.Arrays.{benefit_nothing}
+use Rattle.phase1.specs.Reduce.{best_passing}
 use Rattle.phase2.specs.declared.Offer.{Offer}
 use Rattle.phase2.specs.Offers.{IsOffer, worth}
 
--- the numbers of an offer; without one 0
-abbrev strategy_of : Option Offer → ℕ
-strategy_of None = 0
-strategy_of (Some o) = o.takes.1
-
+-- the segment of an offer; without one 0
 abbrev segment_of : Option Offer → ℕ
 segment_of None = 0
 segment_of (Some o) = o.takes.0
@@ -36,57 +33,15 @@ module _ (z : Size) (b u l c : List ℕ) where
   abbrev t : Table
   t = tables z b u l
 
-  -- ---- the offer for segment i, of the first n strategies
+  -- ---- the offer for segment i: the best of those that fit
 
-  -- an offer held is of segment i, and not of nothing
-  abbrev OfSegment : ℕ → Option Offer → Type 0
-  OfSegment i None = Unit {0}
-  OfSegment i (Some o) = (o.takes.0 ≡ i) × (1 ≤ o.takes.1)
+  pub offer_is : (i : ℕ) → best_passing z.strategies (benefit_at b i) (λ j. within t (give c i j)) ≡ offer t c i
+  unfolding offer fitting is_candidate greater
+  offer_is i = refl
 
-  abbrev pub Held : ℕ → ℕ → Option Offer → Type 0
-  Held i n best = Leads (fitting t c i) (benefit_at b i) n (strategy_of best) (worth best) × OfSegment i best
-
-  module _ (i : ℕ) where
-    pub offer_none : Held i 0 None
-    unfolding fitting is_candidate
-    offer_none = (
-      leads_none (fitting t c i) (benefit_at b i) (benefit_nothing b i)
-          (λ k e. ltb-true 0 (benefit_at b i k) (and_both (ltb 0 (benefit_at b i k)) (within t (give c i k)) e).0),
-      tt,
-    )
-
-    -- strategy j, the next, has the benefit `value`
-    module _ (n j m : ℕ) {value : ℕ} (best : Option Offer) (next : j ≡ n + 1) (up : m ≡ j) (is : value ≡ benefit_at b i j) (held : Held i n best) where
-      is_next : value ≡ benefit_at b i (n + 1)
-      is_next = rw next at is
-
-      pub offer_taken : worth best < value → within t (give c i j) ≡ true → Held i m (Some (record { takes = record { 0 = i; 1 = j }; benefit = value }))
-      unfolding fitting is_candidate
-      offer_taken h w =
-          rw (up, next)
-          (leads_taken (fitting t c i) (benefit_at b i) n (strategy_of best) (worth best) held.0 is_next (rw (lt-ltb 0 (benefit_at b i (n + 1)) (omega (arith, is_next))) (rw next at w)) h, (refl, omega arith))
-
-      pub offer_kept : value ≤ worth best → Held i m best
-      offer_kept h = rw (up, next) (leads_kept (fitting t c i) (benefit_at b i) n (strategy_of best) (worth best) held.0 (λ e. omega (arith, is_next)), held.1)
-
-      pub offer_passed : within t (give c i j) ≡ false → Held i m best
-      unfolding fitting
-      offer_passed w =
-          rw (up, next) (
-            leads_kept (fitting t c i) (benefit_at b i) n (strategy_of best) (worth best) held.0
-                (λ e. absurd (true≢false (sym (and_both (is_candidate t i (n + 1)) (within t (give c i (n + 1))) e).1 ∙ rw next at w))),
-            held.1,
-          )
-
-    offer_end : {n top most : ℕ} → Leads (fitting t c i) (benefit_at b i) n top most → n ≡ z.strategies → top ≡ offer t c i
-    unfolding offer greater
-    offer_end {n} {top} {most} leads e = leads_end (fitting t c i) (benefit_at b i) n top most leads e
-
-    pub offer_found : (n : ℕ) (best : Option Offer) → Held i n best → n ≡ z.strategies → MatchOption best (offer t c i ≡ 0) (IsOffer t c i)
-    unfolding offer_benefit
-    offer_found n None held e = sym (offer_end held.0 e)
-    offer_found n (Some o) held e =
-        record { segment = held.1.0; strategy = offer_end held.0 e; some = held.1.1; benefit = held.0.number ∙ ap (benefit_at b i) (offer_end held.0 e) }
+  pub is_offer : (i j : ℕ) {value : ℕ} → j ≡ offer t c i → (j ≡ 0 → ⊥) → value ≡ benefit_at b i j → IsOffer t c i (record { takes = record { 0 = i; 1 = j }; benefit = value })
+  unfolding offer_benefit
+  is_offer i j is some worth = record { segment = refl; strategy = is; some = omega arith; benefit = worth ∙ ap (benefit_at b i) is }
 
   pub offer_le : (i : ℕ) → offer t c i ≤ z.strategies
   unfolding offer

@@ -8,6 +8,7 @@ ghost use Rattle.tables.specs.Arrays.{leader_in};
 ghost use Rattle.tables.specs.Views.{table_in, leaders_in};
 ghost use Rattle.phase2.specs.Offers.{IsOffer, worth};
 
+use phase1::best_candidate;
 use rules::places::MOST_SEGMENTS;
 use tables::{LeaderList, Move, Planning};
 
@@ -25,21 +26,20 @@ fn worth(offer: Option<Offer>) -> u64
     offer.map_or(0, |o| o.benefit)
 }
 
-// The best that segment i could take. A loop, since max_by_key would test the limits of each strategy; its end is n + 1, since
-// 1..=n has a second exit, where the proof stands once more.
+// The best that segment i could take.
 fn offer_of(planning: &Planning<'_>, i: usize) -> Option<Offer>
     requires { (1 ≤ i) × (i ≤ planning.now.t.size.segments) }
     ensures { let t = table_in planning.now.t in let c = planning.now.draft.choice in MatchOption result (offer t c i ≡ 0) (IsOffer t c i) }
 {
-    let mut best: Option<Offer> = None;
-    for j in 1..planning.t.size.strategies + 1 {
-        let benefit = planning.t.benefits.at(i, j);
-        let takes = Move(i, j);
-        if worth(best) < benefit && planning.fits(takes) {
-            best = Some(Offer { takes, benefit });
-        }
+    let t = planning.t;
+    let j = best_candidate(t.size, t.benefits, i, |j, _| planning.fits(Move(i, j)));
+    if j == 0 {
+        return None;
     }
-    best
+    Some(Offer {
+        takes: Move(i, j),
+        benefit: t.benefits.at(i, j),
+    })
 }
 
 // Segment i has nothing, and may have something.

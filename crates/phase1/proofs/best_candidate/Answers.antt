@@ -10,6 +10,9 @@ use Rattle.phase1.proofs.best_candidate.Goals.{then-most-value+then-passes, else
 pub loop-j-init : goal.loop-j-init
 loop-j-init g c = λ p test. passing_none _ _ p
 
+pub passes-requires : goal.passes-requires
+passes-requires g c = rw c.at-value.ensures.value (c.requires.callable (c.loop-j.j + 1) (omega arith) (omega arith))
+
 pub loop-j-preserved : goal.loop-j-preserved
 loop-j-preserved g c =
     λ p test.

@@ -1,24 +1,28 @@
--- `phase2::offer_of` meets its contract.
-use Prim.Native.Nat.{◌-◌}
-use mathlib.Core.Path.{sym, ◌∙◌}
-use native.Mathlib.Omega.{arith}
-use Rattle.phase2.proofs.Offers.{offer_none, offer_taken, offer_kept, offer_passed, offer_found}
+-- `phase2::offer_of` meets its contract: those pass that fit.
+use Rattle.std.proofs.Common.{rules, ◌≡◌, ◌∙◌, sym}
+use Rattle.rules.specs.Phases.{give, within, offer}
+use Rattle.tables.specs.Views.{table_in}
+use Rattle.tables.proofs.Arrays.{cell_of}
+use Rattle.phase2.proofs.Offers.{offer_is, offer_le, is_offer}
 use Rattle.phase2.proofs.offer_of.Goals as goal
-use Rattle.phase2.proofs.offer_of.Goals.{then-worth-benefit+then-fits, else-worth-benefit, else-worth-benefit-via-then-worth-benefit+else-fits, else-worth-benefit-via-else-worth-benefit}
+use Rattle.phase2.proofs.offer_of.Goals.{After-best_candidate-j}
 
-pub loop-j-init : goal.loop-j-init
-loop-j-init c = offer_none _ _ _ _ _ _
+-- what the search found
+found : (c : After-best_candidate-j) → c.best_candidate-j.result ≡ offer (table_in c.args.planning.now.t) c.args.planning.now.draft.choice c.args.i
+found c =
+    let p = c.args.planning.now in
+    c.best_candidate-j.ensures (λ j. within (table_in p.t) (give p.draft.choice c.args.i j)) (λ j low high r e. search rules) ∙ offer_is _ _ _ _ _ c.args.i
 
-pub loop-j-preserved : goal.loop-j-preserved
-loop-j-preserved c =
-    let l = c.loop-j in
-    elim c.if-worth-benefit.branch [
-      | then-worth-benefit+then-fits w ↦ rw w.best-is (offer_taken _ _ _ _ _ _ (l.j - 1) l.j _ l.best (omega arith) (omega arith) c.at-benefit.ensures.value l.invariant (omega arith) (sym w.fits.ensures ∙ w.if-fits.true))
-      | else-worth-benefit w ↦ rw w.best-is (elim w.else-worth-benefit.branch [
-        | else-worth-benefit-via-then-worth-benefit+else-fits v ↦ offer_passed _ _ _ _ _ _ (l.j - 1) l.j _ l.best (omega arith) (omega arith) c.at-benefit.ensures.value l.invariant (sym v.fits.ensures ∙ v.if-fits.false)
-        | else-worth-benefit-via-else-worth-benefit v ↦ offer_kept _ _ _ _ _ _ (l.j - 1) l.j _ l.best (omega arith) (omega arith) c.at-benefit.ensures.value l.invariant (omega arith)
-      ])
-    ]
+pub best_candidate-j-requires-clause-callable : goal.best_candidate-j-requires-clause-callable
+best_candidate-j-requires-clause-callable c = λ j low high. search rules
+
+pub returns-then-j-eq0 : goal.returns-then-j-eq0
+returns-then-j-eq0 c = sym (found (goal.at.returns-then-j-eq0 c).After-best_candidate-j) ∙ c.if-j-eq0.true
+
+pub at-requires : goal.at-requires
+at-requires c =
+    let is = found (goal.at.at-requires c).After-best_candidate-j in
+    cell_of c.args.planning.now.t.bounded c.args.i _ c.requires.0 c.requires.1 (rw is (offer_le _ _ _ _ _ c.args.i))
 
 pub returns : goal.returns
-returns c = offer_found _ _ _ _ _ _ (c.loop-j.j - 1) _ c.loop-j.invariant (omega arith)
+returns c = is_offer _ _ _ _ _ _ _ (found (goal.at.returns c).After-best_candidate-j) c.if-j-eq0.false c.at.ensures.value
