@@ -3,13 +3,13 @@
 #![tactic(auto)]
 
 ghost use Rattle.std.specs.Prelude.{◌≡◌, ℕ, ◌+◌, ◌-◌, ◌*◌, ◌/◌, ◌^◌, ◌<◌, ◌≤◌, length, get_or, replicate};
-ghost use Rattle.base.specs.Over.{listed, listed_from, divide_up};
+ghost use Rattle.base.specs.Over.{listed, listed_from};
 ghost use Rattle.tables.specs.Arrays.{columns, entries, use_entries};
 ghost use Rattle.rules.specs.District.{most_segments, most_resources};
 ghost use Rattle.rules.specs.Table.{usage_in};
 ghost use Rattle.rating.specs.Numbers.{Segment};
 ghost use Rattle.fill.specs.Filled.{Filled};
-ghost use Rattle.fill.specs.Lists.{leader_list, benefit_list, usage_list, limit_list, share_list, down_share_list};
+ghost use Rattle.fill.specs.Lists.{leader_list, benefit_list, usage_list, limit_list, share_entry, share_list, down_share_entry, down_share_list};
 
 use rating::Ranged;
 use rules::District;
@@ -74,23 +74,29 @@ fn fill_limits(d: Ranged<'_>, table: &mut [u64; MOST_RESOURCES])
     fill_each(table, |r| d.limit_in(r + 1));
 }
 
-// The share that a use is of a limit, in ten-thousandths, rounded up; none of a limit of 0.
-fn share(u: u64, l: u64) -> u64
-    requires { u < 2 ^ 41 }
-    ensures { result ≡ divide_up (u * 10000) l }
+// The share that the use at place n is of its limit, in ten-thousandths, rounded up; none of a limit of 0.
+#[tactic(auto, unfolding(crate::specs::Lists::share_entry))]
+fn share(uses: UsageTable<'_>, limits: LimitList<'_>, n: usize) -> u64
+    requires { n < use_entries }
+    ensures { result ≡ share_entry uses.entry.entries.now limits.entry.entries.now n }
 {
+    let u = uses.entries[n];
+    let l = limits.entries[n % MOST_RESOURCES];
     if l == 0 { 0 } else { (u * 10000).div_ceil(l) }
 }
 
 // The same rounded down.
-fn down_share(u: u64, l: u64) -> u64
-    requires { u < 2 ^ 41 }
-    ensures { result ≡ u * 10000 / l }
+#[tactic(auto, unfolding(crate::specs::Lists::down_share_entry))]
+fn down_share(uses: UsageTable<'_>, limits: LimitList<'_>, n: usize) -> u64
+    requires { n < use_entries }
+    ensures { result ≡ down_share_entry uses.entry.entries.now limits.entry.entries.now n }
 {
+    let u = uses.entries[n];
+    let l = limits.entries[n % MOST_RESOURCES];
     if l == 0 { 0 } else { u * 10000 / l }
 }
 
-// Both shares of all uses, of which those of segments past the last are 0. A range, since it is the place in four arrays.
+// Both shares of all uses, of which those of segments past the last are 0.
 fn fill_shares(
     segments: usize,
     uses: UsageTable<'_>,
@@ -104,12 +110,9 @@ fn fill_shares(
     ensures up { shares.new ≡ share_list uses.entry.entries.now limits.entry.entries.now }
     ensures down { downs.new ≡ down_share_list uses.entry.entries.now limits.entry.entries.now }
 {
-    for n in 0..MOST_RESOURCES * (COLUMNS * segments) {
-        let u = uses.entries[n];
-        let l = limits.entries[n % MOST_RESOURCES];
-        shares[n] = share(u, l);
-        downs[n] = down_share(u, l);
-    }
+    let end = MOST_RESOURCES * (COLUMNS * segments);
+    fill_each(&mut shares[..end], |n| share(uses, limits, n));
+    fill_each(&mut downs[..end], |n| down_share(uses, limits, n));
 }
 
 // The arrays of one plan. Each is one of its own, though they hold entries of the same pairs: each is lent as a typed list to

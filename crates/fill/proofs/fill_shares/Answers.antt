@@ -1,43 +1,48 @@
--- `fill::fill_shares` meets its contract.
-use mathlib.Core.Path.{sym, ◌∙◌, ap}
-use Prim.Native.Nat.{◌+◌}
-use native.Mathlib.Nat.{zero-add}
+-- `fill::fill_shares` meets its contract: behind what is filled the shares are 0.
+use mathlib.Core.Path.{◌≡◌, ◌∙◌, ap}
+use mathlib.Core.List.{List, ◌++◌}
+use Prim.Native.Nat.{ℕ, ◌+◌, ◌*◌, ◌≤◌, ◌<◌}
 use native.Mathlib.Omega.{arith}
-use Rattle.base.proofs.Listed.{fill_none, fill_next}
-use Rattle.tables.specs.Arrays.{use_entries}
+use lib.ListN.{length, take, drop, length-take}
+use Rattle.std.proofs.Common.{rules}
+use Rattle.std.proofs.iter.Serving.{serving}
+use Rattle.base.specs.Over.{listed_from}
+use Rattle.rules.specs.District.{most_segments, most_resources}
+use Rattle.tables.specs.Arrays.{columns, use_entries}
 use Rattle.fill.specs.Lists.{share_entry, share_list, down_share_entry, down_share_list}
 use Rattle.fill.proofs.Front.{fill_front}
 use Rattle.fill.proofs.Shares.{share_past, down_share_past}
 use Rattle.fill.proofs.fill_shares.Goals as goal
 
-pub loop-n-init : goal.loop-n-init
-loop-n-init c = (fill_none _ _ _, fill_none _ _ _)
+module _ (segments : ℕ) (few : segments ≤ most_segments) where
+  within : (table : List ℕ) (n : ℕ) → n < length (take (most_resources * (columns * segments)) table) → n < use_entries
+  within table n h = omega (arith, length-take (most_resources * (columns * segments)) table)
 
-pub share-requires : goal.share-requires
-share-requires c = c.args.uses.held.small _
+pub fill_each-requires : goal.fill_each-requires
+fill_each-requires c = λ n h.
+    let low : n < use_entries = within c.args.segments c.requires.segments _ n h in
+    grind (serving, low)
 
-pub down_share-requires : goal.down_share-requires
-down_share-requires c = c.args.uses.held.small _
-
-pub loop-n-preserved : goal.loop-n-preserved
-unfolding share_entry down_share_entry
-loop-n-preserved c =
-    let l = c.loop-n in
-    let u = c.args.uses.entries.now in
-    let v = c.args.limits.entries.now in
-    let z = sym (zero-add l.n) in (
-      rw l.invariant.0 (fill_next (share_entry u v) l.n 0 c.args.shares.now (omega arith) (c.share.ensures ∙ ap (share_entry u v) z)),
-      rw l.invariant.1 (fill_next (down_share_entry u v) l.n 0 c.args.downs.now (omega arith) (c.down_share.ensures ∙ ap (down_share_entry u v) z)),
-    )
+pub fill_each-requires-2 : goal.fill_each-requires-2
+fill_each-requires-2 c = λ n h.
+    let low : n < use_entries = within c.args.segments c.requires.segments _ n h in
+    grind (serving, low)
 
 pub returns : goal.returns
 unfolding share_list down_share_list
 returns c =
-    let l = c.loop-n in
     let p = c.requires in
     let u = c.args.uses.entries.now in
     let v = c.args.limits.entries.now in
+    let end = most_resources * (columns * c.args.segments) in
+    let few : end ≤ use_entries = omega (arith, p.segments) in
+    let part : length (take end c.args.shares.now) ≡ end = length-take end c.args.shares.now ∙ omega arith in
+    let part₂ : length (take end c.args.downs.now) ≡ end = length-take end c.args.downs.now ∙ omega arith in
     record {
-      up = l.invariant.0 ∙ fill_front (share_entry u v) l.n use_entries 0 _ p.zeros.0 (omega (arith, p.segments)) (λ x low high. share_past u v (0 + x) (p.past (0 + x) (omega arith) (omega arith)));
-      down = l.invariant.1 ∙ fill_front (down_share_entry u v) l.n use_entries 0 _ p.zeros.1 (omega (arith, p.segments)) (λ x low high. down_share_past u v (0 + x) (p.past (0 + x) (omega arith) (omega arith)));
+      up =
+          ap (λ (front : List ℕ). front ++ drop end c.args.shares.now) (c.fill_each.ensures (share_entry u v) (λ n x h e. search rules) ∙ ap (λ k. listed_from k 0 (share_entry u v)) part)
+          ∙ fill_front (share_entry u v) end use_entries 0 _ p.zeros.0 few (λ x low high. share_past u v (0 + x) (p.past (0 + x) (omega arith) (omega arith)));
+      down =
+          ap (λ (front : List ℕ). front ++ drop end c.args.downs.now) (c.fill_each-2.ensures (down_share_entry u v) (λ n x h e. search rules) ∙ ap (λ k. listed_from k 0 (down_share_entry u v)) part₂)
+          ∙ fill_front (down_share_entry u v) end use_entries 0 _ p.zeros.1 few (λ x low high. down_share_past u v (0 + x) (p.past (0 + x) (omega arith) (omega arith)));
     }

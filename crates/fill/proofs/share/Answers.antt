@@ -6,6 +6,7 @@ use native.Mathlib.Omega.{arith}
 use Rattle.std.specs.Int.{div_ceil}
 use Rattle.std.proofs.lemmas.Grind.{div_ceil_times}
 use Rattle.base.specs.Over.{divide_up}
+use Rattle.fill.specs.Lists.{share_entry}
 use Rattle.fill.proofs.share.Goals as goal
 
 -- the library's quotient rounded up is the rules'
@@ -17,4 +18,5 @@ rounded_up a b h =
     omega arith
 
 pub returns-else-l-eq0 : goal.returns-else-l-eq0
+unfolding share_entry
 returns-else-l-eq0 c = c.div_ceil.ensures ∙ rounded_up _ _ (omega arith)
