@@ -1,5 +1,6 @@
 -- The tests that `meter::is_reading` makes decide what the rules call a reading.
 use Rattle.std.proofs.Common.{◌≡◌, ℕ, ◌*◌, ◌/◌, ◌%◌, ◌<◌, ◌≤◌, Bool, true, false, not, ◌&&◌, ◌||◌, T, eqb, ltb, pos, sym, refl, ap, ◌∙◌, inl, inr, true≢false, div-lt_iff_lt-mul, lt_of_mul-lt-mul_right, mul-lt-mul_of_pos_right, div-add-mod', arith, pow_pos, ltb-false, ltb-true, le-ltb, lt-ltb, eq-eqb, eqb-true}
+use mathlib.Core.Bool.{and-true, or-true}
 use native.Mathlib.Nat.{zero-mod, zero-div}
 use lib.Ieee.Nearest.{div_same}
 use lib.Ieee.{Float, nan, inf, fin, binary32, round, mul, lt, eq, fits, of_bits, of_int}
@@ -43,13 +44,9 @@ plain_sign (fin false m e) s a c h v = sym v.0
 abbrev test : ℕ → Bool → ℕ → Bool
 test part s a = eqb (a % part) 0 && (ltb a (8 * 1024 * part) && (not s || eqb a 0))
 
-either_sign : (s : Bool) → (not s || true) ≡ true
-either_sign true = refl
-either_sign false = refl
-
 module _ (part : ℕ) (P : 0 < part) (s : Bool) (a : ℕ) where
   test_zero : a ≡ 0 → test part s a ≡ true
-  test_zero z = rw (z, zero-mod part, lt-ltb 0 (8 * 1024 * part) (omega arith)) (either_sign s)
+  test_zero z = rw (z, zero-mod part, lt-ltb 0 (8 * 1024 * part) (omega arith)) (or-true (not s))
 
   test_high : 8192 * part ≤ a → test part s a ≡ false
   test_high h = second_fails (eqb (a % part) 0) _ (first_fails _ _ (le-ltb a (8 * 1024 * part) h))
@@ -58,11 +55,7 @@ module _ (part : ℕ) (P : 0 < part) (s : Bool) (a : ℕ) where
   test_negative e z = second_fails (eqb (a % part) 0) _ (second_fails (ltb a (8 * 1024 * part)) _ (rw (e, z)))
 
   test_between : s ≡ false → a < 8192 * part → test part s a ≡ eqb (a % part) 0
-  test_between e h = rw (e, lt-ltb a (8 * 1024 * part) h) (last (eqb (a % part) 0))
-    where
-      last : (t : Bool) → (t && true) ≡ t
-      last true = refl
-      last false = refl
+  test_between e h = rw (e, lt-ltb a (8 * 1024 * part) h) (and-true (eqb (a % part) 0))
 
 -- n of the quotient is all of it where nothing is left
 no_rest : (part a n : ℕ) → n ≡ a / part → eqb (n * part) (a * 1) ≡ eqb (a % part) 0

@@ -1,6 +1,6 @@
 -- Floats that are fractions compare as the fractions do.
 use Rattle.std.proofs.Common.{◌≡◌, ℕ, ◌*◌, ◌<◌, Bool, true, false, ◌&&◌, ◌||◌, eqb, ltb, sym, refl, ap, ◌∙◌, true≢false, lt_of_mul-lt-mul_right, mul-lt-mul_of_pos_right, mul-pos, arith, ltb-true, lt-ltb, eq-eqb, eqb-true}
-use mathlib.Core.Bool.{beq}
+use mathlib.Core.Bool.{beq, and-true}
 use native.Mathlib.Nat.{eq_of_mul-eq-mul_right}
 use lib.Ieee.{Float, nan, inf, fin, up, down, lt, eq}
 use lib.Ieee.Exact.{HasValue}
@@ -60,13 +60,9 @@ module _ (a c b d : ℕ) (C : 0 < c) (D : 0 < d) where
   eq_values (fin false m e) (inf _) v w = elim w [ ]
   eq_values (fin false m e) (fin true n g) v w = absurd (true≢false w.0)
   eq_values (fin false m e) (fin false n g) v w =
-      both_plain (eqb (m * up e * down g) (n * up g * down e))
+      and-true (eqb (m * up e * down g) (n * up g * down e))
       ∙ eqb_scaled (m * up e * down g) (n * up g * down e) (a * d) (b * c) (c * d) (down e * down g) (mul-pos C D)
       (mul-pos (down_pos e) (down_pos g)) (over m (up e) (down e) a c (down g) d v.1) (over' n (up g) (down g) b d (down e) c w.1)
-    where
-      both_plain : (t : Bool) → (t && true) ≡ t
-      both_plain true = refl
-      both_plain false = refl
 
 -- with either sign
 no_sign : (t : Bool) (a z : ℕ) → z ≡ 0 → (eqb a z && (t || eqb a 0)) ≡ eqb a 0

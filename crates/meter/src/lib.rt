@@ -26,6 +26,8 @@ pub const WINDOW_SIZE: usize = 64;
 
 // The last readings since the last marker, in a ring whose unused places are 0; `next`, modulo 64, is the place
 // of the next one. The marker's bits are kept beside its float, which forgets a NaN's.
+// The sum beside the readings is prescribed, and memory is fixed. In an ArrayVec, which would hold the count, every reading past
+// the 64th would move 63 others, and `put` would ask whether the window is full: here it subtracts what stands at its place.
 // That it holds what was heard is no ghost field: what was heard is a list that no code holds, and any window may be handed in.
 #[derive(Clone, Copy)]
 pub struct Window {
@@ -138,6 +140,9 @@ fn step(w: &mut Window, sent: Record, bits: u32) -> Answer
     }
 }
 
+// ---- the calls: functions over the window that is lent, as the rules state them and every layer above has them (office, unit,
+// station, desk), so not methods
+
 // The window before the first record.
 pub fn start() -> Window
     ensures start { Holds result silence }
@@ -146,6 +151,8 @@ pub fn start() -> Window
     empty(0.0, 0)
 }
 
+// Its value is 0 always: a call of the rules answers a value, 0 where it has none, and the answers to a list of calls are of
+// one type. `step` and `index` give the same.
 pub fn hear(w: &mut Window, s: Sent) -> Answer
     ensures { Follows w.old s (stepped result w.new) }
 {
