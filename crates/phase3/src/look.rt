@@ -23,14 +23,15 @@ impl<'a> Pair<'a> {
     pub fn look(&'a self) -> Look<'a>
         ensures { result.pair.now ≡ self.entry.now }
     {
-        let t = &self.pass.planning.t;
-        let (x, y) = self.strategies();
+        let planning = self.pass.planning;
+        let t = &planning.t;
+        let choice = &planning.draft.choice;
         let given = budgets(
             t.size.resources,
             t.uses,
             t.limits,
-            Move(self.i, x),
-            Move(self.k, y),
+            Move(self.i, choice[self.i - 1]),
+            Move(self.k, choice[self.k - 1]),
         );
         Look { pair: self, given }
     }
