@@ -30,6 +30,8 @@ pub struct Columns {
     pub place: usize,
 }
 
+// Tables, since the columns follow no rule that a function could compute, and of tuples: a constant may call no function that
+// makes a `Columns`, and written out each takes six lines.
 const COUNTS: [(usize, usize, Notation, usize); PER_CARD] = [
     (1, 5, Notation::Whole, 0),
     (6, 10, Notation::Whole, 1),

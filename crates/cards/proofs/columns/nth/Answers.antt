@@ -1,6 +1,8 @@
 -- `cards::columns::nth` meets its contract: the two tables are the rules' rows.
-use Rattle.std.proofs.Common.{ℕ, zero, suc, ◌≡◌, ◌+◌, ◌<◌, get_or, refl, arith}
-use Rattle.rules.specs.Deck.{columns, row, layout}
+use Rattle.std.proofs.Common.{ℕ, ◌≡◌, ◌+◌, ◌-◌, ◌<◌, List, length, get_or, take, drop, map, refl, sym, ap, ◌∙◌, arith}
+use Rattle.std.proofs.lemmas.List.{get_or-map}
+use lib.Seq.{get_or-take, get_or-drop}
+use Rattle.rules.specs.Deck.{per_card, columns, row, layout}
 use Rattle.rules.specs.Deck as Rules
 use Rattle.rules.specs.declared.Notation.{Notation}
 use Rattle.rules.specs.declared.Notation.TheVariants.{Whole}
@@ -10,30 +12,36 @@ use Rattle.cards.specs.declared.columns.Card.TheVariants.{Counts, Segment}
 use Rattle.cards.specs.declared.columns.TheConstants.{COUNTS, SEGMENT}
 use Rattle.cards.proofs.columns.nth.Goals as goal
 
+abbrev table : Card → List (ℕ × ℕ × Notation × ℕ)
+table Counts = COUNTS
+table Segment = SEGMENT
+
 -- an entry of a card's table
 abbrev entry : Card → ℕ × ℕ × Notation × ℕ → Rules.Columns
 entry card e = columns e.0 e.1 e.2 (kind_of card) e.3
 
-counts_row : (n : ℕ) → n < 5 → entry Counts (get_or COUNTS n (0, 0, Whole, 0)) ≡ row (rows_before Counts + n + 1)
-unfolding row layout
-counts_row zero h = refl
-counts_row (suc zero) h = refl
-counts_row (suc (suc zero)) h = refl
-counts_row (suc (suc (suc zero))) h = refl
-counts_row (suc (suc (suc (suc zero)))) h = refl
-counts_row (suc (suc (suc (suc (suc n))))) h = absurd (omega arith)
+long : (card : Card) → length (table card) ≡ per_card
+long Counts = refl
+long Segment = refl
 
-segment_row : (n : ℕ) → n < 5 → entry Segment (get_or SEGMENT n (0, 0, Whole, 0)) ≡ row (rows_before Segment + n + 1)
-unfolding row layout
-segment_row zero h = refl
-segment_row (suc zero) h = refl
-segment_row (suc (suc zero)) h = refl
-segment_row (suc (suc (suc zero))) h = refl
-segment_row (suc (suc (suc (suc zero)))) h = refl
-segment_row (suc (suc (suc (suc (suc n))))) h = absurd (omega arith)
+rows : (card : Card) → map (entry card) (table card) ≡ take per_card (drop (rows_before card) layout)
+unfolding layout
+rows Counts = refl
+rows Segment = refl
+
+entry_row : (card : Card) (n : ℕ) → n < per_card → entry card (get_or (table card) n (0, 0, Whole, 0)) ≡ row (rows_before card + n + 1)
+unfolding row
+entry_row card n h =
+    let none = columns 0 0 Whole 0 0 in
+    let same : rows_before card + n + 1 - 1 ≡ rows_before card + n = omega arith in
+    sym (get_or-map (entry card) (table card) n (0, 0, Whole, 0) none (rw (long card) h))
+    ∙ ap (λ (l : List Rules.Columns). get_or l n none) (rows card)
+    ∙ get_or-take per_card (drop (rows_before card) layout) n none h
+    ∙ get_or-drop (rows_before card) layout n none
+    ∙ rw same refl
 
 pub returns-in-Counts-clause-row : goal.returns-in-Counts-clause-row
-returns-in-Counts-clause-row c = rw c.in-Counts.is (counts_row c.args.n c.requires)
+returns-in-Counts-clause-row c = rw c.in-Counts.is (entry_row Counts c.args.n c.requires)
 
 pub returns-in-Segment-clause-row : goal.returns-in-Segment-clause-row
-returns-in-Segment-clause-row c = rw c.in-Segment.is (segment_row c.args.n c.requires)
+returns-in-Segment-clause-row c = rw c.in-Segment.is (entry_row Segment c.args.n c.requires)
