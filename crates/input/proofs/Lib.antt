@@ -1,2 +1,1 @@
 mod Front
-pub mod Prints

@@ -23,6 +23,8 @@ pub fn read_full<R: Read>(input: &mut R, space: &mut [u8]) -> io::Result<usize>
     ensures end { IfOk result (λ n. n < length space.old → IsAtEnd (R.remaining input.new)) }
 {
     let mut done: usize = 0;
+    // Each read goes behind what those before it gave, and no one knows how many it takes. The library's `read_exact` says
+    // nothing of a shorter input, and its `read_to_end` puts the bytes into a Vec, which is on a heap.
     while done < space.len() {
         let n = input.read(&mut space[done..])?;
         if n == 0 {
@@ -33,7 +35,8 @@ pub fn read_full<R: Read>(input: &mut R, space: &mut [u8]) -> io::Result<usize>
     Ok(done)
 }
 
-// What `answer` puts to the front of its buffer for the first bytes of the input goes to the output.
+// What `answer` puts to the front of its buffer for the first bytes of the input goes to the output. Of an error nothing is
+// said: it is a read's or a write's, and the library says nothing of what `write_all` wrote before it failed.
 pub fn answered<
     const READ: usize,
     const SPACE: usize,
