@@ -3,14 +3,17 @@
 // exported file. A frame that is cut short or longer than 65,536 ends the run.
 #![tactic(auto)]
 
-ghost use Rattle.std.specs.Prelude.{◌≡◌, ◌+◌, ◌≤◌, length};
+ghost use Rattle.std.specs.Prelude.{◌≡◌, ◌+◌, ◌≤◌, OnOk, length};
 ghost use Rattle.base.specs.Text.{Put};
+ghost use Rattle.frames.specs.Frames.{Answers};
+ghost use Rattle.rules.specs.Answers.{refusal_number};
 ghost use Rattle.rules.specs.File.{encode, longest_file};
 ghost use Rattle.transcode.specs.Transcoded.{head_of, head_bytes, framed, longest_framed, transcoded};
 
-use rules::District;
 use rules::records::LONGEST_FILE;
+use rules::{District, Refusal};
 use std::io;
+use std::io::{Read, Write};
 
 // What stands before an exported file.
 const HEAD_BYTES: usize = 5;
@@ -43,6 +46,12 @@ fn put_district(out: &mut [u8], d: &District) -> usize
     put_framed(out, &file[..n])
 }
 
+fn byte_of(refusal: Refusal) -> u8
+    ensures { result ≡ refusal_number refusal }
+{
+    refusal as u8
+}
+
 // What is answered to a frame, to the front of `out`.
 fn answer(frame: &[u8], out: &mut [u8]) -> usize
     requires { longest_framed ≤ length out.old }
@@ -50,11 +59,18 @@ fn answer(frame: &[u8], out: &mut [u8]) -> usize
 {
     match file::load(frame) {
         Ok(d) => put_district(out, &d),
-        Err(refusal) => listing::put(out, &[usize::from(refusal) as u8]),
+        Err(refusal) => listing::put(out, &[byte_of(refusal)]),
     }
 }
 
+// What is answered to each frame of the input goes to the output.
 #[tactic(auto, using(base::proofs::Text::put_within))]
+fn run<R: Read, W: Write>(input: &mut R, output: &mut W) -> io::Result<()>
+    ensures { OnOk result (Answers transcoded (R.remaining input.old) (W.contents output.old) (W.contents output.new)) }
+{
+    frames::answered::<LONGEST_FRAMED, _, _, _>(input, output, answer)
+}
+
 fn main(rt: HostRuntime) -> io::Result<()> {
-    frames::answered::<LONGEST_FRAMED, _, _, _>(&mut rt.stdin(), &mut rt.stdout(), answer)
+    run(&mut rt.stdin(), &mut rt.stdout())
 }

@@ -4,14 +4,16 @@
 // A frame that is cut short or longer than 65,536 ends the run.
 #![tactic(auto)]
 
-ghost use Rattle.std.specs.Prelude.{◌≤◌, length};
+ghost use Rattle.std.specs.Prelude.{◌≤◌, OnOk, length};
 ghost use Rattle.base.specs.Text.{Put};
+ghost use Rattle.frames.specs.Frames.{Answers};
 ghost use Rattle.listing.specs.Listing.{longest_listing};
 ghost use Rattle.vectors.specs.Worked.{worked};
 
 use listing::LONGEST_LISTING;
 use rules::Which;
 use std::io;
+use std::io::{Read, Write};
 
 // What is printed for a list of calls, to the front of `out`.
 fn answer(script: &[u8], out: &mut [u8]) -> usize
@@ -25,8 +27,15 @@ fn answer(script: &[u8], out: &mut [u8]) -> usize
     }
 }
 
-// One call, as transcode has it: its own is what a frame is answered, and the room for it.
+// What is printed for each frame of the input goes to the output. One call, as transcode has it: its own is what a frame is
+// answered, and the room for it.
 #[tactic(auto, using(base::proofs::Text::put_within))]
+fn run<R: Read, W: Write>(input: &mut R, output: &mut W) -> io::Result<()>
+    ensures { OnOk result (Answers worked (R.remaining input.old) (W.contents output.old) (W.contents output.new)) }
+{
+    frames::answered::<LONGEST_LISTING, _, _, _>(input, output, answer)
+}
+
 fn main(rt: HostRuntime) -> io::Result<()> {
-    frames::answered::<LONGEST_LISTING, _, _, _>(&mut rt.stdin(), &mut rt.stdout(), answer)
+    run(&mut rt.stdin(), &mut rt.stdout())
 }

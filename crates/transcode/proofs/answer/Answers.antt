@@ -17,4 +17,4 @@ returns-in-Ok c =
 pub returns-in-Err : goal.returns-in-Err
 returns-in-Err c =
     let l = c.in-Err in
-    rw (← answered_refusal c.args.frame.now (refusal_number l.refusal) (numbered l.refusal) l.ensures.refusal, ← c.from.ensures) c.put.ensures
+    rw (← answered_refusal c.args.frame.now (refusal_number l.refusal) (numbered l.refusal) l.ensures.refusal, ← c.byte_of.ensures) c.put.ensures
