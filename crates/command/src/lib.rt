@@ -90,7 +90,7 @@ impl Name {
     ];
 
     // The name of a row of the table, counted from 0. No TryFrom: an error would have nothing to tell.
-    pub fn at(row: usize) -> Option<Name>
+    fn at(row: usize) -> Option<Name>
         ensures { result ≡ slice_get names row }
     {
         Name::ALL.get(row).copied()
