@@ -1,7 +1,7 @@
 -- Which office a number names.
 use Prim.Native.Nat.{ℕ}
 use mathlib.Core.Path.{◌≡◌, refl, ap, ◌∙◌}
-use mathlib.Core.Bool.{Bool, true, false, true≢false}
+use mathlib.Core.Bool.{Bool, true, false}
 use Rattle.std.specs.Prelude.{Option, None, Some, Ok, Err}
 use Rattle.std.specs.Option.{is_some, ok_or}
 use native.Mathlib.Omega.{arith}
@@ -19,14 +19,6 @@ use Rattle.office.specs.declared.Office.{Office}
 use Rattle.stations.proofs.Calls.{number_named}
 use Rattle.station.specs.Kept.{is_office, office_in, KeepsBoth}
 use Rattle.station.specs.declared.Station.{Station}
-
-pub nobody_named : (n : ℕ) → is_office n ≡ false → office_of n ≡ None
-unfolding is_office
-nobody_named n e = go (office_of n) e
-  where
-    go : (o : Option Which) → is_some o ≡ false → o ≡ None
-    go None e = refl
-    go (Some w) e = absurd (true≢false e)
 
 pub some_named : (n : ℕ) (w : Which) → office_of n ≡ Some w → n ≡ office_number w
 some_named n w e = go (eqb n 1) refl (eqb n 2) refl e
