@@ -1,22 +1,17 @@
 -- The array of leaders holds the district's.
-use Prim.Native.Nat.{ℕ, zero, suc, ◌+◌, ◌-◌, ◌*◌, ◌≤◌, ◌<◌}
+use Prim.Native.Nat.{ℕ, zero, suc, ◌+◌, ◌-◌, ◌≤◌, ◌<◌}
 use mathlib.Core.Path.{◌≡◌, refl, ap, sym, fun_ext, ◌∙◌}
 use mathlib.Core.Bool.{Bool, true, false}
 use native.Mathlib.Omega.{arith}
 use borrow.Author.Tests.{leb-true, leb-false}
 use lib.Dec.{leb}
-use lib.ListN.{get_or, length, get_or-eq_default}
+use lib.ListN.{length, get_or-eq_default}
 use Rattle.base.proofs.Each.{each_listed}
 use Rattle.base.proofs.Listed.{listed_at, listed_length}
 use Rattle.grammar.specs.Ranges.{Ranges}
-use Rattle.rules.specs.District.{District, leader_of, segments_at, per_segment, leader_at, leader_place, most_segments}
+use Rattle.rules.specs.District.{District, leader_of, leader_place, most_segments}
 use Rattle.tables.specs.Arrays.{leader_in, Leaders}
 use Rattle.fill.specs.Lists.{leader_list}
-
--- the place of the leader of segment i + 1
-pub leader_at_lem : (d : District) (i : ℕ) → get_or d (segments_at + per_segment * i + leader_at) 0 ≡ leader_of d (i + 1)
-unfolding leader_of
-leader_at_lem d i = let e : i + 1 - 1 ≡ i = omega arith in rw e
 
 module _ (d : District) (ok : Ranges d) where
   length_is : length (leader_list d) ≡ most_segments

@@ -14,8 +14,7 @@ ghost use Rattle.fill.specs.Lists.{leader_list, benefit_list, usage_list, limit_
 use rating::Ranged;
 use rules::District;
 use rules::places::{
-    LEADER, MOST_RESOURCES, MOST_SEGMENTS, PER_SEGMENT, RESOURCE_COUNT, SEGMENT_COUNT, SEGMENTS,
-    STRATEGY_COUNT,
+    LEADER, MOST_RESOURCES, MOST_SEGMENTS, RESOURCE_COUNT, SEGMENT_COUNT, STRATEGY_COUNT,
 };
 use tables::{COLUMNS, ENTRIES, LimitList, Size, USE_ENTRIES, UsageTable};
 
@@ -33,7 +32,7 @@ fn fill_each<T: Copy, F: Fn(usize) -> T>(list: &mut [T], entry: F)
 fn fill_leaders(d: &District, leaders: &mut [usize; MOST_SEGMENTS])
     ensures { leaders.new ≡ leader_list d.now }
 {
-    fill_each(leaders, |i| d[SEGMENTS + PER_SEGMENT * i + LEADER]);
+    fill_each(leaders, |i| rating::segment_at(d, i + 1, LEADER));
 }
 
 // The benefits of all segments and strategies.

@@ -46,7 +46,7 @@ impl Sheet<'_, '_> {
         requires { Resource r × Segment i }
         ensures { Shows self.now.ranged.district.now (λ r. whole_units (chosen_usage (table_of self.now.ranged.district.now) self.now.programme.now.strategies r i)) r result }
     {
-        let used = self.ranged.chosen_usage(self.programme.strategies, r, i);
+        let used = self.ranged.chosen_usage(&self.programme.strategies, r, i);
         self.resource_cell(r, whole_units(used))
     }
 
@@ -55,7 +55,7 @@ impl Sheet<'_, '_> {
         requires { Resource r }
         ensures { Shows self.now.ranged.district.now (λ r. whole_units (Phases·used (table_of self.now.ranged.district.now) self.now.programme.now.strategies r)) r result }
     {
-        let used = self.ranged.used(self.programme.strategies, r);
+        let used = self.ranged.used(&self.programme.strategies, r);
         self.resource_cell(r, whole_units(used))
     }
 

@@ -403,18 +403,18 @@ impl<'a> Ranged<'a> {
     // ---- what a programme uses of resource r; the strategies that it gives may be any numbers
 
     // By segment i.
-    pub fn chosen_usage(&self, c: [usize; MOST_SEGMENTS], r: usize, i: usize) -> u64
+    pub fn chosen_usage(&self, c: &[usize; MOST_SEGMENTS], r: usize, i: usize) -> u64
         requires { Resource r × Segment i }
-        ensures { result ≡ chosen_usage (table_of self.now.district.now) c r i }
+        ensures { result ≡ chosen_usage (table_of self.now.district.now) c.now r i }
     {
         let j = c[i - 1];
         self.usage_in(j, r, self.area_in(i, j))
     }
 
     // By all segments.
-    pub fn used(&self, c: [usize; MOST_SEGMENTS], r: usize) -> u64
+    pub fn used(&self, c: &[usize; MOST_SEGMENTS], r: usize) -> u64
         requires { Resource r }
-        ensures { result ≡ Phases·used (table_of self.now.district.now) c r }
+        ensures { result ≡ Phases·used (table_of self.now.district.now) c.now r }
     {
         (1..=self.district[SEGMENT_COUNT])
             .map(|i| self.chosen_usage(c, r, i))

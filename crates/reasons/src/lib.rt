@@ -75,7 +75,7 @@ impl Question<'_, '_> {
         let ranged = self.treatment.ranged;
         let asked = self.asked();
         (1..=ranged.district[RESOURCE_COUNT]).find_map(|r| {
-            let over = ranged.scaled_limit(r) < ranged.used(asked, r);
+            let over = ranged.scaled_limit(r) < ranged.used(&asked, r);
             over.then_some(Reason::OverBeside(r))
         })
     }
@@ -87,7 +87,7 @@ impl Question<'_, '_> {
         ensures { let t = self.now.treatment in result ≡ led (leader_of t.ranged.district.now) (strategy_at self.now.programme.now) t.segment }
     {
         let t = self.treatment;
-        let leader = t.ranged.district[SEGMENTS + PER_SEGMENT * (t.segment - 1) + LEADER];
+        let leader = rating::segment_at(t.ranged.district, t.segment, LEADER);
         leader == 0 || 0 < self.programme[leader - 1]
     }
 

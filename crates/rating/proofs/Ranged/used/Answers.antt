@@ -16,18 +16,18 @@ pub sum-requires-clause-fits : goal.sum-requires-clause-fits
 sum-requires-clause-fits c =
     let d = c.args.self.now.district.now in
     let ok = c.args.self.now.in_range in
-    let uses = chosen_usage (table_of d) c.args.c c.args.r in
+    let uses = chosen_usage (table_of d) c.args.c.now c.args.r in
     let range = c.new.ensures in
     let few = ok.segments in
     fits_by_from_yields_list uses (range_with_len 1 (segments_of d)) c.map.result _
     (YieldsList-from_map _ uses (YieldsList-at c.map.ensures.source (from_1 range.start range.end range.exhausted)) c.map.ensures.closure (λ x r q k. search rules))
-    (omega (arith, sum_listed (segments_of d) uses, sum_le d ok c.args.c c.args.r (segments_of d)))
+    (omega (arith, sum_listed (segments_of d) uses, sum_le d ok c.args.c.now c.args.r (segments_of d)))
 
 pub returns : goal.returns
 unfolding used table_of
 returns c =
     let d = c.args.self.now.district.now in
-    let uses = chosen_usage (table_of d) c.args.c c.args.r in
+    let uses = chosen_usage (table_of d) c.args.c.now c.args.r in
     let range = c.new.ensures in
     sum_by_from_yields_List uses (range_with_len 1 (segments_of d)) c.map.result _ c.sum.ensures.ran
     (YieldsList-from_map _ uses (YieldsList-at c.map.ensures.source (from_1 range.start range.end range.exhausted)) c.map.ensures.closure (λ x r q k. search rules))
