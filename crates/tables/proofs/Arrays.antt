@@ -1,9 +1,12 @@
 -- What arrays that hold a table give: its entries at their places, and bounds.
-use Prim.Native.Nat.{ℕ, zero, suc, ◌-◌, ◌*◌, ◌^◌, ◌≤◌, ◌<◌}
-use mathlib.Core.Path.{◌≡◌}
+use Prim.Native.Nat.{ℕ, zero, suc, ◌+◌, ◌-◌, ◌*◌, ◌^◌, ◌≤◌, ◌<◌}
+use mathlib.Core.Path.{◌≡◌, refl, ◌∙◌}
 use mathlib.Core.Bool.{◌&&◌, and-false}
-use mathlib.Core.List.{List}
+use mathlib.Core.List.{List, map}
+use Rattle.std.specs.List.{sum as list_sum, range_with_len}
+use Rattle.std.proofs.lemmas.List.FromFn.{sum_by-map-range_with_len_more}
 use native.Mathlib.Omega.{arith}
+use native.Mathlib.Numerals.{add-one}
 use lib.Dec.{lit<}
 use lib.ListN.{get_or}
 use Rattle.base.specs.Over.{sum, between}
@@ -74,3 +77,10 @@ module _ {z : Size} (bounded : Bounded z) where
   pub used_le : {u : List ℕ} → Uses u → (b l c : List ℕ) (r : ℕ) → used (tables z b u l) c r ≤ 2 ^ 47
   unfolding used chosen_usage
   used_le held b l c r = uses_le held c r z.segments bounded.segments
+
+-- what a range of numbers is taken to, summed
+pub range_sum : (n : ℕ) (f : ℕ → ℕ) → list_sum (map (λ k. f (k + 1)) (range_with_len 0 n)) ≡ sum n f
+unfolding sum
+range_sum zero f = refl
+range_sum (suc n) f =
+    rw add-one at (sum_by-map-range_with_len_more (λ (x : ℕ). x) (λ (k : ℕ). f (k + 1)) 0 n n (omega arith)) ∙ rw (range_sum n f)

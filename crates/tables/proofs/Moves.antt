@@ -1,13 +1,12 @@
 -- What running sums give: tests of the limits where one segment moves or two, and the sums after a move.
 use Prim.Native.Nat.{ℕ, ◌+◌, ◌-◌, ◌^◌, ◌≤◌, ◌<◌}
-use mathlib.Core.Path.{◌≡◌, refl, sym, ◌∙◌}
+use mathlib.Core.Path.{◌≡◌, refl, sym}
 use mathlib.Core.Bool.{Bool, true, false}
 use Rattle.std.specs.Prelude.{IsTrue, ◌↔◌}
-use mathlib.Core.List.{List, [], ◌++◌}
+use mathlib.Core.List.{List, []}
 use native.Mathlib.Omega.{arith}
 use lib.Dec.{leb}
-use lib.ListN.{get_or, length, take, drop, length-set, length-take, length-drop, length-append, get_or-append}
-use lib.Seq.{get_or-take}
+use lib.ListN.{get_or, length, length-set}
 use Rattle.base.specs.Over.{all}
 use Rattle.base.proofs.Choice.{leb_same}
 use Rattle.base.proofs.Sums.{sum_part}
@@ -16,9 +15,9 @@ use Rattle.rules.specs.District.{most_resources}
 use Rattle.rules.specs.Phases.{strategy_at, give, chosen_usage, used, holds, within}
 use Rattle.laws.proofs.Give.{kept, used_give, give_numbers}
 use Rattle.tables.specs.declared.Size.{Size}
-use Rattle.tables.specs.Arrays.{usage_at, limit_at, tables, Bounded, Cell, Chosen, Running}
-use Rattle.tables.specs.Moves.{Budgets, Testable, room_for, Shiftable, Shifted}
-use Rattle.tables.proofs.Arrays.{limit_at_lem, used_le, usage_lt, cell_of}
+use Rattle.tables.specs.Arrays.{usage_at, limit_at, tables, Bounded, Chosen, Running}
+use Rattle.tables.specs.Moves.{Budgets, Testable, room_for}
+use Rattle.tables.proofs.Arrays.{limit_at_lem, used_le, usage_lt}
 
 -- a resource's limit holds of programme e where its sum with what comes is no more than its budget, the limit with what goes
 room_law : {z : Size} → Bounded z → (b u l sums e given : List ℕ) (more less : ℕ → ℕ)
@@ -53,9 +52,6 @@ module _ {z : Size} {u c sums : List ℕ} (running : Running z u c sums) where
   pub places : z.segments ≤ length c
   places = omega (arith, running.bounded.segments, running.chosen.places)
 
-  pub from_cell : (i : ℕ) → 1 ≤ i → i ≤ z.segments → Cell i (strategy_at c i)
-  from_cell i low high = cell_of running.bounded i (strategy_at c i) low high (running.chosen.numbers i)
-
   -- one segment's move
   module _ (i a : ℕ) (low : 1 ≤ i) (high : i ≤ z.segments) (b l : List ℕ) where
     used_one : (r : ℕ) → used (tables z b u l) (give c i a) r + usage_at u i (strategy_at c i) r ≡ used (tables z b u l) c r + usage_at u i a r
@@ -89,58 +85,29 @@ module _ {z : Size} {u c sums : List ℕ} (running : Running z u c sums) where
           are.each
           (λ r lr hr. omega (arith, used_one r, used_two r, running.sums_are b l r lr hr))
 
-  -- the sums that the table has resources for
-  few : z.resources ≤ length sums
-  few = omega (arith, running.bounded.resources, running.sums_length)
-
-  part_long : length (take z.resources sums) ≡ z.resources
-  part_long = simp length-take (omega (arith, few))
-
-  part : (k : ℕ) → k < z.resources → get_or (take z.resources sums) k 0 ≡ get_or sums k 0
-  part k h = get_or-take z.resources sums k 0 h
-
   -- a segment's new strategy, with the sums moved along
   module _ (i a : ℕ) (low : 1 ≤ i) (high : i ≤ z.segments) (number : a ≤ z.strategies) where
     chosen_give : Chosen z (give c i a)
     chosen_give =
         record { places = simp length-set running.chosen.places; numbers = give_numbers c i a z.strategies number running.chosen.numbers }
 
-    -- by the uses that go and those that come, resource by resource
-    module _ {less more : List ℕ} (less_long : length less ≡ most_resources) (more_long : length more ≡ most_resources)
-        (less_are : (r : ℕ) → 1 ≤ r → r ≤ most_resources → get_or less (r - 1) 0 ≡ usage_at u i (strategy_at c i) r)
-        (more_are : (r : ℕ) → 1 ≤ r → r ≤ most_resources → get_or more (r - 1) 0 ≡ usage_at u i a r) where
-      pub shiftable : Shiftable (take z.resources sums) less more
-      unfolding used chosen_usage
-      shiftable =
-          record {
-            less_there = omega (arith, part_long, less_long, running.bounded.resources);
-            more_there = omega (arith, part_long, more_long, running.bounded.resources);
-            held = λ k h.
-                let inside : k < z.resources = omega (arith, part_long) in
-                let top : k + 1 ≤ most_resources = omega (arith, running.bounded.resources) in
-                let at : k + 1 - 1 ≡ k = omega arith in
-                let whole = sum_part z.segments (λ n. usage_at u n (strategy_at c n) (k + 1)) i low high in
-                omega (arith, part k inside, rw at at (less_are (k + 1) (omega arith) top), whole, rw at at (running.sums_are [] [] (k + 1) (omega arith) (omega arith)));
-            small = λ k h.
-                let inside : k < z.resources = omega (arith, part_long) in
-                let top : k + 1 ≤ most_resources = omega (arith, running.bounded.resources) in
-                let at : k + 1 - 1 ≡ k = omega arith in
-                omega (arith, part k inside, rw at at (more_are (k + 1) (omega arith) top), rw at at (sums_le (k + 1) (omega arith) (omega arith)), usage_lt running.uses i a (k + 1));
-          }
+    -- what goes is in the sum, and what comes has room
+    pub moves : (r : ℕ) → 1 ≤ r → r ≤ z.resources → (usage_at u i (strategy_at c i) r ≤ get_or sums (r - 1) 0) × (get_or sums (r - 1) 0 + usage_at u i a r < 2 ^ 64)
+    unfolding used chosen_usage
+    moves r lr hr =
+        let whole = sum_part z.segments (λ n. usage_at u n (strategy_at c n) r) i low high in
+        (omega (arith, whole, running.sums_are [] [] r lr hr), omega (arith, sums_le r lr hr, usage_lt running.uses i a r))
 
-      pub running_give : (moved : List ℕ) → Shifted (take z.resources sums) less more moved → Running z u (give c i a) (moved ++ drop z.resources sums)
-      running_give moved is =
-          let long : length moved ≡ z.resources = is.places ∙ part_long in
-          record {
-            bounded = running.bounded;
-            uses = running.uses;
-            chosen = chosen_give;
-            sums_length = omega (arith, length-append moved (drop z.resources sums), length-drop z.resources sums, long, few, running.sums_length);
-            sums_are = λ b l r lr hr.
-                let inside : r - 1 < z.resources = omega arith in
-                let top : r ≤ most_resources = omega (arith, running.bounded.resources) in
-                omega (arith, get_or-append moved (drop z.resources sums) 0 (r - 1) (omega (arith, long)), is.each (r - 1) (omega (arith, part_long)), part (r - 1) inside, less_are r lr top, more_are r lr top, running.sums_are b l r lr hr, used_one i a low high b l r);
-          }
+    pub running_give : {sums₂ : List ℕ} → length sums₂ ≡ most_resources
+        → ((r : ℕ) → 1 ≤ r → r ≤ z.resources → get_or sums₂ (r - 1) 0 + usage_at u i (strategy_at c i) r ≡ get_or sums (r - 1) 0 + usage_at u i a r) → Running z u (give c i a) sums₂
+    running_give long h =
+        record {
+          bounded = running.bounded;
+          uses = running.uses;
+          chosen = chosen_give;
+          sums_length = long;
+          sums_are = λ b l r lr hr. omega (arith, h r lr hr, running.sums_are b l r lr hr, used_one i a low high b l r);
+        }
 
 pub testable_part : (n m : ℕ) {u sums given : List ℕ} → Testable n u sums given → m ≤ n → Testable m u sums given
 testable_part n m test h =

@@ -1,40 +1,41 @@
-// The parts of a table, each a lent array with what is known of it. The arrays are flat, with an entry for nothing too, so that
-// one place is worked out in one step, and a phase reads the benefits or the uses alone. That an entry is there, Cell, stays a
-// clause: the numbers come from loops that have them apart, and a struct would be made anew for each entry read.
+// The parts of a table, each a lent array with what is known of it. The arrays are flat: what is written and proved of a table
+// goes by one place (the filling, the ceiling's costs, the zeros behind the last segment), and a bound of all entries is one
+// fact; nested, each of these would be three deep. That an entry is there, Cell, stays a clause, of numbers and of a Move: it is
+// a fact of a loop's numbers for as long as one entry is read, and a value that held it would be made anew for each.
 ghost use Rattle.std.specs.Prelude.{◌≡◌, ℕ, ◌-◌, ◌^◌, ◌<◌, ◌≤◌, List, get_or, length};
 ghost use Rattle.rules.specs.District.{most_segments, most_resources};
 ghost use Rattle.rules.specs.Phases.{strategy_at, total, led};
 ghost use Rattle.tables.specs.Arrays.{benefit_at, usage_at, tables, leader_in, Leaders, Benefits, Uses, Limits, Bounded, Cell, Chosen};
 
-use crate::rows::row_of;
-use crate::{COLUMNS, Size};
+use crate::rows::{entry, row_of};
+use crate::{ENTRIES, Size, USE_ENTRIES};
 use rules::places::{MOST_RESOURCES, MOST_SEGMENTS};
 
 // The leader of each segment; 0 is none, as in the file and the rules.
 #[derive(Clone, Copy)]
 pub struct LeaderList<'a> {
-    pub entries: &'a [usize],
+    pub entries: &'a [usize; MOST_SEGMENTS],
     pub ghost held: { Leaders entries.now },
 }
 
 // The benefit of each strategy on each segment.
 #[derive(Clone, Copy)]
 pub struct BenefitTable<'a> {
-    pub entries: &'a [u64],
+    pub entries: &'a [u64; ENTRIES],
     pub ghost held: { Benefits entries.now },
 }
 
 // What each strategy on each segment uses of each resource.
 #[derive(Clone, Copy)]
 pub struct UsageTable<'a> {
-    pub entries: &'a [u64],
+    pub entries: &'a [u64; USE_ENTRIES],
     pub ghost held: { Uses entries.now },
 }
 
 // The limit of each resource.
 #[derive(Clone, Copy)]
 pub struct LimitList<'a> {
-    pub entries: &'a [u64],
+    pub entries: &'a [u64; MOST_RESOURCES],
     pub ghost held: { Limits entries.now },
 }
 
@@ -57,7 +58,7 @@ impl BenefitTable<'_> {
         ensures value { result ≡ benefit_at self.entry.entries.now i j }
         ensures small { result < 2 ^ 40 }
     {
-        self.entries[COLUMNS * (i - 1) + j]
+        self.entries[entry(i, j)]
     }
 
     // The benefit of the strategy that segment i has.
@@ -69,17 +70,12 @@ impl BenefitTable<'_> {
         self.at(i, choice[i - 1])
     }
 
-    // The total benefit of a programme. A loop: with `map` and `sum` the proof that the total fits did not close.
-    #[tactic(auto, unfolding(base::specs::Over::sum, rules::specs::Phases::total, rules::specs::Phases::chosen_benefit))]
+    // The total benefit of a programme.
     pub fn total(self, z: Size, choice: &[usize; MOST_SEGMENTS]) -> u64
         requires { Bounded z × Chosen z choice.now }
         ensures { (u l : List ℕ) → result ≡ total (tables z self.entry.entries.now u l) choice.now }
     {
-        let mut so_far: u64 = 0;
-        for i in 0..z.segments {
-            so_far += self.chosen(choice, i + 1);
-        }
-        so_far
+        (0..z.segments).map(|i| self.chosen(choice, i + 1)).sum()
     }
 }
 
@@ -90,7 +86,7 @@ impl<'a> UsageTable<'a> {
         ensures value { result ≡ usage_at self.entry.entries.now i j r }
         ensures small { result < 2 ^ 41 }
     {
-        self.entries[MOST_RESOURCES * (COLUMNS * (i - 1) + j) + (r - 1)]
+        self.entries[MOST_RESOURCES * entry(i, j) + (r - 1)]
     }
 
     // The same of each resource.

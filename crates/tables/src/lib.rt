@@ -25,8 +25,8 @@ pub const ENTRIES: usize = MOST_SEGMENTS * COLUMNS;
 
 pub const USE_ENTRIES: usize = MOST_RESOURCES * ENTRIES;
 
-// How many segments, strategies and resources there are. That the arrays have places for so many, Bounded, is a clause where a
-// function needs it of one of the three alone, and a ghost field of what holds a whole table.
+// How many segments, strategies and resources there are. That the arrays have places for so many, Bounded, is no ghost field:
+// the records that speak of a table (Running, Sized) hold of any Size, so they would state it again.
 #[derive(Clone, Copy)]
 pub struct Size {
     pub segments: usize,

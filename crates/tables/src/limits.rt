@@ -13,8 +13,8 @@ use rules::places::MOST_RESOURCES;
 #[tactic(auto, unfolding(crate::specs::Moves::room_for))]
 pub fn room_in(
     uses: UsageTable<'_>,
-    sums: &[u64],
-    budgets: &[u64],
+    sums: &[u64; MOST_RESOURCES],
+    budgets: &[u64; MOST_RESOURCES],
     first: Move,
     second: Move,
     r: usize,
@@ -33,8 +33,8 @@ pub fn room_in(
 pub(crate) fn room(
     resources: usize,
     uses: UsageTable<'_>,
-    sums: &[u64],
-    budgets: &[u64],
+    sums: &[u64; MOST_RESOURCES],
+    budgets: &[u64; MOST_RESOURCES],
     first: Move,
     second: Move,
 ) -> bool

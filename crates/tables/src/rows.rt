@@ -2,19 +2,26 @@
 ghost use Rattle.std.specs.Prelude.{◌≡◌, ℕ, ◌-◌, ◌≤◌, get_or, length};
 ghost use Rattle.base.specs.Over.{most};
 ghost use Rattle.rules.specs.District.{most_resources};
-ghost use Rattle.tables.specs.Arrays.{entries, entry_at, use_entries, use_entry, Cell};
+ghost use Rattle.tables.specs.Arrays.{entry, entry_at, use_entry, Cell};
 ghost use Rattle.tables.specs.Moves.{Shiftable, Shifted};
 
-use crate::COLUMNS;
+use crate::{COLUMNS, ENTRIES, USE_ENTRIES};
 use rules::places::MOST_RESOURCES;
 
+// Where the entry of strategy j on segment i stands.
+pub fn entry(i: usize, j: usize) -> usize
+    requires { Cell i j }
+    ensures { result ≡ entry i j }
+{
+    COLUMNS * (i - 1) + j
+}
+
 // Of an array with an entry for each strategy on each segment, the greatest on segment i, nothing left out; 0 without strategies.
-pub fn greatest(table: &[u64], strategies: usize, i: usize) -> u64
-    requires places { length table.now ≡ entries }
-    requires cell { Cell i strategies }
+pub fn greatest(table: &[u64; ENTRIES], strategies: usize, i: usize) -> u64
+    requires { Cell i strategies }
     ensures { result ≡ most strategies (entry_at table.now i) }
 {
-    let from = COLUMNS * (i - 1) + 1;
+    let from = entry(i, 1);
     table[from..from + strategies]
         .iter()
         .copied()
@@ -23,17 +30,17 @@ pub fn greatest(table: &[u64], strategies: usize, i: usize) -> u64
 }
 
 // Of an array with a number of each resource for each strategy on each segment, those of strategy j on segment i.
-pub fn row_of(table: &[u64], i: usize, j: usize) -> &[u64]
-    requires places { length table.now ≡ use_entries }
-    requires cell { Cell i j }
+pub fn row_of(table: &[u64; USE_ENTRIES], i: usize, j: usize) -> &[u64]
+    requires { Cell i j }
     ensures len { length result.now ≡ most_resources }
     ensures numbers { (r : ℕ) → 1 ≤ r → r ≤ most_resources → get_or result.now (r - 1) 0 ≡ get_or table.now (use_entry i j r) 0 }
 {
-    let at = MOST_RESOURCES * (COLUMNS * (i - 1) + j);
+    let at = MOST_RESOURCES * entry(i, j);
     &table[at..at + MOST_RESOURCES]
 }
 
-// Each sum loses what `less` has in its place, and gains what `more` has. By the place, since a zip of three is no plainer.
+// Each sum loses what `less` has in its place, and gains what `more` has. By the place: a zip of three would
+// hand out a pair of a pair, and its proof go by what three iterators have left.
 pub fn shift(sums: &mut [u64], less: &[u64], more: &[u64])
     requires { Shiftable sums.old less.now more.now }
     ensures { Shifted sums.old less.now more.now sums.new }
