@@ -3,13 +3,13 @@ ghost use Rattle.std.specs.Prelude.{◌≡◌, ◌+◌, ◌*◌, ◌-◌, ◌≤
 ghost use Rattle.ceiling.specs.Prices.{Sized};
 
 use rules::places::MOST_RESOURCES;
-use tables::{COLUMNS, Size, greatest};
+use tables::{COLUMNS, ENTRIES, Size, USE_ENTRIES, greatest};
 
 #[derive(Clone, Copy)]
 pub(crate) struct Candidates<'a> {
     pub(crate) size: Size,
-    pub(crate) benefits: &'a [u64],
-    pub(crate) downs: &'a [u64],
+    pub(crate) benefits: &'a [u64; ENTRIES],
+    pub(crate) downs: &'a [u64; USE_ENTRIES],
     pub ghost sized: { Sized size benefits.now downs.now },
 }
 
@@ -46,7 +46,13 @@ impl Candidates<'_> {
     }
 
     // The costs of segment i's candidates at the new price. A loop over numbers, as in the search's margin.
-    fn reprice_segment(self, prices: &[u64], costs: &mut [u64], new: NewPrice, i: usize)
+    fn reprice_segment(
+        self,
+        prices: &[u64; MOST_RESOURCES],
+        costs: &mut [u64; ENTRIES],
+        new: NewPrice,
+        i: usize,
+    )
         requires prices { Prices prices.now × (new.resource ≤ self.size.resources) }
         requires costs { CostsAt self (repriced prices.now new) prices.now (columns * (i - 1)) costs.old }
         requires le_i { (1 ≤ i) × (i ≤ self.size.segments) }
@@ -64,7 +70,12 @@ impl Candidates<'_> {
     }
 
     // The same of all segments.
-    pub(crate) fn reprice(self, prices: &[u64], costs: &mut [u64], new: NewPrice)
+    pub(crate) fn reprice(
+        self,
+        prices: &[u64; MOST_RESOURCES],
+        costs: &mut [u64; ENTRIES],
+        new: NewPrice,
+    )
         requires prices { Prices prices.now × (new.resource ≤ self.size.resources) }
         requires costs { CostsAt self prices.now prices.now 0 costs.old }
         ensures { CostsAt self.entry (repriced prices.now new) (repriced prices.now new) 0 costs.new }

@@ -10,7 +10,7 @@ ghost use Rattle.ceiling.specs.Views.{priced_in, repriced};
 
 use candidates::{Candidates, NewPrice, moved};
 use rules::places::MOST_RESOURCES;
-use tables::{COLUMNS, ENTRIES, Size};
+use tables::{COLUMNS, ENTRIES, Size, USE_ENTRIES};
 
 mod candidates;
 
@@ -136,7 +136,7 @@ fn power(k: u32) -> u64
 }
 
 // The ceiling of every table with these benefits and down-shares.
-pub fn ceiling_of(z: Size, benefits: &[u64], downs: &[u64]) -> u64
+pub fn ceiling_of(z: Size, benefits: &[u64; ENTRIES], downs: &[u64; USE_ENTRIES]) -> u64
     requires { Sized z benefits.now downs.now }
     ensures { (t : Table) → Priced t z benefits.now downs.now → result ≡ ceiling t }
 {

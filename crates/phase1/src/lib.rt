@@ -13,7 +13,9 @@ ghost use Rattle.phase1.specs.Views.{HeldIn};
 
 use rules::places::{MOST_RESOURCES, MOST_SEGMENTS};
 use shares::Summed;
-use tables::{BenefitTable, COLUMNS, Draft, LeaderList, Move, Planning, Size, UsageTable};
+use tables::{
+    BenefitTable, COLUMNS, Draft, LeaderList, Move, Planning, Size, USE_ENTRIES, UsageTable,
+};
 use weighed::Weighed;
 
 pub mod shares;
@@ -65,7 +67,7 @@ fn next_candidate(z: Size, benefits: BenefitTable<'_>, i: usize, a: usize) -> us
 
 // Of an array at the places of uses, what stands there for a programme's strategies in resource r, together.
 #[tactic(auto, using(crate::proofs::Pulls::first_le))]
-fn sum_in(z: Size, entries: &[u64], choice: &[usize; MOST_SEGMENTS], r: usize) -> u64
+fn sum_in(z: Size, entries: &[u64; USE_ENTRIES], choice: &[usize; MOST_SEGMENTS], r: usize) -> u64
     requires summable { Summable z entries.now choice.now }
     requires le_r { (1 ≤ r) × (r ≤ z.resources) }
     ensures { result ≡ sum z.segments (held_share entries.now choice.now r) }
@@ -78,7 +80,11 @@ fn sum_in(z: Size, entries: &[u64], choice: &[usize; MOST_SEGMENTS], r: usize) -
 }
 
 // The same in each resource: of uses the sums that a draft keeps, of shares those that the surpluses need.
-fn sums_of(z: Size, entries: &[u64], choice: &[usize; MOST_SEGMENTS]) -> [u64; MOST_RESOURCES]
+fn sums_of(
+    z: Size,
+    entries: &[u64; USE_ENTRIES],
+    choice: &[usize; MOST_SEGMENTS],
+) -> [u64; MOST_RESOURCES]
     requires { Summable z entries.now choice.now }
     ensures { ShareSums z entries.now choice.now result }
 {
@@ -111,10 +117,8 @@ fn last_led(segments: usize, leaders: LeaderList<'_>) -> usize
     requires { segments ≤ most_segments }
     ensures { LedWithin leaders.entry.entries.now segments result }
 {
-    match leaders.entries[..segments]
-        .iter()
-        .rposition(|leader| *leader > 0)
-    {
+    let entries = leaders.entries;
+    match entries[..segments].iter().rposition(|leader| *leader > 0) {
         Some(i) => i + 1,
         None => 0,
     }

@@ -5,11 +5,11 @@ ghost use Rattle.tables.specs.Arrays.{use_entries, Cell};
 ghost use Rattle.phase1.specs.Reduce.{share_at, ShareMove};
 
 use rules::places::MOST_RESOURCES;
-use tables::{Move, row_of, shift};
+use tables::{Move, USE_ENTRIES, row_of, shift};
 
 #[derive(Clone, Copy)]
 pub struct ShareTable<'a> {
-    pub entries: &'a [u64],
+    pub entries: &'a [u64; USE_ENTRIES],
     pub ghost places: { length entries.now ≡ use_entries },
 }
 
