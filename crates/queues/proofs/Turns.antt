@@ -1,13 +1,14 @@
 -- Arrivals, and what a step takes, in terms of one console's queue.
-use Prim.Native.Nat.{ℕ, zero, suc, ◌+◌, ◌-◌, ◌<◌}
+use Prim.Native.Nat.{ℕ, ◌+◌, ◌<◌}
 use mathlib.Core.Path.{◌≡◌, refl, sym, ap, ◌∙◌}
 use mathlib.Core.List.{List, [], ◌∷◌, ◌++◌}
-use Rattle.std.specs.Prelude.{Option, None, Some}
+use Rattle.std.specs.Prelude.{Option, None, Some, not, cond, nat_eq}
 use native.Mathlib.Omega.{arith}
 use borrow.Author.Tests.{lt-ltb, le-ltb}
+use lib.Dec.{eqb-suc-zero}
 use lib.ListN.{length, get_or, set}
 use Rattle.std.proofs.lemmas.List.{set-get_or}
-use Rattle.std.specs.List.{slice_get, remove}
+use Rattle.std.specs.List.{slice_get, remove, find}
 use Rattle.arrayvec.specs.ArrayVec.{ArrayVec}
 use Rattle.base.specs.Search.{or_else}
 use Rattle.rules.specs.Answers.{no_such_console, queue_full, answer_of, accepting, Accepted, Refused}
@@ -16,7 +17,7 @@ use Rattle.rules.specs.Desks.{console_number, next_to, queue_of, with_queue, wit
 use Rattle.rules.specs.declared.Console.{Console}
 use Rattle.rules.specs.declared.Console.TheVariants.{One, Two, Three, Four}
 use Rattle.rules.specs.declared.Waiting.{Waiting}
-use Rattle.queues.specs.Waits.{queues_in, Admits}
+use Rattle.queues.specs.Waits.{queues_in, Admits, round_from, waits}
 use Rattle.queues.specs.declared.Queues.{Queues}
 
 -- ---- one queue of four
@@ -105,43 +106,44 @@ module _ (q : Queues) (w : Waiting) (n : length q.waiting ≡ 4) (x : Console) (
 
 -- ---- what a step takes
 
--- of n consoles from c on
-abbrev pub oldest_from : ℕ → Console → Desks.Queues → Option Desks.Taken
-oldest_from zero c q = None
-oldest_from (suc n) c q = or_else (oldest_at q c) (oldest_from n (next_to c) q)
+-- of these consoles, the first that has one
+abbrev pub oldest_among : Desks.Queues → List Console → Option Desks.Taken
+oldest_among q [] = None
+oldest_among q (c ∷ cs) = or_else (oldest_at q c) (oldest_among q cs)
+
+abbrev pub found_at : Desks.Queues → Option Console → Option Desks.Taken
+found_at q None = None
+found_at q (Some c) = oldest_at q c
+
+among_found : (q : Desks.Queues) (cs : List Console) → oldest_among q cs ≡ found_at q (find (waits q) cs)
+among_found q [] = refl
+among_found q (c ∷ cs) = known (queue_of c q) refl (among_found q cs)
+  where
+    known : (ws : List Waiting) → queue_of c q ≡ ws → oldest_among q cs ≡ found_at q (find (waits q) cs)
+        → or_else (oldest_of c ws q) (oldest_among q cs) ≡ found_at q (cond (not (nat_eq (length ws) 0)) (Some c) (find (waits q) cs))
+    known [] e rest = rest
+    known (w ∷ ws) e rest = rw (eqb-suc-zero (length ws)) (ap (λ vs. oldest_of c vs q) (sym e))
 
 or_none : {A : Type 0} (x : Option A) → or_else x None ≡ x
 or_none None = refl
 or_none (Some x) = refl
 
-pub taken_is : (q : Desks.Queues) → oldest_from 4 q.turn q ≡ taken q
+pub taken_is : (q : Desks.Queues) (c : Option Console) → c ≡ find (waits q) (round_from q.turn) → found_at q c ≡ taken q
 unfolding taken
-taken_is q = rw (or_none (oldest_at q (next_to (next_to (next_to q.turn)))))
+taken_is q c e =
+    ap (found_at q) e
+    ∙ sym (among_found q (round_from q.turn))
+    ∙ rw (or_none (oldest_at q (next_to (next_to (next_to q.turn)))))
 
 first_of : (ws vs : List Waiting) (w : Waiting) → Some w ≡ slice_get ws 0 → vs ≡ remove ws 0 → ws ≡ w ∷ vs
 first_of [] vs w e f = absurd (let z : ◌≡◌ {A = ℕ} 0 1 = cc in omega arith)
 first_of (x ∷ xs) vs w e f = let z : w ≡ x = cc in rw (z, f)
 
-none_of : (ws : List Waiting) → None ≡ slice_get ws 0 → ws ≡ []
-none_of [] e = refl
-none_of (x ∷ xs) e = absurd (let z : ◌≡◌ {A = ℕ} 0 1 = cc in omega arith)
-
--- the search has come to console x, with k consoles passed
-module _ (q : Queues) (n : length q.waiting ≡ 4) (x : Console) (p : ℕ) (at : p + 1 ≡ console_number x) (d : ArrayVec Waiting) (k : ℕ) (more : k < 4)
-    (left : oldest_from (4 - k) x (queues_in q) ≡ taken (queues_in q)) where
-  next : or_else (oldest_at (queues_in q) x) (oldest_from (4 - (k + 1)) (next_to x) (queues_in q)) ≡ taken (queues_in q)
-  next = let e : 4 - k ≡ suc (4 - (k + 1)) = omega arith in rw e at left
-
-  -- the console has an edit, which is taken
-  pub found : (new : ArrayVec Waiting) (w : Waiting) (t : Console) → Some w ≡ slice_get (get_or q.waiting p d).items 0 → new.items ≡ remove (get_or q.waiting p d).items 0
-      → t ≡ next_to x → Some record { console = x; waiting = w; queues = queues_in (record { waiting = set q.waiting p new; turn = t }) } ≡ taken (queues_in q)
-  found new w t e f g =
+-- its oldest edit is taken; d is what the code reads at the console's place
+module _ (q : Queues) (n : length q.waiting ≡ 4) (x : Console) (p : ℕ) (at : p + 1 ≡ console_number x) (d : ArrayVec Waiting) where
+  pub oldest_is : (new : ArrayVec Waiting) (w : Waiting) (t : Console) → Some w ≡ slice_get (get_or q.waiting p d).items 0
+      → new.items ≡ remove (get_or q.waiting p d).items 0
+      → t ≡ next_to x → Some record { console = x; waiting = w; queues = queues_in (record { waiting = set q.waiting p new; turn = t }) } ≡ oldest_at (queues_in q) x
+  oldest_is new w t e f g =
       let ws : queue_of x (queues_in q) ≡ w ∷ new.items = sym (queue_is q n x p at d) ∙ first_of _ _ w e f in
-      rw (g, with_is q n x p at new (next_to x)) (rw ws at next)
-
-  -- it has none, and the next is looked at
-  pub passed : None ≡ slice_get (get_or q.waiting p d).items 0
-      → oldest_from (4 - (k + 1)) (next_to x) (queues_in q) ≡ taken (queues_in q)
-  passed e =
-      let ws : queue_of x (queues_in q) ≡ [] = sym (queue_is q n x p at d) ∙ none_of _ e in
-      rw ws at next
+      rw (g, with_is q n x p at new (next_to x), ws)

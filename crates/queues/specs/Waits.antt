@@ -1,9 +1,9 @@
 -- What the queues of this crate stand for, in any state: those of rules, specs/Desks.antt.
-use Rattle.std.specs.Prelude.{ℕ, ◌≡◌, List, [], get_or}
+use Rattle.std.specs.Prelude.{ℕ, ◌≡◌, Bool, not, nat_eq, List, [], ◌∷◌, length, get_or}
 use Rattle.std.specs.Prelude.{Option, None, Some, Result}
 use Rattle.arrayvec.specs.ArrayVec.{ArrayVec}
 use Rattle.rules.specs.Desks as Desks
-use Rattle.rules.specs.Desks.{refusal_at, arrival_by}
+use Rattle.rules.specs.Desks.{queue_of, next_to, refusal_at, arrival_by}
 use Rattle.rules.specs.Answers.{Answer, Refused, answer_in}
 use Rattle.rules.specs.declared.Console.{Console}
 use Rattle.rules.specs.declared.Waiting.{Waiting}
@@ -39,6 +39,14 @@ arrival_in a = record { answer = a.answer; queues = queues_in a.queues }
 pub record Admits (q : Queues) (c : Option Console) (w : Waiting) (a : Arrival) : Type 0 where
   pub settled : arrival_in a ≡ arrival_by (refusal_at c (queues_in q)) c w (queues_in q)
   pub refused : (n : ℕ) → a.answer ≡ Refused n → a.queues ≡ q
+
+-- whether an edit waits at console c
+abbrev pub waits : Desks.Queues → Console → Bool
+waits q c = not (nat_eq (length (queue_of c q)) 0)
+
+-- the four consoles in circular order, from one on
+abbrev pub round_from : Console → List Console
+round_from c = c ∷ next_to c ∷ next_to (next_to c) ∷ next_to (next_to (next_to c)) ∷ []
 
 -- what is taken, and the queues then
 abbrev pub taken_in : Option (Console × Waiting) → Queues → Option Desks.Taken

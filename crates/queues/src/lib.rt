@@ -3,10 +3,11 @@
 
 ghost use Rattle.std.specs.Prelude.{◌≡◌, ◌+◌, ◌-◌, ◌<◌, IfNone};
 ghost use Rattle.rules.specs.Desks.{console_number, console_of, next_to, fresh_queues, taken};
-ghost use Rattle.queues.specs.Waits.{queues_in, arrival, Admits, taken_in};
+ghost use Rattle.queues.specs.Waits.{queues_in, arrival, Admits, taken_in, round_from, waits};
 
 use arrayvec::ArrayVec;
 use rules::{Answer, Console, Refusal, Waiting};
+use std::array;
 
 pub const MOST_WAITING: usize = 8;
 
@@ -25,12 +26,7 @@ pub fn fresh() -> Queues
     ensures { queues_in result ≡ fresh_queues }
 {
     Queues {
-        waiting: [
-            ArrayVec::new(),
-            ArrayVec::new(),
-            ArrayVec::new(),
-            ArrayVec::new(),
-        ],
+        waiting: array::from_fn(|_| ArrayVec::new()),
         turn: Console::One,
     }
 }
@@ -55,7 +51,20 @@ fn next_to(console: Console) -> Console
     }
 }
 
-// An edit arrives at the console of number `n`. Whose edit it is is not looked at.
+// The four in that order, from one on.
+fn round_from(console: Console) -> [Console; CONSOLES]
+    ensures { result ≡ round_from console }
+{
+    let second = next_to(console);
+    let third = next_to(second);
+    [console, second, third, next_to(third)]
+}
+
+// ---- the calls: functions over the queues that are lent, as the rules state them and every layer above has them (station, desk),
+// so not methods
+
+// An edit arrives at the console of number `n`. Whose edit it is is not looked at. The value is 0 always: a call of the rules
+// answers a value, 0 where it has none, and the answers to a list of events are of one type.
 pub fn admit_at(q: &mut Queues, n: usize, w: Waiting) -> Answer
     ensures { Admits q.old (console_of n) w (arrival result q.new) }
 {
@@ -65,20 +74,21 @@ pub fn admit_at(q: &mut Queues, n: usize, w: Waiting) -> Answer
     Ok(0)
 }
 
+// Whether an edit waits at a console.
+fn waits(q: &Queues, console: Console) -> bool
+    ensures { result ≡ waits (queues_in q.now) console }
+{
+    !q.waiting[place(console)].is_empty()
+}
+
 // The oldest edit of the first console that has one, from the turn on; the turn is then the next one's.
 pub fn take(q: &mut Queues) -> Option<(Console, Waiting)>
     ensures taken { taken_in result q.new ≡ taken (queues_in q.old) }
     ensures idle { IfNone result (q.new ≡ q.old) }
 {
-    let mut console = q.turn;
-    'consoles: for _ in 0..CONSOLES {
-        let next = next_to(console);
-        let queue = &mut q.waiting[place(console)];
-        if let Some(waiting) = queue.pop_at(0) {
-            q.turn = next;
-            return Some((console, waiting));
-        }
-        console = next;
-    }
-    None
+    let order = round_from(q.turn);
+    let console = *order.iter().find(|c| waits(q, **c))?;
+    let waiting = q.waiting[place(console)].pop_at(0)?;
+    q.turn = next_to(console);
+    Some((console, waiting))
 }

@@ -1,28 +1,27 @@
 -- `queues::take` meets its contract.
-use Rattle.std.proofs.Common.{arith, refl}
-use Rattle.std.proofs.lemmas.List.{set-get_or}
-use Rattle.queues.specs.Waits.{queues_in}
-use Rattle.queues.proofs.Turns.{taken_is, found, passed}
+use Rattle.std.proofs.Common.{◌≡◌, None, Some, option_map, arith, sym, ap, ◌∙◌, rules}
+use borrow.Author.Tests.{tests}
+use Rattle.std.proofs.lemmas.Iterator.{YieldsList-from_slice}
+use Rattle.std.proofs.lemmas.Iterator.Search.{find_from_yields_List}
+use Rattle.std.specs.List.{find}
+use Rattle.queues.specs.Waits.{queues_in, round_from, waits}
+use Rattle.queues.proofs.Turns.{taken_is, oldest_is}
 use Rattle.queues.proofs.take.Goals as goal
+use Rattle.queues.proofs.take.Goals.{After-find}
 
-pub consoles-init : goal.consoles-init
-consoles-init c = record { same = refl; left = taken_is (queues_in c.args.q.now) }
+searched : (c : After-find) → option_map (λ x. x.now) c.find.result ≡ find (waits (queues_in c.args.q.now)) (round_from c.args.q.now.turn)
+searched c = find_from_yields_List (waits (queues_in c.args.q.now)) _ _ c.find.result c.find.ensures.ran (YieldsList-from_slice (round_from c.args.q.now.turn) cc) (λ x b k h. search (rules, tests))
 
-pub returns-in-Some-clause-taken : goal.returns-in-Some-clause-taken
-returns-in-Some-clause-taken c =
-    let s = c.consoles in
-    let popped = c.in-Some.ensures in
-    rw (← s.invariant.same)
-    (found s.q (omega arith) s.console _ c.place.ensures.place _ s.counter c.consoles-test.true s.invariant.left
-    _ _ _ popped.value popped.items c.next_to-next.ensures)
+pub returns-in_err-console-clause-taken : goal.returns-in_err-console-clause-taken
+returns-in_err-console-clause-taken c =
+    let found = searched (goal.at.returns-in_err-console-clause-taken c).After-find in
+    rw c.from_residual.ensures (taken_is (queues_in c.args.q.now) None (ap (option_map (λ x. x.now)) (sym c.in_err-console.was) ∙ found))
 
-pub consoles-preserved : goal.consoles-preserved
-consoles-preserved c =
-    let s = c.consoles in
-    let popped = c.in_default.ensures in
-    rw (popped.absent, set-get_or s.q.waiting _ _) record {
-      same = s.invariant.same;
-      left =
-          rw c.next_to-next.ensures
-          (passed s.q (omega arith) s.console _ c.place.ensures.place _ s.counter c.consoles-test.true s.invariant.left popped.value);
-    }
+pub returns-clause-taken : goal.returns-clause-taken
+returns-clause-taken c =
+    let q = c.args.q.now in
+    let x = c.in_ok-console.field-0.now in
+    let found = searched (goal.at.returns-clause-taken c).After-find in
+    let popped = c.pop_at.ensures in
+    oldest_is q (omega arith) x _ c.place.ensures.place _ c.pop_at.new.self _ _ (sym c.in_ok-waiting.was ∙ popped.value) (rw c.in_ok-waiting.was at popped.items) c.next_to-q.ensures
+    ∙ taken_is (queues_in q) (Some x) (ap (option_map (λ x. x.now)) (sym c.in_ok-console.was) ∙ found)
