@@ -1,12 +1,13 @@
 -- Stored blocks: no two are equal, by a test that is computed, and the map makes Table 1 of them.
-use Prim.Native.Nat.{ℕ, zero, suc, ◌+◌, ◌-◌, ◌<◌}
-use mathlib.Core.Path.{◌≡◌, refl, ap, sym, ◌∙◌}
+use Prim.Native.Nat.{ℕ, ◌+◌, ◌-◌, ◌<◌}
+use mathlib.Core.Path.{◌≡◌, ap, sym, ◌∙◌}
 use mathlib.Core.Bool.{Bool, true, not}
-use mathlib.Core.List.{List, [], ◌∷◌, map}
+use mathlib.Core.List.{List, [], map}
 use native.Mathlib.Omega.{arith}
 use borrow.Author.Tests.{eqb-false, not-true}
 use lib.Dec.{eqb}
 use lib.ListN.{length, get_or}
+use Rattle.std.proofs.lemmas.List.{get_or-map}
 use Rattle.base.specs.Bytes.{number_of}
 use Rattle.base.specs.Over.{all}
 use Rattle.base.proofs.All.{all_at}
@@ -40,18 +41,12 @@ apart_distinct blocks e m n l h q =
     (not-true _ (below_at n (differ blocks n) (below_at (length blocks) (λ n. below n (differ blocks n)) e n h) m l))
     (ap key_of q)
 
--- an entry of a mapped list
-mapped : {A B : Type 0} (f : A → B) (xs : List A) (n : ℕ) (a : A) (b : B) → n < length xs → get_or (map f xs) n b ≡ f (get_or xs n a)
-mapped f [] n a b l = absurd (omega arith)
-mapped f (x ∷ xs) zero a b l = refl
-mapped f (x ∷ xs) (suc n) a b l = mapped f xs n a b (omega arith)
-
 -- a block of Table 1 is the stored one that the map names
 stored_block :
     (blocks : List (List (List ℕ))) → table_from blocks ≡ deduct_points → (n : ℕ) → n < 12
     → get_or blocks (get_or stored_as n 0) [] ≡ get_or deduct_points n []
 unfolding stored_as table_from
-stored_block blocks e n l = sym (mapped (λ k. get_or blocks k []) stored_as n 0 [] l) ∙ ap (λ (t : List (List (List ℕ))). get_or t n []) e
+stored_block blocks e n l = sym (get_or-map (λ k. get_or blocks k []) stored_as n 0 [] l) ∙ ap (λ (t : List (List (List ℕ))). get_or t n []) e
 
 -- so an entry of the one is the entry of the other
 pub stored_entry :
