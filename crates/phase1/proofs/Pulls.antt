@@ -2,14 +2,14 @@
 use Prim.Native.Nat.{ℕ, zero, suc, ◌+◌, ◌-◌, ◌*◌, ◌/◌, ◌^◌, ◌≤◌, ◌<◌}
 use mathlib.Core.Path.{◌≡◌, refl, ap, sym, ◌∙◌}
 use mathlib.Core.Bool.{Bool, true, false, false≢true}
-use mathlib.Core.List.{List, [], ◌++◌, map}
+use mathlib.Core.List.{List, [], map}
 use Rattle.std.specs.Prelude.{Option, None, Some}
 use Rattle.std.specs.Option.{option_map}
 use Rattle.std.proofs.Common.{IsTrue, ◌↔◌}
 use native.Mathlib.Nat.{mul-le-mul}
 use native.Mathlib.Omega.{arith}
 use borrow.Author.Tests.{lt-ltb, le-ltb, le-leb, lt-leb, leb-true}
-use lib.ListN.{get_or, length, take, drop, length-take, get_or-append}
+use lib.ListN.{get_or, length, take, length-take}
 use lib.Seq.{get_or-take}
 use Rattle.std.specs.Bool.{MatchBool}
 use Rattle.std.specs.List.{zip, AllWithin, HoldsAt, sum_by, sum as list_sum}
@@ -21,27 +21,35 @@ use Rattle.base.specs.Over.{sum, best}
 use Rattle.base.proofs.Choice.{pick_all}
 use Rattle.base.proofs.Sums.{sum_part, sum_bound, sum_cong}
 use Rattle.base.proofs.Best.{best_next, better_passed, better_first, better_taken, better_worse}
-use Rattle.rules.specs.District.{most_segments, most_strategies, most_resources}
+use Rattle.rules.specs.District.{most_segments, most_resources}
 use Rattle.rules.specs.Table.{Table}
 use Rattle.rules.specs.Phases.{strategy_at, give, chosen_benefit, chosen_usage, used, holds, within, chosen_share, surplus, pull_by, pull, pulls, ratio, lesser_ratio, weakest}
 use Rattle.laws.proofs.Give.{given, sum_give}
 use Rattle.tables.specs.declared.Size.{Size}
-use Rattle.tables.specs.Arrays.{columns, use_entry, limit_at, tables, Uses, Limits, Bounded, Chosen, Running}
-use Rattle.tables.specs.Moves.{Shiftable, Shifted}
+use Rattle.tables.specs.Arrays.{use_entry, limit_at, tables, Uses, Limits, Bounded, Chosen, Running, Cell}
 use Rattle.tables.proofs.Moves.{all_is}
 use Rattle.tables.proofs.Arrays.{limit_at_lem, usage_at_lem, cell_of}
 use Rattle.phase1.specs.declared.weighed.Weak.{Weak}
-use Rattle.phase1.specs.Reduce.{share_at, ShareSums, ShareMove, held_share, row_pull, Shares, Summable, Measured, Surpluses, segment_in, weak_at, weaker_of, IsWeaker}
+use Rattle.phase1.specs.Reduce.{share_at, ShareSums, held_share, row_pull, Shares, Within, Summable, Measured, Surpluses, segment_in, weak_at, weaker_of, IsWeaker}
 
 -- ---- bounds
 
-module _ {z : Size} {s c : List ℕ} (measured : Measured z s c) where
-  pub shares_le : (r : ℕ) → 1 ≤ r → r ≤ z.resources → (n : ℕ) → n ≤ z.segments → sum n (held_share s c r) ≤ 640_000
-  shares_le r lr hr n h =
-      omega (arith, sum_bound n 10_000 (held_share s c r) (λ i li hi. measured.small i r li (omega arith) lr hr), measured.bounded.segments)
+module _ {most : ℕ} {z : Size} {s c : List ℕ} (held : Within most z s c) where
+  pub sums_le : (r : ℕ) → 1 ≤ r → r ≤ z.resources → sum z.segments (held_share s c r) ≤ most_segments * most
+  sums_le r lr hr =
+      let each = sum_bound z.segments most (held_share s c r) (λ i li hi. held.small i r li hi lr hr) in
+      let all : z.segments * most ≤ most_segments * most = mul-le-mul {n₁ = z.segments} {m₁ = most} {n₂ = most_segments} {m₂ = most} held.bounded.segments (omega arith) in
+      omega arith
 
-  pub measured_summable : Summable z s c
-  measured_summable = record { bounded = measured.bounded; chosen = measured.chosen; places = measured.places; small = λ i r li hi lr hr. omega (arith, measured.small i r li hi lr hr) }
+-- segment i + 1 has an entry for its strategy
+pub cell_held : {most : ℕ} {z : Size} {s c : List ℕ} → Within most z s c → (i : ℕ) → i < z.segments → Cell (i + 1) (get_or c i 0)
+cell_held {most} {z} {s} {c} held i h =
+    let at : i + 1 - 1 ≡ i = omega arith in
+    cell_of held.bounded (i + 1) (get_or c i 0) (omega arith) (omega arith) (rw at at (held.chosen.numbers (i + 1)))
+
+pub measured_summable : {z : Size} {s c : List ℕ} → Measured z s c → Summable z s c
+measured_summable measured =
+    record { bounded = measured.bounded; chosen = measured.chosen; places = measured.places; small = λ i r li hi lr hr. omega (arith, measured.small i r li hi lr hr) }
 
 pub pull_le : (row over : List ℕ) (m : ℕ) → m ≤ most_resources → ((r : ℕ) → 1 ≤ r → r ≤ m → get_or row (r - 1) 0 ≤ 10_000) → ((r : ℕ) → 1 ≤ r → r ≤ m → get_or over (r - 1) 0 ≤ 640_000)
     → (n : ℕ) → n ≤ m → sum n (row_pull row over) ≤ 102_400_000_000
@@ -50,16 +58,24 @@ pull_le row over m few small surplus-small n h =
     (λ r lr hr. mul-le-mul {n₁ = get_or row (r - 1) 0} {m₁ = get_or over (r - 1) 0} {n₂ = 10_000} {m₂ = 640_000} (small r lr (omega arith)) (surplus-small r lr (omega arith))) in
     omega arith
 
+-- the first n of a list and another as pairs
+module _ (xs ys : List ℕ) (n : ℕ) (xs_long : n ≤ length xs) (ys_long : n ≤ length ys) where
+  pairs_long : length (zip (take n xs) ys) ≡ n
+  pairs_long = omega (arith, length-zip (take n xs) ys, length-take n xs)
+
+  pair_at : (k : ℕ) (d : ℕ × ℕ) → k < n → get_or (zip (take n xs) ys) k d ≡ (get_or xs k d.0, get_or ys k d.1)
+  pair_at k d h = get_or-zip (take n xs) ys k d (omega (arith, length-take n xs)) (omega arith) ∙ rw (get_or-take n xs k d.0 h)
+
 -- a row of shares and the surpluses as pairs
 module _ (row over : List ℕ) (n : ℕ) (few : n ≤ most_resources) (row_long : length row ≡ most_resources) (over_long : length over ≡ most_resources) where
   abbrev pub weights : List (ℕ × ℕ)
   weights = zip (take n row) over
 
   weights_long : length weights ≡ n
-  weights_long = omega (arith, length-zip (take n row) over, length-take n row)
+  weights_long = pairs_long row over n (omega arith) (omega arith)
 
   weight_at : (k : ℕ) (d : ℕ × ℕ) → k < n → get_or weights k d ≡ (get_or row k d.0, get_or over k d.1)
-  weight_at k d h = get_or-zip (take n row) over k d (omega (arith, length-take n row)) (omega arith) ∙ rw (get_or-take n row k d.0 h)
+  weight_at = pair_at row over n (omega arith) (omega arith)
 
   pub weight_small : ((r : ℕ) → 1 ≤ r → r ≤ n → get_or row (r - 1) 0 ≤ 10_000) → ((r : ℕ) → 1 ≤ r → r ≤ n → get_or over (r - 1) 0 ≤ 640_000)
       → (k : ℕ) (p : ℕ × ℕ) → k < length weights → p ≡ get_or weights k p → p.0 * p.1 ≤ 6_400_000_000
@@ -104,27 +120,6 @@ module _ {z : Size} {u c : List ℕ} (bounded : Bounded z) (uses : Uses u) (chos
             ∙ sum_cong z.segments (held_share u c r) (chosen_usage (tables z b u l) c r)
             (λ i li hi. usage_at_lem uses i (strategy_at c i) r (cell_of bounded i (strategy_at c i) li hi (chosen.numbers i)) lr (omega (arith, bounded.resources)));
       }
-
-pub summable_le : {z : Size} {s c : List ℕ} → Summable z s c → (r : ℕ) → 1 ≤ r → r ≤ z.resources → (n : ℕ) → n ≤ z.segments → sum n (held_share s c r) ≤ 2 ^ 47
-summable_le {z} {s} {c} summable r lr hr n h =
-    omega (arith, sum_bound n (2 ^ 41) (held_share s c r) (λ i li hi. summable.small i r li (omega arith) lr hr), summable.bounded.segments)
-
--- the strategies of the first segments, one after another
-module _ {z : Size} {s c : List ℕ} (summable : Summable z s c) where
-  pub first_all : length (take z.segments c) ≡ z.segments
-  first_all = omega (arith, length-take z.segments c, summable.bounded.segments, summable.chosen.places)
-
-  module _ (i : ℕ) (h : i < length (take z.segments c)) where
-    first_is : get_or (take z.segments c) i 0 ≡ strategy_at c (i + 1)
-    first_is = let here : i ≡ i + 1 - 1 = omega arith in get_or-take z.segments c i 0 (omega (arith, first_all)) ∙ ap (λ (k : ℕ). get_or c k 0) here
-
-    pub first_le : (i < most_segments) × (get_or (take z.segments c) i 0 ≤ most_strategies)
-    first_le = (omega (arith, first_all, summable.bounded.segments), omega (arith, first_is, summable.chosen.numbers (i + 1), summable.bounded.strategies))
-
-    pub first_share : (r : ℕ) → get_or s (most_resources * (columns * i + get_or (take z.segments c) i 0) + (r - 1)) 0 ≡ held_share s c r (i + 1)
-    first_share r =
-        let here : i ≡ i + 1 - 1 = omega arith in
-        rw first_is (ap (λ (k : ℕ). get_or s (most_resources * (columns * k + strategy_at c (i + 1)) + (r - 1)) 0) here)
 
 -- ---- what arrays of shares and surpluses say of a table
 
@@ -184,26 +179,20 @@ module _ {z : Size} {u c sums : List ℕ} (running : Running z u c sums) (b l : 
 
   -- by the sums and the limits as pairs
   module _ (limits : Limits l) where
-    few : z.resources ≤ most_resources
-    few = running.bounded.resources
-
-    summed : length (take z.resources sums) ≡ z.resources
-    summed = omega (arith, length-take z.resources sums, few, running.sums_length)
-
     paired : length (zip (take z.resources sums) l) ≡ z.resources
-    paired = omega (arith, length-zip (take z.resources sums) l, summed, few, limits.places)
+    paired = pairs_long sums l z.resources (omega (arith, running.bounded.resources, running.sums_length)) (omega (arith, running.bounded.resources, limits.places))
 
-    pair_at : (k : ℕ) → k < z.resources → get_or (zip (take z.resources sums) l) k (0, 0) ≡ (get_or sums k 0, get_or l k 0)
-    pair_at k h = get_or-zip (take z.resources sums) l k (0, 0) (omega (arith, summed)) (omega (arith, few, limits.places)) ∙ rw (get_or-take z.resources sums k 0 h)
+    two_at : (k : ℕ) → k < z.resources → get_or (zip (take z.resources sums) l) k (0, 0) ≡ (get_or sums k 0, get_or l k 0)
+    two_at k = pair_at sums l z.resources (omega (arith, running.bounded.resources, running.sums_length)) (omega (arith, running.bounded.resources, limits.places)) k (0, 0)
 
     pub within_zip : (r : Bool)
         → MatchBool r (AllWithin (λ (p : ℕ × ℕ). p.0 ≤ p.1) (zip (take z.resources sums) l) 0 (length (zip (take z.resources sums) l)))
         ((k : ℕ) × (k < length (zip (take z.resources sums) l)) × HoldsAt (λ (p : ℕ × ℕ). p.1 < p.0) (zip (take z.resources sums) l) k)
         → r ≡ within (tables z b u l) c
-    within_zip true each = within_is ((λ t k h. rw pair_at at (each k (0, 0) (omega arith) (omega (arith, paired)))), (λ h. refl))
+    within_zip true each = within_is ((λ t k h. rw two_at at (each k (0, 0) (omega arith) (omega (arith, paired)))), (λ h. refl))
     within_zip false some =
         let inside : some.0 < z.resources = omega (arith, some.1, paired) in
-        within_is ((λ t. absurd (false≢true t)), (λ h. absurd (omega (arith, h some.0 inside, rw pair_at at (some.2 (0, 0))))))
+        within_is ((λ t. absurd (false≢true t)), (λ h. absurd (omega (arith, h some.0 inside, rw two_at at (some.2 (0, 0))))))
 
 -- ---- a surplus: 0 where the limit holds, else what the shares are beyond 10,000
 
@@ -218,7 +207,7 @@ module _ {z : Size} {b u l s c : List ℕ} (shares : Shares z b u l s) (measured
   unfolding surplus
   surplus_le =
       pick_all (λ (n : ℕ). n ≤ 640_000) (holds (tables z b u l) c r) 0 (sum z.segments (chosen_share (tables z b u l) c r) - 10_000) (omega arith)
-      (omega (arith, shares_le measured r lr hr z.segments (omega arith), chosen_shares_are shares measured.chosen r lr hr))
+      (omega (arith, sums_le measured r lr hr, chosen_shares_are shares measured.chosen r lr hr))
 
 -- ---- the sums of shares, step by step
 
@@ -227,53 +216,14 @@ module _ {z : Size} {s c held : List ℕ} (measured : Measured z s c) (are : Sha
   room = omega (arith, measured.bounded.segments, measured.chosen.places)
 
   -- segment i's next share is as small as those of the programme that has it
-  pub share_moves : Measured z s (give c i a) → (r : ℕ) → 1 ≤ r → r ≤ z.resources → ShareMove s held i (strategy_at c i) a r
+  pub share_moves : Measured z s (give c i a) → (r : ℕ) → 1 ≤ r → r ≤ z.resources → (share_at s i (strategy_at c i) r ≤ get_or held (r - 1) 0) × (get_or held (r - 1) 0 + share_at s i a r < 2 ^ 64)
   share_moves next r lr hr =
       let new : held_share s (give c i a) r i ≡ share_at s i a r = ap (λ (j : ℕ). share_at s i j r) (given c i a li (omega (arith, room))) in
-      record {
-        holds = rw (are.each r lr hr) (sum_part z.segments (held_share s c r) i li hi);
-        few = rw (are.each r lr hr) (shares_le measured r lr hr z.segments (omega arith));
-        small = omega (arith, new, next.small i r li hi lr hr);
-      }
+      (rw (are.each r lr hr) (sum_part z.segments (held_share s c r) i li hi), omega (arith, are.each r lr hr, sums_le measured r lr hr, new, next.small i r li hi lr hr))
 
   pub shares_moved : {v : List ℕ} → ((r : ℕ) → 1 ≤ r → r ≤ z.resources → get_or v (r - 1) 0 + share_at s i (strategy_at c i) r ≡ get_or held (r - 1) 0 + share_at s i a r) → ShareSums z s (give c i a) v
   shares_moved h =
       record { each = λ r lr hr. omega (arith, h r lr hr, are.each r lr hr, sum_give (tables z [] [] []) c i a li hi room (λ k j. share_at s k j r)) }
-
--- one resource after another
-module _ {s sums less more : List ℕ} {i x a n : ℕ} (few : n ≤ most_resources) (long : length sums ≡ most_resources)
-    (moves : (r : ℕ) → 1 ≤ r → r ≤ n → ShareMove s sums i x a r) (less_long : length less ≡ most_resources) (more_long : length more ≡ most_resources)
-    (less_are : (r : ℕ) → 1 ≤ r → r ≤ most_resources → get_or less (r - 1) 0 ≡ share_at s i x r)
-    (more_are : (r : ℕ) → 1 ≤ r → r ≤ most_resources → get_or more (r - 1) 0 ≡ share_at s i a r) where
-  pub shares_shiftable : Shiftable (take n sums) less more
-  shares_shiftable =
-      let part : length (take n sums) ≡ n = omega (arith, length-take n sums) in
-      record {
-        less_there = omega arith;
-        more_there = omega arith;
-        held = λ k h.
-            let at : k + 1 - 1 ≡ k = omega arith in
-            let m = moves (k + 1) (omega arith) (omega arith) in
-            omega (arith, m.holds, less_are (k + 1) (omega arith) (omega arith), get_or-take n sums k 0 (omega arith), ap (λ (q : ℕ). get_or less q 0) at, ap (λ (q : ℕ). get_or sums q 0) at);
-        small = λ k h.
-            let at : k + 1 - 1 ≡ k = omega arith in
-            let m = moves (k + 1) (omega arith) (omega arith) in
-            omega (arith, m.few, m.small, more_are (k + 1) (omega arith) (omega arith), get_or-take n sums k 0 (omega arith), ap (λ (q : ℕ). get_or more q 0) at, ap (λ (q : ℕ). get_or sums q 0) at);
-      }
-
-  pub shares_shifted : {moved : List ℕ} → Shifted (take n sums) less more moved → (r : ℕ) → 1 ≤ r → r ≤ n
-      → get_or (moved ++ drop n sums) (r - 1) 0 + share_at s i x r ≡ get_or sums (r - 1) 0 + share_at s i a r
-  shares_shifted {moved} is r low high =
-      let part : length (take n sums) ≡ n = omega (arith, length-take n sums) in
-      let inside : r - 1 < n = omega arith in
-      omega (
-        arith,
-        get_or-append moved (drop n sums) 0 (r - 1) (omega (arith, is.places)),
-        is.each (r - 1) (omega arith),
-        get_or-take n sums (r - 1) 0 inside,
-        less_are r low (omega arith),
-        more_are r low (omega arith),
-      )
 
 -- ---- the weaker of two: w stands for segment k, and segment i is compared with it
 

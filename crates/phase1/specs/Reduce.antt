@@ -28,19 +28,20 @@ pub record Shares (z : Size) (b u l s : List ℕ) : Type 0 where
       (i j r : ℕ) → 1 ≤ i → i ≤ z.segments → j ≤ z.strategies → 1 ≤ r → r ≤ z.resources
       → share_at s i j r ≡ share (tables z b u l) i j r
 
--- a programme with what such an array holds of it, none of it so much that a sum wraps
-pub record Summable (z : Size) (s c : List ℕ) : Type 0 where
+-- a programme with what an array at the places of uses holds of it, none of it above `most`
+pub record Within (most : ℕ) (z : Size) (s c : List ℕ) : Type 0 where
   pub bounded : Bounded z
   pub chosen : Chosen z c
   pub places : length s ≡ use_entries
-  pub small : (i r : ℕ) → 1 ≤ i → i ≤ z.segments → 1 ≤ r → r ≤ z.resources → held_share s c r i ≤ 2 ^ 41
+  pub small : (i r : ℕ) → 1 ≤ i → i ≤ z.segments → 1 ≤ r → r ≤ z.resources → held_share s c r i ≤ most
+
+-- none of it so much that a sum wraps
+abbrev pub Summable : Size → List ℕ → List ℕ → Type 0
+Summable = Within (2 ^ 41)
 
 -- a programme with its shares, none above the whole limit
-pub record Measured (z : Size) (s c : List ℕ) : Type 0 where
-  pub bounded : Bounded z
-  pub chosen : Chosen z c
-  pub places : length s ≡ use_entries
-  pub small : (i r : ℕ) → 1 ≤ i → i ≤ z.segments → 1 ≤ r → r ≤ z.resources → held_share s c r i ≤ 10_000
+abbrev pub Measured : Size → List ℕ → List ℕ → Type 0
+Measured = Within 10_000
 
 -- what reduce takes beside a table and a programme, and keeps from step to step: the table's shares, and that the programme is one of
 -- candidates, each of which fits alone
@@ -57,12 +58,6 @@ pub record LedWithin (ls : List ℕ) (n m : ℕ) : Type 0 where
 -- the shares of programme c in each resource, together
 pub record ShareSums (z : Size) (s c held : List ℕ) : Type 0 where
   pub each : (r : ℕ) → 1 ≤ r → r ≤ z.resources → get_or held (r - 1) 0 ≡ sum z.segments (held_share s c r)
-
--- bounds under which resource r's share of strategy x can go from the sum, and that of a come, without a wrap
-pub record ShareMove (s held : List ℕ) (i x a r : ℕ) : Type 0 where
-  pub holds : share_at s i x r ≤ get_or held (r - 1) 0
-  pub few : get_or held (r - 1) 0 ≤ 640_000
-  pub small : share_at s i a r ≤ 10_000
 
 -- an array of the surpluses, resource by resource
 pub record Surpluses (t : Table) (c over : List ℕ) : Type 0 where

@@ -13,9 +13,8 @@ ghost use Rattle.phase1.specs.Views.{HeldIn};
 
 use rules::places::{MOST_RESOURCES, MOST_SEGMENTS};
 use shares::Summed;
-use tables::{
-    BenefitTable, COLUMNS, Draft, LeaderList, Move, Planning, Size, USE_ENTRIES, UsageTable,
-};
+use tables::rows::entry;
+use tables::{BenefitTable, Draft, LeaderList, Move, Planning, Size, USE_ENTRIES, UsageTable};
 use weighed::Weighed;
 
 pub mod shares;
@@ -66,17 +65,14 @@ fn next_candidate(z: Size, benefits: BenefitTable<'_>, i: usize, a: usize) -> us
 }
 
 // Of an array at the places of uses, what stands there for a programme's strategies in resource r, together.
-#[tactic(auto, using(crate::proofs::Pulls::first_le))]
 fn sum_in(z: Size, entries: &[u64; USE_ENTRIES], choice: &[usize; MOST_SEGMENTS], r: usize) -> u64
     requires summable { Summable z entries.now choice.now }
     requires le_r { (1 ≤ r) × (r ≤ z.resources) }
     ensures { result ≡ sum z.segments (held_share entries.now choice.now r) }
 {
-    let mut all: u64 = 0;
-    for (i, j) in choice[..z.segments].iter().enumerate() {
-        all += entries[MOST_RESOURCES * (COLUMNS * i + *j) + (r - 1)];
-    }
-    all
+    (0..z.segments)
+        .map(|i| entries[MOST_RESOURCES * entry(i + 1, choice[i]) + (r - 1)])
+        .sum()
 }
 
 // The same in each resource: of uses the sums that a draft keeps, of shares those that the surpluses need.

@@ -1,8 +1,8 @@
 // The shares of a table, in ten-thousandths of the limits: a lent array with the places of uses.
-ghost use Rattle.std.specs.Prelude.{◌≡◌, ℕ, ◌+◌, ◌-◌, ◌≤◌, get_or, length};
+ghost use Rattle.std.specs.Prelude.{◌≡◌, ℕ, ◌+◌, ◌-◌, ◌^◌, ◌<◌, ◌≤◌, get_or, length};
 ghost use Rattle.rules.specs.District.{most_resources};
 ghost use Rattle.tables.specs.Arrays.{use_entries, Cell};
-ghost use Rattle.phase1.specs.Reduce.{share_at, ShareMove};
+ghost use Rattle.phase1.specs.Reduce.{share_at};
 
 use rules::places::MOST_RESOURCES;
 use tables::{Move, USE_ENTRIES, row_of, shift};
@@ -11,17 +11,6 @@ use tables::{Move, USE_ENTRIES, row_of, shift};
 pub struct ShareTable<'a> {
     pub entries: &'a [u64; USE_ENTRIES],
     pub ghost places: { length entries.now ≡ use_entries },
-}
-
-impl<'a> ShareTable<'a> {
-    // The shares of strategy j on segment i, one for each resource.
-    pub(crate) fn row(self, i: usize, j: usize) -> &'a [u64]
-        requires { Cell i j }
-        ensures len { length result.now ≡ most_resources }
-        ensures shares { (r : ℕ) → 1 ≤ r → r ≤ most_resources → get_or result.now (r - 1) 0 ≡ share_at self.entry.entries.now i j r }
-    {
-        row_of(self.entries, i, j)
-    }
 }
 
 // A table of shares with the sums of a programme's, one for each resource.
@@ -35,13 +24,13 @@ impl Summed<'_> {
     // The sums go along where a segment that has strategy x makes the move.
     pub(crate) fn give(&mut self, resources: usize, x: usize, m: Move)
         requires cells { (resources ≤ most_resources) × Cell m.0 x × Cell m.0 m.1 }
-        requires moves { (r : ℕ) → 1 ≤ r → r ≤ resources → ShareMove self.old.shares.entries.now self.old.sums m.0 x m.1 r }
+        requires moves { (r : ℕ) → 1 ≤ r → r ≤ resources → (share_at self.old.shares.entries.now m.0 x r ≤ get_or self.old.sums (r - 1) 0) × (get_or self.old.sums (r - 1) 0 + share_at self.old.shares.entries.now m.0 m.1 r < 2 ^ 64) }
         ensures same_shares { self.new.shares ≡ self.old.shares }
         ensures sums { (r : ℕ) → 1 ≤ r → r ≤ resources → get_or self.new.sums (r - 1) 0 + share_at self.old.shares.entries.now m.0 x r ≡ get_or self.old.sums (r - 1) 0 + share_at self.old.shares.entries.now m.0 m.1 r }
     {
         let Move(i, j) = m;
-        let less = self.shares.row(i, x);
-        let more = self.shares.row(i, j);
+        let less = row_of(self.shares.entries, i, x);
+        let more = row_of(self.shares.entries, i, j);
         shift(&mut self.sums[..resources], less, more);
     }
 }

@@ -9,7 +9,7 @@ ghost use Rattle.phase1.specs.Views.{SharesIn};
 
 use crate::shares::Summed;
 use rules::places::MOST_RESOURCES;
-use tables::Planning;
+use tables::{Planning, row_of};
 
 // A segment with its ratio.
 #[derive(Clone, Copy)]
@@ -72,7 +72,8 @@ impl Weighed<'_> {
         requires le_i { (1 ≤ i) × (i ≤ self.now.planning.now.t.size.segments) }
         ensures { result ≡ pull (table_in self.now.planning.now.t) self.now.planning.now.draft.choice i }
     {
-        let row = self.summed.shares.row(i, self.planning.draft.choice[i - 1]);
+        let shares = self.summed.shares;
+        let row = row_of(shares.entries, i, self.planning.draft.choice[i - 1]);
         pull_by(self.planning.t.size.resources, row, over)
     }
 

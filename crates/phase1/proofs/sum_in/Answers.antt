@@ -1,20 +1,32 @@
--- `phase1::sum_in` meets its contract: the sum so far is that of the segments passed.
-use Prim.Native.Nat.{◌+◌}
-use native.Mathlib.Omega.{arith}
-use Rattle.base.proofs.Sums.{sum_none, sum_next}
+-- `phase1::sum_in` meets its contract: the sum fits.
+use Rattle.std.proofs.Common.{rules, ◌+◌, ◌^◌, arith, ◌∙◌}
+use Rattle.std.proofs.lemmas.Iterator.{serves_from_Range, YieldsList-from_range, YieldsList-from_map}
+use Rattle.std.proofs.lemmas.Iterator.Consumers.{sum_from_yields_List, fits_from_yields_list}
+use Rattle.tables.proofs.Arrays.{range_sum}
 use Rattle.phase1.specs.Reduce.{held_share}
-use Rattle.phase1.proofs.Pulls.{first_all, first_share, summable_le}
+use Rattle.phase1.proofs.Pulls.{cell_held, sums_le}
 use Rattle.phase1.proofs.sum_in.Goals as goal
 
-pub loop-i-init : goal.loop-i-init
-loop-i-init c = sum_none _
+pub sum-requires-clause-can : goal.sum-requires-clause-can
+sum-requires-clause-can c =
+    let p = c.requires in (
+      tt,
+      serves_from_Range (λ x q e. search rules) (λ x from under. let cell = cell_held p.summable x (search rules) in search rules),
+    )
 
-pub overflow_add-all-in-loop-i-2 : goal.overflow_add-all-in-loop-i-2
-overflow_add-all-in-loop-i-2 c =
-    let l = c.loop-i in
+pub sum-requires-clause-fits : goal.sum-requires-clause-fits
+sum-requires-clause-fits c =
     let p = c.requires in
-    let more = sum_next l.i (held_share c.args.entries.now c.args.choice.now c.args.r) l.invariant in
-    omega (arith, first_share p.summable l.i (omega arith) c.args.r, summable_le p.summable c.args.r p.le_r.0 p.le_r.1 (l.i + 1) (omega (arith, first_all p.summable)))
+    let n = c.args.z.segments in
+    let each = held_share c.args.entries.now c.args.choice.now c.args.r in
+    fits_from_yields_list c.map.result (2 ^ 64)
+    (YieldsList-from_map _ (λ k. each (k + 1)) (YieldsList-from_range 0 n n c.map.ensures.source (omega arith)) c.map.ensures.closure (λ x r q k. search rules))
+    (omega (arith, range_sum n each, sums_le p.summable c.args.r p.le_r.0 p.le_r.1))
 
-pub loop-i-preserved : goal.loop-i-preserved
-loop-i-preserved c = rw (first_share c.requires.summable c.loop-i.i (omega arith) c.args.r) (sum_next _ _ c.loop-i.invariant)
+pub returns : goal.returns
+returns c =
+    let n = c.args.z.segments in
+    let each = held_share c.args.entries.now c.args.choice.now c.args.r in
+    sum_from_yields_List c.map.result c.sum.result c.sum.ensures.ran
+    (YieldsList-from_map _ (λ k. each (k + 1)) (YieldsList-from_range 0 n n c.map.ensures.source (omega arith)) c.map.ensures.closure (λ x r q k. search rules))
+    ∙ range_sum n each

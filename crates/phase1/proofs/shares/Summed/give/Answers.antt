@@ -1,12 +1,14 @@
 -- `phase1::Summed::give` meets its contract.
-use native.Mathlib.Omega.{arith}
-use Rattle.phase1.proofs.Pulls.{shares_shiftable, shares_shifted}
+use Rattle.std.proofs.Common.{rules}
+use Rattle.tables.proofs.Shifts.{shiftable, shifted_are}
 use Rattle.phase1.proofs.shares.Summed.give.Goals as goal
 
 pub shift-requires : goal.shift-requires
-shift-requires c = let p = c.requires in shares_shiftable p.cells.0 (omega arith) p.moves c.row-less.ensures.len c.row-more.ensures.len c.row-less.ensures.shares c.row-more.ensures.shares
+shift-requires c =
+    let p = c.requires in
+    shiftable _ p.cells.0 _ _ _ (search rules) c.row_of-less.ensures.len c.row_of-more.ensures.len c.row_of-less.ensures.numbers c.row_of-more.ensures.numbers p.moves
 
 pub returns-clause-sums : goal.returns-clause-sums
 returns-clause-sums c =
     let p = c.requires in
-    shares_shifted p.cells.0 (omega arith) p.moves c.row-less.ensures.len c.row-more.ensures.len c.row-less.ensures.shares c.row-more.ensures.shares c.shift.ensures
+    shifted_are _ p.cells.0 _ _ _ (search rules) c.row_of-less.ensures.len c.row_of-more.ensures.len c.row_of-less.ensures.numbers c.row_of-more.ensures.numbers c.shift.ensures
