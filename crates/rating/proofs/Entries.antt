@@ -61,19 +61,15 @@ module _ (d : District) (i j r : ℕ) where
   unfolding area_in usage_in
   usage_some e p q = rw (e, le-leb 1 r p, le-leb r (resources_of d) q) (usage_of d i j r (has_in d i j e).1.0)
 
-pub area_in_le : (d : District) (i j : ℕ) {m : ℕ} → area d i ≤ m → area_in d i j ≤ m
-unfolding area_in
-area_in_le d i j {m} h = go (has d i j)
-  where
-    go : (t : Bool) → pick t (area d i) 0 ≤ m
-    go true = h
-    go false = omega arith
-
 -- ---- how large the entries of a district in range can be, wherever they stand
 
 pick_le : (t : Bool) (x : ℕ) {m : ℕ} → (t ≡ true → x ≤ m) → pick t x 0 ≤ m
 pick_le true x h = h refl
 pick_le false x h = omega arith
+
+pub area_in_le : (d : District) (i j : ℕ) {m : ℕ} → area d i ≤ m → area_in d i j ≤ m
+unfolding area_in
+area_in_le d i j h = pick_le (has d i j) (area d i) (λ _. h)
 
 module _ (d : District) (ok : Ranges d) where
   -- what the district has is within the format's counts

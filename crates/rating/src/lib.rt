@@ -25,6 +25,9 @@ const PAVEMENT: usize = 0;
 
 // ---- what stands at its places
 
+// A reader for each run, which names it: its first place and its width are constants of the rules, and one reader for all would
+// take both as parameters.
+
 pub fn limit_at(d: &District, r: usize) -> usize
     requires { Resource r }
     ensures { result ≡ value_at d.now (limit_place r) }
@@ -83,7 +86,7 @@ fn has(d: &District, i: usize, j: usize) -> bool
     requires { Segment i }
     ensures { result ≡ has d.now i j }
 {
-    i <= d[SEGMENT_COUNT] && 1 <= j && j <= d[STRATEGY_COUNT]
+    i <= d[SEGMENT_COUNT] && (1..=d[STRATEGY_COUNT]).contains(&j)
 }
 
 // Whether a rating in millionths reaches what is required in whole points.
@@ -104,7 +107,8 @@ pub struct Ranged<'a> {
 }
 
 impl Ranged<'_> {
-    // The sum of what each distress type gives. A loop: the library says of a signed `sum` nothing about its bound.
+    // The sum of what each distress type gives. A loop: the library gives a `sum` of signed numbers as a fold of its own, and has
+    // no lemma that bounds it, as it has for `sum` of the others.
     fn over_distresses<F: Fn(usize) -> i64>(&self, term: F) -> i64
         requires callable { (k : ℕ) → Distress k → F.pre term k }
         requires small { (k : ℕ) (z : ℤ) → Distress k → F.post term k z → nat_abs z ≤ 1000000000 }
@@ -163,7 +167,7 @@ impl<'a> Treatment<'a> {
         let current = segment_at(self.ranged.district, self.segment, RATINGS + (k - 1));
         let left = greatest_at(self.ranged.district, k) - current;
         let lowest = -(current as i64);
-        lowest.max(own.min(left as i64))
+        own.clamp(lowest, left as i64)
     }
 
     // What is left of it in year t, in millionths.
@@ -256,7 +260,7 @@ impl<'a> Treatment<'a> {
         segment_at(self.ranged.district, self.segment, PAVEMENT)
     }
 
-    // The rating in year t, in millionths, g being the gain.
+    // The rating in year t, in millionths, g being the gain: it is handed on, since it is found once for all years.
     fn rating(&self, k: usize, t: usize, g: i64) -> i64
         requires { Distress k × Year t × (g ≡ gain self.now.ranged.district.now self.now.segment self.now.strategy k) }
         ensures { result ≡ rating self.now.ranged.district.now self.now.segment self.now.strategy k t }
@@ -377,7 +381,7 @@ impl<'a> Ranged<'a> {
     }
 
     // The use of resource r, where a is the area that strategy j treats: it stands for the treatment, since it is found once for
-    // all resources.
+    // all resources. The product is that of Treatment::usage: one function of both would be the product and nothing else.
     pub fn usage_in(&self, j: usize, r: usize, a: u64) -> u64
         requires { Resource r × Treats self.now.district.now j a }
         ensures { (i : ℕ) → a ≡ area_in self.now.district.now i j → result ≡ usage_in self.now.district.now i j r }

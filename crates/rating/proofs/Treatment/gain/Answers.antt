@@ -6,6 +6,8 @@ use lib.IntN.{pos, neg_ℤ, ◌-ℤ◌, +ℤ_idl}
 use mir.Syntax.{w64}
 use mir.Val.{to_z, of_z}
 use mir.Facts.{to_z_pos, to_z-of_z}
+use Rattle.std.specs.Int.{int_min}
+use Rattle.std.proofs.lemmas.Int.{ints}
 use Rattle.base.specs.Over.{min_z, max_z}
 use Rattle.base.proofs.Integers.{abs_neg, told, sfits_abs, pos_minus}
 use Rattle.rules.specs.District.{gain_of, greatest_of, rating_of}
@@ -13,7 +15,7 @@ use Rattle.rules.specs.Rating.{capped_gain, gain}
 use Rattle.rating.proofs.Least.{least, greatest}
 use Rattle.rating.proofs.Places.{rating_is}
 use Rattle.rating.proofs.Treatment.gain.Goals as goal
-use Rattle.rating.proofs.Treatment.gain.Goals.{After-own_gain-own, After-greatest_at, After-min}
+use Rattle.rating.proofs.Treatment.gain.Goals.{After-own_gain-own, After-greatest_at}
 
 small : (c : After-greatest_at) → c.greatest_at.result ≤ 50
 unfolding greatest_of
@@ -37,12 +39,6 @@ left c =
     to_z_pos w64 (omega (arith, small c))
     ∙ sym (pos_minus _ _ (overflow_sub-left c))
     ∙ ap₂ (λ a b. pos a -ℤ pos b) c.greatest_at.ensures (rating_is c.args.self.now.ranged.district.now c.args.self.now.segment c.args.k c.segment_at-current.ensures)
-
-capped : (c : After-min) →
-    let s = c.args.self.now in
-    to_z w64 (of_z w64 c.min.result) ≡ capped_gain s.ranged.district.now s.segment s.strategy c.args.k
-unfolding capped_gain
-capped c = told w64 c.min.type_inv (c.min.ensures.value ∙ least _ _ ∙ ap₂ min_z (own (goal.at.After-min c).After-own_gain-own) (left (goal.at.After-min c).After-greatest_at))
 
 current-small : (c : After-greatest_at) → c.segment_at-current.result ≤ 50
 current-small c = omega (arith, small c, overflow_sub-left c)
@@ -69,10 +65,20 @@ lowest c =
     ∙ minus c
     ∙ ap (λ v. neg_ℤ (pos v)) (rating_is c.args.self.now.ranged.district.now c.args.self.now.segment c.args.k c.segment_at-current.ensures)
 
+-- the loss of all is no more than what is left
+pub clamp-requires : goal.clamp-requires
+clamp-requires c =
+    let b = (goal.at.clamp-requires c).After-greatest_at in
+    rw (lowest b, to_z_pos w64 {n = c.greatest_at.result - c.segment_at-current.result} (omega (arith, small b))) (omega (arith, ints))
+
+capped : (c : After-greatest_at) →
+    let s = c.args.self.now in
+    int_min (to_z w64 (of_z w64 c.own_gain-own.result)) (to_z w64 (c.greatest_at.result - c.segment_at-current.result)) ≡ capped_gain s.ranged.district.now s.segment s.strategy c.args.k
+unfolding capped_gain
+capped c = least _ _ ∙ ap₂ min_z (own (goal.at.After-greatest_at c).After-own_gain-own) (left c)
+
 pub returns : goal.returns
 unfolding gain
 returns c =
-    told w64 c.max.type_inv
-    (c.max.ensures.value
-    ∙ greatest _ _
-    ∙ ap₂ max_z (lowest (goal.at.returns c).After-greatest_at) (capped (goal.at.returns c).After-min))
+    let b = (goal.at.returns c).After-greatest_at in
+    told w64 c.clamp.type_inv (c.clamp.ensures.value ∙ greatest _ _ ∙ ap₂ max_z (lowest b) (capped b))
