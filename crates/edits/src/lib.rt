@@ -2,22 +2,33 @@
 // and any value of the type, so that no call relies on a check made before it.
 #![tactic(auto)]
 
-ghost use Rattle.std.specs.Prelude.{◌≡◌, ◌+◌, ◌-◌, ◌<◌, get_or, set, Ok, Err};
+ghost use Rattle.std.specs.Prelude.{◌≡◌, ◌+◌, ◌-◌, ◌*◌, ℕ, min, get_or, set, Ok, Err};
 ghost use Rattle.base.specs.Bits.{set_bit, clear_bit};
 ghost use Rattle.base.specs.Choice.{pick};
 ghost use Rattle.base.specs.Over.{between};
+ghost use Rattle.edits.specs.Places.{usize_max};
 ghost use Rattle.rules.specs.Answers.{refusal_in};
 ghost use Rattle.rules.specs.Calls.{bar_refusal, limit_refusal, rating_refusal, leader_refusal, edit_refusal, edited};
-ghost use Rattle.rules.specs.District.{per_segment, segment_place, greatest_of, bars_of, with_limit, with_bar, without_bar, with_rating, with_leader, fresh_district};
+ghost use Rattle.rules.specs.District.{segment_place, bars_place, greatest_of, bars_of, with_limit, with_bar, without_bar, with_rating, with_leader, fresh_district};
 
 use rules::places::*;
 use rules::{District, Edit, Refusal};
 
-// The place of the `n`-th of a row, where the first is 1.
-fn place(n: usize) -> usize
-    ensures { result ≡ n - 1 }
+// The place of the `n`-th from `start` on, where the first is 1. For any numbers: a place that saturates is past the last.
+fn nth_from(start: usize, n: usize) -> usize
+    ensures { result ≡ min (start + (n - 1)) usize_max }
 {
-    n.saturating_sub(1)
+    start.saturating_add(n.saturating_sub(1))
+}
+
+// The place of a number of a segment, `at` its place in the segment.
+fn place_in(segment: usize, at: usize) -> usize
+    ensures { result ≡ min (segment_place segment + at) usize_max }
+{
+    PER_SEGMENT
+        .saturating_mul(segment.saturating_sub(1))
+        .saturating_add(SEGMENTS)
+        .saturating_add(at)
 }
 
 // The number at a place, 0 past the last.
@@ -35,17 +46,6 @@ fn set_value(d: &mut District, at: usize, value: usize)
     // With `get_mut` it was tried: what a write through its reference leaves did not close.
     if at < DISTRICT_PLACES {
         d[at] = value;
-    }
-}
-
-// The same at a place of a segment; there is none past the last segment.
-#[tactic(auto, using(crate::proofs::Places::past_set))]
-fn set_in_segment(d: &mut District, segment: usize, at: usize, value: usize)
-    requires { at < per_segment }
-    ensures { d.new ≡ set d.old (segment_place segment + at) value }
-{
-    if segment <= MOST_SEGMENTS {
-        set_value(d, SEGMENTS + PER_SEGMENT * place(segment) + at, value);
     }
 }
 
@@ -70,31 +70,25 @@ fn check_limit(d: &District, resource: usize, limit: usize) -> Result<(), Refusa
     ensures { refusal_in result ≡ limit_refusal d.now resource limit }
 {
     one_to(resource, d[RESOURCE_COUNT], Refusal::NoSuchNumber)?;
-    let field = grammar::limit_field(d, place(resource));
+    let field = grammar::limit_field(d, resource - 1);
     refuse_unless(grammar::is_inside(field, limit), Refusal::NewOutOfRange)
 }
 
-#[tactic(auto, using(crate::proofs::Places::past_set))]
+#[tactic(auto, using(crate::proofs::Places::capped_set))]
 fn set_limit(d: &mut District, resource: usize, limit: usize)
     ensures { d.new ≡ with_limit d.old resource limit }
 {
-    if resource <= DISTRICT_PLACES {
-        set_value(d, LIMITS + place(resource), limit);
-    }
+    set_value(d, nth_from(LIMITS, resource), limit);
 }
 
 // ---- ratings
 
 // The greatest rating of a distress.
-#[tactic(auto, using(crate::proofs::Places::past), unfolding(rules::specs::District::greatest_of))]
+#[tactic(auto, using(crate::proofs::Places::capped_get), unfolding(rules::specs::District::greatest_of))]
 fn greatest_of(d: &District, distress: usize) -> usize
     ensures { result ≡ greatest_of d.now distress }
 {
-    if distress <= DISTRICT_PLACES {
-        value_at(d, GREATEST + place(distress))
-    } else {
-        0
-    }
+    value_at(d, nth_from(GREATEST, distress))
 }
 
 #[tactic(auto, using(crate::proofs::Places::rating_inside))]
@@ -106,14 +100,12 @@ fn check_rating(d: &District, segment: usize, distress: usize, rating: usize) ->
     refuse_unless(rating <= greatest_of(d, distress), Refusal::NewOutOfRange)
 }
 
-#[tactic(auto, using(crate::proofs::Places::past_set))]
+#[tactic(auto, using(crate::proofs::Places::capped_set))]
 fn set_rating(d: &mut District, segment: usize, distress: usize, rating: usize)
     ensures { d.new ≡ with_rating d.old segment distress rating }
 {
-    if segment <= MOST_SEGMENTS && distress <= DISTRICT_PLACES {
-        let ratings = SEGMENTS + PER_SEGMENT * place(segment) + RATINGS;
-        set_value(d, ratings + place(distress), rating);
-    }
+    let ratings = place_in(segment, RATINGS);
+    set_value(d, nth_from(ratings, distress), rating);
 }
 
 // ---- bars
@@ -142,29 +134,21 @@ fn clear_bit(mask: usize, n: usize) -> usize
 }
 
 // The bars of a segment; none where there is no such segment.
-#[tactic(auto, using(crate::proofs::Places::past), unfolding(rules::specs::District::bars_of))]
+#[tactic(auto, using(crate::proofs::Places::capped_get), unfolding(rules::specs::District::bars_of))]
 fn bars_of(d: &District, segment: usize) -> usize
     ensures { result ≡ bars_of d.now segment }
 {
-    if segment <= MOST_SEGMENTS {
-        value_at(d, SEGMENTS + PER_SEGMENT * place(segment) + BARS)
-    } else {
-        0
-    }
+    value_at(d, place_in(segment, BARS))
 }
 
-fn bar(d: &mut District, segment: usize, strategy: usize)
-    ensures { d.new ≡ with_bar d.old segment strategy }
+// The segment with bars that are made of the ones it has.
+#[tactic(auto, using(crate::proofs::Places::capped_set))]
+fn change_bars<F: FnOnce(usize) -> usize>(d: &mut District, segment: usize, change: F)
+    requires { F.pre change (bars_of d.old segment) }
+    ensures { (bars : ℕ) → ((x : ℕ) → F.post change (bars_of d.old segment) x → x ≡ bars) → d.new ≡ set d.old (bars_place segment) bars }
 {
-    let bars = set_bit(bars_of(d, segment), place(strategy));
-    set_in_segment(d, segment, BARS, bars);
-}
-
-fn unbar(d: &mut District, segment: usize, strategy: usize)
-    ensures { d.new ≡ without_bar d.old segment strategy }
-{
-    let bars = clear_bit(bars_of(d, segment), place(strategy));
-    set_in_segment(d, segment, BARS, bars);
+    let bars = change(bars_of(d, segment));
+    set_value(d, place_in(segment, BARS), bars);
 }
 
 // ---- leaders
@@ -176,10 +160,11 @@ fn check_leader(d: &District, segment: usize, leader: usize) -> Result<(), Refus
     refuse_unless(leader < segment, Refusal::LeaderNotBelow)
 }
 
+#[tactic(auto, using(crate::proofs::Places::capped_set))]
 fn set_leader(d: &mut District, segment: usize, leader: usize)
     ensures { d.new ≡ with_leader d.old segment leader }
 {
-    set_in_segment(d, segment, LEADER, leader);
+    set_value(d, place_in(segment, LEADER), leader);
 }
 
 // ---- any edit
@@ -199,8 +184,8 @@ pub fn edit(d: &mut District, e: Edit)
     ensures { d.new ≡ edited d.old e }
 {
     match e {
-        Edit::Bar(i, j) => bar(d, i, j),
-        Edit::Unbar(i, j) => unbar(d, i, j),
+        Edit::Bar(i, j) => change_bars(d, i, |bars| set_bit(bars, j.saturating_sub(1))),
+        Edit::Unbar(i, j) => change_bars(d, i, |bars| clear_bit(bars, j.saturating_sub(1))),
         Edit::SetLimit(r, limit) => set_limit(d, r, limit),
         Edit::SetRating(i, k, rating) => set_rating(d, i, k, rating),
         Edit::SetLeader(i, leader) => set_leader(d, i, leader),
