@@ -1,14 +1,12 @@
 -- Shares, surpluses and pulls that arrays hold, and the weakest segment by them.
-use Prim.Native.Nat.{ℕ, zero, suc, ◌+◌, ◌-◌, ◌*◌, ◌/◌, ◌^◌, ◌≤◌, ◌<◌}
+use Prim.Native.Nat.{ℕ, zero, suc, ◌+◌, ◌-◌, ◌*◌, ◌^◌, ◌≤◌, ◌<◌}
 use mathlib.Core.Path.{◌≡◌, refl, ap, sym, ◌∙◌}
 use mathlib.Core.Bool.{Bool, true, false, false≢true}
 use mathlib.Core.List.{List, [], map}
-use Rattle.std.specs.Prelude.{Option, None, Some}
-use Rattle.std.specs.Option.{option_map}
 use Rattle.std.proofs.Common.{IsTrue, ◌↔◌}
 use native.Mathlib.Nat.{mul-le-mul}
 use native.Mathlib.Omega.{arith}
-use borrow.Author.Tests.{lt-ltb, le-ltb, le-leb, lt-leb, leb-true}
+use borrow.Author.Tests.{le-leb, lt-leb, leb-true}
 use lib.ListN.{get_or, length, take, length-take}
 use lib.Seq.{get_or-take}
 use Rattle.std.specs.Bool.{MatchBool}
@@ -17,20 +15,17 @@ use Rattle.std.proofs.lemmas.List.{take_all, get_or_default}
 use Rattle.std.proofs.lemmas.List.Sums.{sum_by_more, sum-map}
 use native.Mathlib.Numerals.{add-one}
 use Rattle.std.proofs.lemmas.Slice.Zip.{length-zip, get_or-zip}
-use Rattle.base.specs.Over.{sum, best}
+use Rattle.base.specs.Over.{sum}
 use Rattle.base.proofs.Choice.{pick_all}
 use Rattle.base.proofs.Sums.{sum_part, sum_bound, sum_cong}
-use Rattle.base.proofs.Best.{best_next, better_passed, better_first, better_taken, better_worse}
 use Rattle.rules.specs.District.{most_segments, most_resources}
-use Rattle.rules.specs.Table.{Table}
-use Rattle.rules.specs.Phases.{strategy_at, give, chosen_benefit, chosen_usage, used, holds, within, chosen_share, surplus, pull_by, pull, pulls, ratio, lesser_ratio, weakest}
+use Rattle.rules.specs.Phases.{strategy_at, give, chosen_usage, used, holds, within, chosen_share, surplus, pull_by, pull}
 use Rattle.laws.proofs.Give.{given, sum_give}
 use Rattle.tables.specs.declared.Size.{Size}
 use Rattle.tables.specs.Arrays.{use_entry, limit_at, tables, Uses, Limits, Bounded, Chosen, Running, Cell}
 use Rattle.tables.proofs.Moves.{all_is}
 use Rattle.tables.proofs.Arrays.{limit_at_lem, usage_at_lem, cell_of}
-use Rattle.phase1.specs.declared.weighed.Weak.{Weak}
-use Rattle.phase1.specs.Reduce.{share_at, ShareSums, held_share, row_pull, Shares, Within, Summable, Measured, Surpluses, segment_in, weak_at, weaker_of, IsWeaker}
+use Rattle.phase1.specs.Reduce.{share_at, ShareSums, held_share, row_pull, Shares, Within, Summable, Measured, Surpluses}
 
 -- ---- bounds
 
@@ -224,73 +219,3 @@ module _ {z : Size} {s c held : List ℕ} (measured : Measured z s c) (are : Sha
   pub shares_moved : {v : List ℕ} → ((r : ℕ) → 1 ≤ r → r ≤ z.resources → get_or v (r - 1) 0 + share_at s i (strategy_at c i) r ≡ get_or held (r - 1) 0 + share_at s i a r) → ShareSums z s (give c i a) v
   shares_moved h =
       record { each = λ r lr hr. omega (arith, h r lr hr, are.each r lr hr, sum_give (tables z [] [] []) c i a li hi room (λ k j. share_at s k j r)) }
-
--- ---- the weaker of two: w stands for segment k, and segment i is compared with it
-
-module _ (t : Table) (c : List ℕ) where
-  weak_some : (i : ℕ) → 1 ≤ i → weak_at t c i ≡ Some (record { segment = i; ratio = ratio t c i })
-  weak_some zero l = absurd (omega arith)
-  weak_some (suc i) l = refl
-
-  weak_none : (k : ℕ) → None ≡ weak_at t c k → k ≡ 0
-  weak_none zero e = refl
-  weak_none (suc k) e = cc
-
-  weak_ratio : (k : ℕ) {w : Weak} → Some w ≡ weak_at t c k → (1 ≤ k) × (w.ratio ≡ ratio t c k)
-  weak_ratio zero e = cc
-  weak_ratio (suc k) {w} e =
-      let same : w ≡ record { segment = suc k; ratio = ratio t c (suc k) } = cc in
-      (omega arith, ap (λ (x : Weak). x.ratio) same)
-
-  module _ (i : ℕ) (low : 1 ≤ i) {p : ℕ} (pulled : p ≡ pull t c i) where
-    pub weak_idle : {w : Option Weak} → p ≡ 0 → IsWeaker t c i w w
-    unfolding pulls
-    weak_idle z k is = is ∙ ap (weak_at t c) (sym (better_passed (pulls t c) (lesser_ratio t c) k i (le-ltb 0 (pull t c i) (omega arith))))
-
-    -- where it pulls, with the ratio x
-    module _ {x v : ℕ} (divided : x ≡ v * 1_000_000 / p) (worth : v ≡ chosen_benefit t c i) (some : p ≡ 0 → ⊥) where
-      made : x ≡ ratio t c i
-      unfolding ratio
-      made = divided ∙ rw (worth, pulled)
-
-      passes : pulls t c i ≡ true
-      unfolding pulls
-      passes = lt-ltb 0 (pull t c i) (omega arith)
-
-      step_in : (k : ℕ) → weaker_of t c k i ≡ i → Some (record { segment = i; ratio = x }) ≡ weak_at t c (weaker_of t c k i)
-      step_in k e = rw (e, made) (sym (weak_some i low))
-
-      pub weak_first : IsWeaker t c i None (Some (record { segment = i; ratio = x }))
-      weak_first k is = step_in k (better_first (pulls t c) (lesser_ratio t c) k i passes (weak_none k is))
-
-      pub weak_taken : {w : Weak} → x < w.ratio → IsWeaker t c i (Some w) (Some (record { segment = i; ratio = x }))
-      unfolding lesser_ratio
-      weak_taken h k is =
-          let old = weak_ratio k is in
-          step_in k (better_taken (pulls t c) (lesser_ratio t c) k i passes old.0 (lt-ltb (ratio t c i) (ratio t c k) (omega (arith, made, old.1))))
-
-      pub weak_worse : {w : Weak} → w.ratio ≤ x → IsWeaker t c i (Some w) (Some w)
-      unfolding lesser_ratio
-      weak_worse h k is =
-          let old = weak_ratio k is in
-          is ∙ ap (weak_at t c) (sym (better_worse (pulls t c) (lesser_ratio t c) k i passes old.0 (le-ltb (ratio t c i) (ratio t c k) (omega (arith, made, old.1)))))
-
--- the weakest of the first n segments
-abbrev pub weakest_of : Table → List ℕ → ℕ → ℕ
-weakest_of t c n = best n (pulls t c) (lesser_ratio t c)
-
-module _ (t : Table) (c : List ℕ) where
-  pub weakest_none : None ≡ weak_at t c (weakest_of t c 0)
-  unfolding best
-  weakest_none = refl
-
-  pub weakest_next : (n : ℕ) {w : Option Weak} → w ≡ weak_at t c (weaker_of t c (weakest_of t c n) (n + 1)) → w ≡ weak_at t c (weakest_of t c (n + 1))
-  weakest_next n e = e ∙ ap (weak_at t c) (best_next n (pulls t c) (lesser_ratio t c) refl)
-
-  segment_of : (k : ℕ) → option_map (λ (w : Weak). w.segment) (weak_at t c k) ≡ segment_in k
-  segment_of zero = refl
-  segment_of (suc k) = refl
-
-  pub weakest_end : (n : ℕ) {w : Option Weak} → w ≡ weak_at t c (weakest_of t c n) → n ≡ t.segments → option_map (λ (w : Weak). w.segment) w ≡ segment_in (weakest t c)
-  unfolding weakest
-  weakest_end n e q = ap (option_map (λ (w : Weak). w.segment)) e ∙ segment_of (weakest_of t c n) ∙ ap (λ (m : ℕ). segment_in (weakest_of t c m)) q

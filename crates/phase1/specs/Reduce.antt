@@ -1,13 +1,13 @@
 -- What the steps of phase 1 read and keep: shares at the places of uses, surpluses, and the weakest segment so far.
 use Rattle.std.specs.Prelude.{ℕ, zero, suc, ◌-◌, ◌*◌, ◌^◌, ◌≤◌, ◌≡◌, List, Bool, ◌&&◌, ◌||◌, eqb, ltb, get_or, length}
 use Rattle.std.specs.Prelude.{Option, None, Some, MatchOption, false}
-use Rattle.base.specs.Over.{sum, best, better_of}
+use Rattle.base.specs.Choice.{pick}
+use Rattle.base.specs.Over.{sum, best}
 use Rattle.rules.specs.Table.{Table}
-use Rattle.rules.specs.Phases.{strategy_at, pruned, within, share, surplus, pulls, ratio, lesser_ratio, weakest, step}
+use Rattle.rules.specs.Phases.{strategy_at, pruned, within, share, surplus, pulls, ratio, weakest, step}
 use Rattle.laws.specs.Tables.{FitAlone, OfCandidates}
 use Rattle.tables.specs.declared.Size.{Size}
 use Rattle.tables.specs.Arrays.{use_entry, tables, leader_in, Bounded, Chosen, use_entries}
-use Rattle.phase1.specs.declared.weighed.Weak.{Weak}
 
 -- what an array at the places of uses holds for resource r of strategy j on segment i
 abbrev pub share_at : List ℕ → ℕ → ℕ → ℕ → ℕ
@@ -79,18 +79,9 @@ abbrev pub segment_in : ℕ → Option ℕ
 segment_in zero = None
 segment_in (suc i) = Some (suc i)
 
--- that segment with its ratio
-abbrev pub weak_at : Table → List ℕ → ℕ → Option Weak
-weak_at t c zero = None
-weak_at t c (suc i) = Some (record { segment = suc i; ratio = ratio t c (suc i) })
-
--- of segments k and i the one to step: i where it pulls and has the lesser ratio, or there is no k
-abbrev pub weaker_of : Table → List ℕ → ℕ → ℕ → ℕ
-weaker_of t c k i = better_of (pulls t c) (lesser_ratio t c) k i
-
--- whatever segment w stands for, v stands for the weaker of it and segment i
-abbrev pub IsWeaker : Table → List ℕ → ℕ → Option Weak → Option Weak → Type 0
-IsWeaker t c i w v = (k : ℕ) → w ≡ weak_at t c k → v ≡ weak_at t c (weaker_of t c k i)
+-- segment i's ratio, with its number; none where it does not pull
+abbrev pub ratio_at : Table → List ℕ → ℕ → Option (ℕ × ℕ)
+ratio_at t c i = pick (pulls t c i) (Some (ratio t c i, i)) None
 
 -- by falling benefit, of value and old, and among equals by number, j comes after a
 abbrev pub follows : ℕ → ℕ → ℕ → ℕ → Bool

@@ -4,19 +4,12 @@ ghost use Rattle.base.specs.Over.{sum};
 ghost use Rattle.rules.specs.District.{most_resources};
 ghost use Rattle.rules.specs.Phases.{within, surplus, pull, weakest};
 ghost use Rattle.tables.specs.Views.{table_in};
-ghost use Rattle.phase1.specs.Reduce.{ShareSums, Measured, Surpluses, IsWeaker, row_pull, segment_in};
+ghost use Rattle.phase1.specs.Reduce.{ShareSums, Measured, Surpluses, ratio_at, row_pull, segment_in};
 ghost use Rattle.phase1.specs.Views.{SharesIn};
 
 use crate::shares::Summed;
 use rules::places::MOST_RESOURCES;
 use tables::{Planning, row_of};
-
-// A segment with its ratio.
-#[derive(Clone, Copy)]
-struct Weak {
-    segment: usize,
-    ratio: u64,
-}
 
 // A table and a programme in the making, weighed by shares.
 #[derive(Clone, Copy)]
@@ -77,36 +70,30 @@ impl Weighed<'_> {
         pull_by(self.planning.t.size.resources, row, over)
     }
 
-    // The weaker of w and segment i: the one of the lesser ratio, of equals w; only a segment that pulls counts.
-    fn weaker(&self, over: &[u64; MOST_RESOURCES], w: Option<Weak>, i: usize) -> Option<Weak>
+    // The ratio of segment i, with its number; none where it does not pull.
+    fn ratio(&self, over: &[u64; MOST_RESOURCES], i: usize) -> Option<(u64, usize)>
         requires over { Surpluses (table_in self.now.planning.now.t) self.now.planning.now.draft.choice over.now }
         requires le_i { (1 ≤ i) × (i ≤ self.now.planning.now.t.size.segments) }
-        ensures { IsWeaker (table_in self.now.planning.now.t) self.now.planning.now.draft.choice i w result }
+        ensures { result ≡ ratio_at (table_in self.now.planning.now.t) self.now.planning.now.draft.choice i }
     {
         let pulled = self.pull(over, i);
         if pulled == 0 {
-            return w;
+            return None;
         }
         let Planning { t, draft } = self.planning;
         let benefit = t.benefits.chosen(&draft.choice, i);
-        let ratio = ratio_of(benefit, pulled);
-        match w {
-            Some(least) if least.ratio <= ratio => w,
-            _ => Some(Weak { segment: i, ratio }),
-        }
+        Some((ratio_of(benefit, pulled), i))
     }
 
-    // Of the segments that pull the one of least ratio, of equals the lowest. A loop over numbers: a method weighs the next segment,
-    // by its number, against the weakest so far, and a fold would carry the same.
+    // Of the segments that pull the one of least ratio, of equals the lowest.
     pub(crate) fn weakest(&self) -> Option<usize>
         ensures { result ≡ segment_in (weakest (table_in self.now.planning.now.t) self.now.planning.now.draft.choice) }
     {
         let over = self.surpluses();
-        let mut least = None;
-        for i in 0..self.planning.t.size.segments {
-            least = self.weaker(&over, least, i + 1);
-        }
-        least.map(|w| w.segment)
+        (0..self.planning.t.size.segments)
+            .filter_map(|i| self.ratio(&over, i + 1))
+            .min()
+            .map(|(_, i)| i)
     }
 }
 

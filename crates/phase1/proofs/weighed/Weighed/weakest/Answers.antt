@@ -1,17 +1,22 @@
--- `phase1::Weighed::weakest` meets its contract: the weakest so far is that of the segments passed.
-use native.Mathlib.Omega.{arith}
-use Rattle.phase1.proofs.Pulls.{weakest_none, weakest_next, weakest_end}
+-- `phase1::Weighed::weakest` meets its contract: the least of the ratios has the rules' segment.
+use Rattle.std.proofs.Common.{rules, ◌≡◌, ◌+◌, arith}
+use Rattle.std.specs.List.{reduce}
 use Rattle.std.proofs.lemmas.Grind.{common_steps}
+use Rattle.std.proofs.lemmas.Iterator.{YieldsList-from_range}
+use Rattle.std.proofs.lemmas.Iterator.Consumers.{YieldsList-from_filter_map, reduce_from_yields_List}
 use Rattle.tables.specs.Views.{table_in}
+use Rattle.phase1.specs.Reduce.{ratio_at}
+use Rattle.phase1.proofs.Weakest.{lesser, ratios, weakest_is}
 use Rattle.phase1.proofs.weighed.Weighed.weakest.Goals as goal
-
-pub loop-i-init : goal.loop-i-init
-loop-i-init c = weakest_none _ _
-
-pub loop-i-preserved : goal.loop-i-preserved
-loop-i-preserved c = weakest_next _ _ _ (c.weaker-least.ensures _ c.loop-i.invariant)
 
 pub returns : goal.returns
 returns c =
-    let e = weakest_end (table_in c.args.self.now.planning.now.t) c.args.self.now.planning.now.draft.choice _ c.loop-i.invariant (omega arith) in
+    let p = c.args.self.now.planning.now in
+    let t = table_in p.t in
+    let n = p.t.size.segments in
+    let least : c.min.result ≡ reduce lesser (ratios t p.draft.choice n) =
+    reduce_from_yields_List lesser c.filter_map.result c.min.result c.min.ensures.ran
+    (YieldsList-from_filter_map _ (λ k. ratio_at t p.draft.choice (k + 1)) (YieldsList-from_range 0 n n c.filter_map.ensures.source (omega arith)) c.filter_map.ensures.closure
+    (λ x r q k. search rules)) in
+    let e = weakest_is t p.draft.choice least in
     grind (arith, common_steps)
