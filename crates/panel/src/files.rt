@@ -75,8 +75,7 @@ fn put_letters(name: &mut [u8], word: [u8; LETTERS])
     ensures room { letters ≤ length name.old → name.new ≡ take (length name.old - letters) name.old ++ word }
     ensures short { length name.old < letters → name.new ≡ name.old }
 {
-    if name.len() >= LETTERS {
-        let at = name.len() - LETTERS;
+    if let Some(at) = name.len().checked_sub(LETTERS) {
         name[at..].copy_from_slice(&word);
     }
 }
@@ -100,20 +99,15 @@ fn make<R: Files + RandomSource>(rt: &R, name: &mut [u8]) -> io::Result<R::File>
     for _ in 0..MOST_NAMES {
         put_letters(name, random_letters(rt)?);
         match create(rt, name) {
-            Ok(file) => return Ok(file),
-            Err(e) => {
-                if e.kind() != ErrorKind::AlreadyExists {
-                    return Err(e);
-                }
-            }
+            Err(e) if e.kind() == ErrorKind::AlreadyExists => {}
+            made => return made,
         }
     }
     Err(io::Error::from(ErrorKind::AlreadyExists))
 }
 
 // After an `Ok` the bytes are on the disk. The file is closed either way.
-fn store<F: Write + OpenFile + Drop>(file: F, bytes: &[u8]) -> io::Result<()> {
-    let mut file = file;
+fn store<F: Write + OpenFile + Drop>(mut file: F, bytes: &[u8]) -> io::Result<()> {
     file.write_all(bytes)?;
     file.sync_all()
 }

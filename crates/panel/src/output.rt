@@ -40,9 +40,6 @@ impl<W: Drop> Output<W> {
     pub fn close(self) -> io::Result<()>
         ensures { OnOk result (self.failure ≡ None) }
     {
-        match self.failure {
-            None => Ok(()),
-            Some(e) => Err(e),
-        }
+        self.failure.map_or(Ok(()), Err)
     }
 }
