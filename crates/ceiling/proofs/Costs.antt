@@ -2,7 +2,7 @@
 use Prim.Native.Nat.{ℕ, zero, suc, ◌+◌, ◌-◌, ◌*◌, ◌^◌, ◌≤◌, ◌<◌, max, min}
 use mathlib.Core.Path.{◌≡◌, refl, sym, ◌∙◌}
 use mathlib.Core.Bool.{Bool, true, false}
-use mathlib.Core.List.{List, map}
+use mathlib.Core.List.{List}
 use native.Mathlib.Nat.{mul-le-mul, le_trans, sub-le, max-eq_left, min-eq_right, mul-div_cancel}
 use native.Mathlib.Omega.{arith}
 use borrow.Author.Tests.{lt-ltb, le-ltb, eqb-true, eqb-false}
@@ -10,8 +10,7 @@ use lib.Dec.{ltb, eqb}
 use native.Mathlib.Numerals.{add-one}
 use lib.ListN.{get_or, length, take, set, length-set}
 use lib.Seq.{get_or-set_same, get_or-set_other}
-use Rattle.std.specs.List.{sum as list_sum, range_with_len}
-use Rattle.std.proofs.lemmas.List.FromFn.{sum_by-map-range_with_len_more}
+use Rattle.std.specs.List.{sum as list_sum}
 use Rattle.std.proofs.lemmas.List.Sums.{sum_by_more}
 use Rattle.base.specs.Choice.{pick}
 use Rattle.base.specs.Over.{sum, most}
@@ -60,17 +59,14 @@ prices_sum p (suc n) h =
     let at : suc n - 1 ≡ n = omega arith in
     rw add-one at (sum_by_more (λ (x : ℕ). x) p n 0 (omega arith)) ∙ rw (prices_sum p n (omega arith), at)
 
--- and of what a range of numbers is taken to
-pub range_sum : (n : ℕ) (f : ℕ → ℕ) → list_sum (map (λ k. f (k + 1)) (range_with_len 0 n)) ≡ sum n f
-unfolding sum
-range_sum zero f = refl
-range_sum (suc n) f =
-    rw add-one at (sum_by-map-range_with_len_more (λ (x : ℕ). x) (λ (k : ℕ). f (k + 1)) 0 n n (omega arith)) ∙ rw (range_sum n f)
-
 pub list_small : {p : List ℕ} → Prices p → (n : ℕ) → n ≤ most_resources → list_sum (take n p) ≤ n * 2 ^ 41
 list_small {p} prices n few = omega (arith, prices_sum p n (omega (arith, prices.places)), prices_small prices n)
 
 -- ---- over arrays
+
+-- the strategy after the first j, on segment i
+pub inside : {z : Size} {i j : ℕ} → 1 ≤ i → i ≤ z.segments → j < z.strategies → In z i (j + 1)
+inside low high number = record { segment_from = low; segment_to = high; strategy_from = omega arith; strategy_to = omega arith }
 
 pub share_is : (z : Size) (b d : List ℕ) (i j r : ℕ) → down_share (priced_table z b d) i j r ≡ get_or d (use_entry i j r) 0
 unfolding down_share

@@ -1,17 +1,19 @@
 -- Laws of the price search: which price a step takes, and that prices stay below 2 ^ 41.
-use Prim.Native.Nat.{ℕ, zero, suc, ◌+◌, ◌-◌, ◌*◌, ◌^◌, ◌≤◌, ◌<◌, min}
+use Prim.Native.Nat.{ℕ, zero, suc, ◌+◌, ◌-◌, ◌*◌, ◌^◌, ◌≤◌, ◌<◌}
 use mathlib.Core.Path.{◌≡◌, refl, sym, ◌∙◌}
-use mathlib.Core.Bool.{◌&&◌}
+use mathlib.Core.Bool.{true, false, ◌&&◌}
 use mathlib.Core.List.{List}
 use native.Mathlib.Nat.{zero-mul}
 use native.Mathlib.Numerals.{add-one}
 use native.Mathlib.Omega.{arith}
-use borrow.Author.Tests.{lt-ltb, le-ltb, le-leb, lt-leb}
+use borrow.Author.Tests.{le-ltb, le-leb, lt-leb}
 use lib.Dec.{leb}
 use lib.ListN.{get_or, length, set, replicate, length-set, length-replicate}
 use lib.Pow.{pow_pos}
 use lib.Seq.{get_or-set_other}
+use Rattle.base.specs.Choice.{pick}
 use Rattle.base.proofs.Choice.{pick_all}
+use Rattle.base.proofs.Each.{each_replicate}
 use Rattle.base.specs.Over.{sum, most}
 use Rattle.base.proofs.Sums.{sum_cong, sum_zero, most_cong}
 use Rattle.rules.specs.District.{most_resources}
@@ -25,29 +27,18 @@ use Rattle.ceiling.specs.Prices.{priced_table, free, Prices, Costs, Headroom}
 -- ---- which case a step takes
 
 module _ (t : Table) (s : ℕ) (p : List ℕ) (r : ℕ) where
-  pub priced_up : ceiling_at t (raised p r s) < ceiling_at t p → raised p r s ≡ priced t s p r
+  pub priced_up : lowers t p (raised p r s) ≡ true → raised p r s ≡ priced t s p r
   unfolding priced
-  priced_up h = rw (lt-ltb (ceiling_at t (raised p r s)) (ceiling_at t p) h)
+  priced_up h = rw h
 
-  module _ (up : ceiling_at t p ≤ ceiling_at t (raised p r s)) where
+  module _ (up : lowers t p (raised p r s) ≡ false) where
     pub priced_low : price_at p r < s → p ≡ priced t s p r
     unfolding priced
-    priced_low l = rw (le-ltb (ceiling_at t (raised p r s)) (ceiling_at t p) up, lt-leb s (price_at p r) l)
+    priced_low l = rw (up, lt-leb s (price_at p r) l)
 
-    pub priced_down : s ≤ price_at p r → ceiling_at t (lowered p r s) < ceiling_at t p → lowered p r s ≡ priced t s p r
+    pub priced_down : s ≤ price_at p r → pick (lowers t p (lowered p r s)) (lowered p r s) p ≡ priced t s p r
     unfolding priced
-    priced_down l h = rw (le-ltb (ceiling_at t (raised p r s)) (ceiling_at t p) up, le-leb s (price_at p r) l, lt-ltb (ceiling_at t (lowered p r s)) (ceiling_at t p) h)
-
-    pub priced_same : s ≤ price_at p r → ceiling_at t p ≤ ceiling_at t (lowered p r s) → p ≡ priced t s p r
-    unfolding priced
-    priced_same l h = rw (le-ltb (ceiling_at t (raised p r s)) (ceiling_at t p) up, le-leb s (price_at p r) l, le-ltb (ceiling_at t (lowered p r s)) (ceiling_at t p) h)
-
--- what a trial says: x is the lower of the ceiling c at new prices and the present one
-pub min_lower : {x c present : ℕ} → x ≡ min c present → x < present → (x ≡ c) × (c < present)
-min_lower e l = omega arith
-
-pub min_higher : {x c present : ℕ} → x ≡ min c present → present ≤ x → present ≤ c
-min_higher e l = omega arith
+    priced_down l = rw (up, le-leb s (price_at p r) l)
 
 -- what holds of each outcome of a step holds of the step
 priced_all_lem : (P : List ℕ → Type 0) (t : Table) (s : ℕ) (p : List ℕ) (r : ℕ) → P (raised p r s) → P (lowered p r s) → P p → P (priced t s p r)
@@ -107,9 +98,7 @@ halved : (n : ℕ) → n < 41 → 2 ^ (41 - n) ≡ 2 * 2 ^ (40 - n)
 halved n h = let e : 41 - n ≡ suc (40 - n) = omega arith in rw e (omega arith)
 
 zeros : (n k : ℕ) → ◌≡◌ {A = ℕ} (get_or (replicate n 0) k 0) 0
-zeros zero k = refl
-zeros (suc n) zero = refl
-zeros (suc n) (suc k) = zeros n k
+zeros n = each_replicate (λ x. x ≡ 0) 0 n 0 refl refl
 
 -- before round n + 1 there is room for all the steps that are left
 after_raisable : (t : Table) (n : ℕ) → n ≤ 41 → Raisable (2 ^ 41) (2 ^ (41 - n)) 0 (prices_after t n)

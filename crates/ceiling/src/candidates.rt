@@ -1,9 +1,10 @@
 // What the search reads: the benefits of a table's candidates and their down-shares, each a lent array.
-ghost use Rattle.std.specs.Prelude.{◌≡◌, ◌+◌, ◌*◌, ◌-◌, ◌≤◌, ◌<◌, ◌^◌};
+ghost use Rattle.std.specs.Prelude.{◌≡◌, ◌+◌, ◌*◌, ◌-◌, ◌≤◌, ◌<◌, ◌^◌, get_or};
 ghost use Rattle.ceiling.specs.Prices.{Sized};
 
 use rules::places::MOST_RESOURCES;
-use tables::{COLUMNS, ENTRIES, Size, USE_ENTRIES, greatest};
+use tables::rows::entry;
+use tables::{ENTRIES, Size, USE_ENTRIES, greatest};
 
 #[derive(Clone, Copy)]
 pub(crate) struct Candidates<'a> {
@@ -13,7 +14,8 @@ pub(crate) struct Candidates<'a> {
     pub ghost sized: { Sized size benefits.now downs.now },
 }
 
-// A new price for a resource.
+// A new price for a resource. That the resource is the table's stays a clause: a ghost field can speak of the fields beside it
+// alone, and the table is another value.
 #[derive(Clone, Copy)]
 pub(crate) struct NewPrice {
     pub(crate) resource: usize,
@@ -23,9 +25,9 @@ pub(crate) struct NewPrice {
 }
 
 impl Candidates<'_> {
-    ghost use Rattle.rules.specs.Ceiling.{margin, ceiling_at};
-    ghost use Rattle.tables.specs.Arrays.{columns};
-    ghost use Rattle.ceiling.specs.Prices.{free, Costs, Prices};
+    ghost use Rattle.rules.specs.Ceiling.{cost, margin, ceiling_at};
+    ghost use Rattle.tables.specs.Arrays.{columns, entry};
+    ghost use Rattle.ceiling.specs.Prices.{free, In, Costs, Prices};
     ghost use Rattle.ceiling.specs.Views.{priced_in, repriced, CostsAt};
 
     // What segment i has left where all prices are 0: its greatest benefit.
@@ -45,6 +47,25 @@ impl Candidates<'_> {
             .sum()
     }
 
+    // What strategy j on segment i, a candidate, costs at the new price; `present` at the prices as they stand.
+    pub(crate) fn cost_at(
+        self,
+        prices: &[u64; MOST_RESOURCES],
+        present: u64,
+        new: NewPrice,
+        i: usize,
+        j: usize,
+    ) -> u64
+        requires prices { Prices prices.now × (new.resource ≤ self.size.resources) }
+        requires candidate { In self.size i j × (0 < get_or self.benefits.now (entry i j) 0) }
+        requires present { present ≡ cost (priced_in self) prices.now i j }
+        ensures { result ≡ cost (priced_in self.entry) (repriced prices.now new) i j }
+    {
+        let r = new.resource;
+        let share = self.downs[MOST_RESOURCES * entry(i, j) + (r - 1)];
+        moved(present, share, prices[r - 1], new.price)
+    }
+
     // The costs of segment i's candidates at the new price. A loop over numbers, as in the search's margin.
     fn reprice_segment(
         self,
@@ -58,13 +79,10 @@ impl Candidates<'_> {
         requires le_i { (1 ≤ i) × (i ≤ self.size.segments) }
         ensures { CostsAt self.entry (repriced prices.now new) prices.now (columns * i) costs.new }
     {
-        let r = new.resource;
-        let old = prices[r - 1];
         for j in 0..self.size.strategies {
-            let at = COLUMNS * (i - 1) + (j + 1);
+            let at = entry(i, j + 1);
             if self.benefits[at] > 0 {
-                let share = self.downs[MOST_RESOURCES * at + (r - 1)];
-                costs[at] = moved(costs[at], share, old, new.price);
+                costs[at] = self.cost_at(prices, costs[at], new, i, j + 1);
             }
         }
     }

@@ -2,15 +2,17 @@
 #![tactic(auto)]
 
 ghost use Rattle.std.specs.Prelude.{◌≡◌, ◌+◌, ◌*◌, ◌-◌, ◌≤◌, ◌<◌, ◌^◌, min};
+ghost use Rattle.base.specs.Choice.{pick};
 ghost use Rattle.base.specs.Over.{sum};
 ghost use Rattle.rules.specs.Table.{Table};
-ghost use Rattle.rules.specs.Ceiling.{price_at, margin, ceiling_at, priced, priced_all, ceiling};
+ghost use Rattle.rules.specs.Ceiling.{price_at, margin, ceiling_at, lowers, priced, priced_all, ceiling};
 ghost use Rattle.ceiling.specs.Prices.{Priced, Sized, Prices, Headroom, Standing};
 ghost use Rattle.ceiling.specs.Views.{priced_in, repriced};
 
 use candidates::{Candidates, NewPrice, moved};
 use rules::places::MOST_RESOURCES;
-use tables::{COLUMNS, ENTRIES, Size, USE_ENTRIES};
+use tables::rows::entry;
+use tables::{ENTRIES, Size, USE_ENTRIES};
 
 mod candidates;
 
@@ -42,15 +44,14 @@ impl Search<'_> {
         requires le_i { (1 ≤ i) × (i ≤ self.now.table.size.segments) }
         ensures { result ≡ margin (priced_in self.now.table) (repriced self.now.prices new) i }
     {
-        let r = new.resource;
-        let old = self.prices[r - 1];
         let mut best: u64 = 0;
         for j in 0..self.table.size.strategies {
-            let at = COLUMNS * (i - 1) + (j + 1);
+            let at = entry(i, j + 1);
             let benefit = self.table.benefits[at];
             if best < benefit {
-                let share = self.table.downs[MOST_RESOURCES * at + (r - 1)];
-                let cost = moved(self.costs[at], share, old, new.price);
+                let cost = self
+                    .table
+                    .cost_at(&self.prices, self.costs[at], new, i, j + 1);
                 best = best.max(benefit.saturating_sub(cost));
             }
         }
@@ -73,16 +74,21 @@ impl Search<'_> {
         total.min(self.ceiling)
     }
 
-    // The new price is taken, and with it the ceiling.
-    fn reprice(&mut self, new: NewPrice, ceiling: u64)
-        requires le_r { new.resource ≤ self.old.table.size.resources }
-        requires new_ceiling { ceiling ≡ ceiling_at (priced_in self.old.table) (repriced self.old.prices new) }
+    // The new price is taken where the ceiling is lower at it.
+    fn try_price(&mut self, new: NewPrice) -> bool
+        requires { new.resource ≤ self.old.table.size.resources }
         ensures same_table { self.new.table ≡ self.old.table }
-        ensures prices_after { self.new.prices ≡ repriced self.old.prices new }
+        ensures value { result ≡ lowers (priced_in self.old.table) self.old.prices (repriced self.old.prices new) }
+        ensures prices_after { self.new.prices ≡ pick result (repriced self.old.prices new) self.old.prices }
     {
+        let ceiling = self.trial(new);
+        if self.ceiling <= ceiling {
+            return false;
+        }
         self.table.reprice(&self.prices, &mut self.costs, new);
         self.prices[new.resource - 1] = new.price;
         self.ceiling = ceiling;
+        true
     }
 
     // Resource r at a step of the search: up, else down, else as it was.
@@ -97,22 +103,13 @@ impl Search<'_> {
             resource: r,
             price: old + step,
         };
-        let up = self.trial(raised);
-        if up < self.ceiling {
-            self.reprice(raised, up);
+        if self.try_price(raised) {
             return;
         }
-        if old < step {
+        let Some(price) = old.checked_sub(step) else {
             return;
-        }
-        let lowered = NewPrice {
-            resource: r,
-            price: old - step,
         };
-        let down = self.trial(lowered);
-        if down < self.ceiling {
-            self.reprice(lowered, down);
-        }
+        self.try_price(NewPrice { resource: r, price });
     }
 
     // A round of the search: each resource in order.
@@ -125,14 +122,6 @@ impl Search<'_> {
             self.price_one(step, r + 1);
         }
     }
-}
-
-// 2 to the power k.
-fn power(k: u32) -> u64
-    requires { k < 64 }
-    ensures { result ≡ 2 ^ k }
-{
-    1u64 << k
 }
 
 // The ceiling of every table with these benefits and down-shares.
@@ -152,7 +141,7 @@ pub fn ceiling_of(z: Size, benefits: &[u64; ENTRIES], downs: &[u64; USE_ENTRIES]
         ceiling: table.free_ceiling(),
     };
     for k in (0..41).rev() {
-        search.price_all(power(k));
+        search.price_all(2u64.pow(k));
     }
     search.ceiling
 }

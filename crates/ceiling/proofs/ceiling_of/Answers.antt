@@ -17,7 +17,7 @@ pub price_all-requires : goal.price_all-requires
 price_all-requires c =
     let k = c.loop-k.k in
     let e : k - 1 ≡ 40 - (41 - k) = omega arith in
-    after_room _ (41 - k) c.loop-k.invariant.1 (rw e at c.power.ensures) (omega arith)
+    after_room _ (41 - k) c.loop-k.invariant.1 (rw e at c.pow.ensures) (omega arith)
 
 pub loop-k-preserved : goal.loop-k-preserved
 loop-k-preserved c =
@@ -25,7 +25,7 @@ loop-k-preserved c =
     let new = c.price_all.ensures in
     let e : l.k - 1 ≡ 40 - (41 - l.k) = omega arith in
     let n : 41 - l.k + 1 ≡ 41 - (l.k - 1) = omega arith in
-    (new.same_table ∙ l.invariant.0, rw n at (after_next _ (41 - l.k) l.invariant.1 (rw e at c.power.ensures) (rw l.invariant.0 at new.prices_after)))
+    (new.same_table ∙ l.invariant.0, rw n at (after_next _ (41 - l.k) l.invariant.1 (rw e at c.pow.ensures) (rw l.invariant.0 at new.prices_after)))
 
 pub returns : goal.returns
 unfolding ceiling

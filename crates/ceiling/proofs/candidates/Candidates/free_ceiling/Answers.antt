@@ -5,7 +5,8 @@ use Rattle.std.proofs.lemmas.Iterator.Consumers.{sum_from_yields_List, fits_from
 use Rattle.rules.specs.Ceiling.{margin}
 use Rattle.ceiling.specs.Prices.{free}
 use Rattle.ceiling.specs.Views.{priced_in}
-use Rattle.ceiling.proofs.Costs.{range_sum, margins_small}
+use Rattle.tables.proofs.Arrays.{range_sum}
+use Rattle.ceiling.proofs.Costs.{margins_small}
 use Rattle.ceiling.proofs.Rounds.{free_ceiling_is}
 use Rattle.ceiling.proofs.candidates.Candidates.free_ceiling.Goals as goal
 
