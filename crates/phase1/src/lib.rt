@@ -1,5 +1,7 @@
 // Phase 1: each segment takes its top candidate; while some limit does not hold, the weakest segment steps down. A segment
-// whose leader has nothing has nothing.
+// whose leader has nothing has nothing. That segment i is the table's stays a clause of what takes an i: it is a number of a loop,
+// and a type for it would have to carry the table. The searches take a size and the benefits in place of a view of a table, since
+// start has no limits to make one.
 #![tactic(auto)]
 
 ghost use Rattle.std.specs.Prelude.{◌≡◌, Bool, false, List, ℕ, ◌≤◌, Some};
@@ -23,8 +25,8 @@ mod weighed;
 pub use shares::ShareTable;
 
 // The candidate of segment i with the greatest benefit, of equals the lowest, among those of which the test, of number and
-// benefit, holds; 0 where there is none, which is the number of nothing. A loop, since max_by_key would take the last of equals,
-// and a benefit of 0, and would make the test of each.
+// benefit, holds; 0 where there is none, which is the number of nothing. A loop, since a filter before the search for the greatest
+// would make the test of each candidate, and that of phase 2 is of every limit; here it is made of those alone that would lead.
 pub fn best_candidate<F: Fn(usize, u64) -> bool>(
     z: Size,
     benefits: BenefitTable<'_>,
@@ -114,14 +116,15 @@ fn last_led(segments: usize, leaders: LeaderList<'_>) -> usize
     ensures { LedWithin leaders.entry.entries.now segments result }
 {
     let entries = leaders.entries;
-    match entries[..segments].iter().rposition(|leader| *leader > 0) {
-        Some(i) => i + 1,
-        None => 0,
-    }
+    entries[..segments]
+        .iter()
+        .rposition(|leader| *leader > 0)
+        .map_or(0, |i| i + 1)
 }
 
 // Segment i takes its next candidate; where that leaves others without their leaders, they lose what they have in the same
-// step. The first `led` segments have all the leaders.
+// step. The first `led` segments have all the leaders. The facts of the shares and their sums are clauses here and in to_step
+// alone; a struct that held them would have to lend one part to be changed and both to be weighed.
 fn step(planning: &mut Planning<'_>, summed: &mut Summed<'_>, led: usize, i: usize)
     requires leaders { LedWithin planning.old.t.leaders.entries.now planning.old.t.size.segments led }
     requires held { HeldIn planning.old.t summed.old.shares.entries.now planning.old.draft.choice }

@@ -59,7 +59,8 @@ impl Weighed<'_> {
         over
     }
 
-    // The pull of segment i: the shares of its strategy times the surpluses.
+    // The pull of segment i: the shares of its strategy times the surpluses. These go along, as no field of the type: surplus, a
+    // method of it, makes them, and limits_hold is asked before they are there.
     fn pull(&self, over: &[u64; MOST_RESOURCES], i: usize) -> u64
         requires over { Surpluses (table_in self.now.planning.now.t) self.now.planning.now.draft.choice over.now }
         requires le_i { (1 ≤ i) × (i ≤ self.now.planning.now.t.size.segments) }

@@ -1,4 +1,5 @@
--- `phase1::pull_by` meets its contract: the chain's sum is the rules'.
+-- `phase1::pull_by` meets its contract: the chain's sum is the rules'. What the chain yields is written in both answers, since a
+-- lemma of it would have to name the closure.
 use Rattle.std.proofs.Common.{rules, ◌*◌, ◌^◌, ℕ, arith, refl, ◌∙◌}
 use lib.ListN.{take}
 use Rattle.std.proofs.lemmas.Iterator.{YieldsList-from_slice, YieldsList-from_zip, YieldsList-from_map}
