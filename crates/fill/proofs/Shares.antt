@@ -1,10 +1,12 @@
 -- The arrays of shares hold the table's shares, and a candidate's are at most 10,000.
 use Prim.Native.Nat.{ℕ, zero, suc, ◌+◌, ◌-◌, ◌*◌, ◌/◌, ◌%◌, ◌≤◌, ◌<◌}
-use mathlib.Core.Path.{◌≡◌, ap, ap₂, sym, ◌∙◌}
+use mathlib.Core.Path.{◌≡◌, refl, ap, ap₂, sym, ◌∙◌}
 use mathlib.Core.List.{List}
-use native.Mathlib.Nat.{div-zero, zero-div, zero-mul, div-lt_iff_lt-mul}
+use native.Mathlib.Nat.{div-zero, zero-div, zero-mul, div-lt_iff_lt-mul, le-div_iff_mul-le}
 use native.Mathlib.Omega.{arith}
 use lib.ListN.{get_or, length}
+use Rattle.std.specs.Int.{div_ceil}
+use Rattle.std.proofs.lemmas.Grind.{div_ceil_times}
 use Rattle.base.specs.Over.{divide_up}
 use Rattle.base.proofs.Listed.{listed_at, listed_length}
 use Rattle.rules.specs.Table.{Table}
@@ -12,25 +14,48 @@ use Rattle.rules.specs.Phases.{share}
 use Rattle.rules.specs.Ceiling.{down_share}
 use Rattle.laws.specs.Tables.{FitAlone}
 use Rattle.laws.proofs.Shares.{share_none}
-use Rattle.tables.specs.declared.Size.{Size}
-use Rattle.tables.specs.Arrays.{columns, use_entry, usage_at, limit_at, tables, Uses, Limits, Cell, use_entries}
+use Rattle.tables.specs.Arrays.{columns, use_entry, usage_at, limit_at, Uses, Limits, Cell, use_entries}
 use Rattle.tables.proofs.Arrays.{usage_at_lem, limit_at_lem}
 use Rattle.grammar.specs.Ranges.{Ranges}
 use Rattle.rules.specs.District.{District, segments_of, most_resources}
 use Rattle.fill.specs.Filled.{Filled}
 use Rattle.fill.proofs.Leaders.{leaders_are, leaders_held}
 use Rattle.fill.proofs.Tables.{uses_past, table_is, tabled, fit_alone}
-use Rattle.fill.specs.Lists.{size_of, leader_list, benefit_list, usage_list, limit_list, usage_entry, share_entry, share_list, down_share_entry, down_share_list}
+use Rattle.fill.specs.Lists.{size_of, leader_list, benefit_list, usage_list, limit_list, usage_entry, Quotient, share_entry, share_list}
 
-pub shares_length : (u l : List ℕ) → length (share_list u l) ≡ use_entries
-unfolding share_list
-shares_length u l = listed_length (share_entry u l) use_entries 0
+-- ---- both ways of rounding
 
-pub down_shares_length : (u l : List ℕ) → length (down_share_list u l) ≡ use_entries
-unfolding down_share_list
-down_shares_length u l = listed_length (down_share_entry u l) use_entries 0
+up_none : (b : ℕ) → divide_up 0 b ≡ 0
+unfolding share
+up_none b =
+    let t : Table = record { segments = 0; strategies = 0; resources = 0; benefit = λ _ _. 0; usage = λ _ _ _. 0; limit = λ _. b } in
+    share_none t 0 0 0 refl
 
-module _ (z : Size) (b u l : List ℕ) (uses : Uses u) (i j r : ℕ) (cell : Cell i j) (low : 1 ≤ r) (high : r ≤ most_resources) where
+-- the library's quotient rounded up is the rules'
+pub div_ceil_is : (a b : ℕ) → 0 < b → div_ceil a b ≡ divide_up a b
+div_ceil_is a b h =
+    let bounds = div_ceil_times a b h in
+    let high = (div-lt_iff_lt-mul {k = b} {x = a + (b - 1)} {y = div_ceil a b + 1} h).1 (omega arith) in
+    let low = (le-div_iff_mul-le {k = b} {x = div_ceil a b} {y = a + (b - 1)} h).1 (omega arith) in
+    omega arith
+
+pub rounded_up : Quotient divide_up
+rounded_up = record { of_none = up_none; by_none = λ a. div-zero (a + (0 - 1)) }
+
+pub rounded_down : Quotient ◌/◌
+rounded_down = record { of_none = zero-div; by_none = div-zero }
+
+module _ (q : ℕ → ℕ → ℕ) (u l : List ℕ) where
+  pub shares_length : length (share_list q u l) ≡ use_entries
+  unfolding share_list
+  shares_length = listed_length (share_entry q u l) use_entries 0
+
+  -- none of a use of 0
+  pub share_past : Quotient q → (n : ℕ) → get_or u n 0 ≡ 0 → share_entry q u l n ≡ 0
+  unfolding share_entry
+  share_past quotient n none = rw (none, zero-mul) (quotient.of_none (get_or l (n % most_resources) 0))
+
+module _ (u l : List ℕ) (uses : Uses u) (i j r : ℕ) (cell : Cell i j) (low : 1 ≤ r) (high : r ≤ most_resources) where
   place : ℕ
   place = use_entry i j r
 
@@ -51,36 +76,9 @@ module _ (z : Size) (b u l : List ℕ) (uses : Uses u) (i j r : ℕ) (cell : Cel
   unfolding place
   within = omega (arith, cell.low, cell.high, cell.number)
 
-  pub share_entry_lem : get_or (share_list u l) (use_entry i j r) 0 ≡ share (tables z b u l) i j r
-  unfolding place share_list share_entry share
-  share_entry_lem = listed_at use_entries 0 place (share_entry u l) within ∙ ap₂ (λ a m. divide_up (a * 10_000) m) use_here limit_here
-
-  pub down_share_entry_lem : get_or (down_share_list u l) (use_entry i j r) 0 ≡ down_share (tables z b u l) i j r
-  unfolding place down_share_list down_share_entry down_share
-  down_share_entry_lem = listed_at use_entries 0 place (down_share_entry u l) within ∙ ap₂ (λ a m. a * 10_000 / m) use_here limit_here
-
--- ---- none of a use of 0
-
-module _ (u l : List ℕ) (n : ℕ) (none : get_or u n 0 ≡ 0) where
-  -- a table whose uses are all this one
-  alone : Table
-  alone =
-      record {
-        segments = 0;
-        strategies = 0;
-        resources = 0;
-        benefit = λ _ _. 0;
-        usage = λ _ _ _. get_or u n 0;
-        limit = λ _. get_or l (n % most_resources) 0;
-      }
-
-  pub share_past : share_entry u l n ≡ 0
-  unfolding alone share_entry share
-  share_past = share_none alone 0 0 0 none
-
-  pub down_share_past : down_share_entry u l n ≡ 0
-  unfolding down_share_entry
-  down_share_past = rw (none, zero-mul) (zero-div (get_or l (n % most_resources) 0))
+  pub share_at : (q : ℕ → ℕ → ℕ) → get_or (share_list q u l) (use_entry i j r) 0 ≡ q (usage_at u i j r * 10_000) (limit_at l r)
+  unfolding place share_list share_entry
+  share_at q = listed_at use_entries 0 place (share_entry q u l) within ∙ ap₂ (λ a m. q (a * 10_000) m) use_here limit_here
 
 -- ---- of a candidate
 
@@ -97,7 +95,8 @@ module _ (t : Table) (fit : FitAlone t) (i j r : ℕ) (li : 1 ≤ i) (hi : i ≤
 
 -- ---- all that filled arrays hold
 
-pub filled : (d : District) → Ranges d → Filled d (size_of d) (leader_list d) (benefit_list d) (usage_list d) (limit_list d) (share_list (usage_list d) (limit_list d)) (down_share_list (usage_list d) (limit_list d))
+pub filled : (d : District) → Ranges d → Filled d (size_of d) (leader_list d) (benefit_list d) (usage_list d) (limit_list d) (share_list divide_up (usage_list d) (limit_list d)) (share_list ◌/◌ (usage_list d) (limit_list d))
+unfolding share down_share
 filled d ok =
     let held = tabled d ok in
     record {
@@ -106,10 +105,10 @@ filled d ok =
       table = table_is d ok;
       tabled = held;
       fit = fit_alone d ok;
-      shares_length = shares_length (usage_list d) (limit_list d);
-      shares = λ i j r. share_entry_lem (size_of d) (benefit_list d) (usage_list d) (limit_list d) held.uses i j r;
-      downs_length = down_shares_length (usage_list d) (limit_list d);
-      downs = λ i j r. down_share_entry_lem (size_of d) (benefit_list d) (usage_list d) (limit_list d) held.uses i j r;
+      shares_length = shares_length divide_up (usage_list d) (limit_list d);
+      shares = λ i j r cell low high. share_at (usage_list d) (limit_list d) held.uses i j r cell low high divide_up;
+      downs_length = shares_length ◌/◌ (usage_list d) (limit_list d);
+      downs = λ i j r cell low high. share_at (usage_list d) (limit_list d) held.uses i j r cell low high ◌/◌;
     }
 
 -- the same of arrays that equal them, with what the shares need of uses and limits
@@ -125,5 +124,5 @@ module _ (d : District) (ok : Ranges d) {u l : List ℕ} (hu : u ≡ usage_list 
   unfolding usage_list
   past k low high = ap (λ (v : List ℕ). get_or v k 0) hu ∙ listed_at use_entries 0 k (usage_entry d) high ∙ uses_past d (0 + k) (omega arith)
 
-  pub filled_by : {ls b s e : List ℕ} → ls ≡ leader_list d → b ≡ benefit_list d → s ≡ share_list u l → e ≡ down_share_list u l → Filled d (size_of d) ls b u l s e
+  pub filled_by : {ls b s e : List ℕ} → ls ≡ leader_list d → b ≡ benefit_list d → s ≡ share_list divide_up u l → e ≡ share_list ◌/◌ u l → Filled d (size_of d) ls b u l s e
   filled_by hd hb hs he = rw (hd, hb, hs, he, hu, hl) (filled d ok)

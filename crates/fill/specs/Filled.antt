@@ -1,4 +1,5 @@
 -- What filled arrays hold: the district's leaders, its table, and its shares at the places of the uses.
+-- The lists stand one by one, and not as the record of the arrays: leader_in and tables take lists, and so do the phases' laws.
 use Rattle.std.specs.Prelude.{ℕ, ◌≤◌, ◌≡◌, List, get_or, length}
 use Rattle.rules.specs.District.{District, leader_of, most_resources}
 use Rattle.rules.specs.Table.{table_of}

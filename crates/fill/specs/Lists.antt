@@ -1,7 +1,7 @@
 -- A district's leaders, and its table as lists at the places that Arrays gives its entries; and the shares that uses are of limits, at the places of the
 -- uses.
-use Rattle.std.specs.Prelude.{ℕ, ◌+◌, ◌*◌, ◌/◌, ◌%◌, List, get_or}
-use Rattle.base.specs.Over.{listed, listed_from, divide_up}
+use Rattle.std.specs.Prelude.{ℕ, ◌≡◌, ◌+◌, ◌*◌, ◌/◌, ◌%◌, List, get_or}
+use Rattle.base.specs.Over.{listed, listed_from}
 use Rattle.tables.specs.Arrays.{columns, entries, use_entries}
 use Rattle.rules.specs.District.{District, segments_of, strategies_of, resources_of, leader_of, most_segments, most_resources}
 use Rattle.tables.specs.declared.Size.{Size}
@@ -28,16 +28,15 @@ usage_list d = listed_from use_entries 0 (usage_entry d)
 unfoldable pub limit_list : District → List ℕ
 limit_list d = listed most_resources (limit_in d)
 
--- ---- shares, rounded up and rounded down, of uses u and limits l
+-- ---- shares of uses u and limits l, as a quotient q rounds them
 
-unfoldable pub share_entry : List ℕ → List ℕ → ℕ → ℕ
-share_entry u l n = divide_up (get_or u n 0 * 10_000) (get_or l (n % most_resources) 0)
+-- 0 of 0, and by 0
+pub record Quotient (q : ℕ → ℕ → ℕ) : Type 0 where
+  pub of_none : (b : ℕ) → q 0 b ≡ 0
+  pub by_none : (a : ℕ) → q a 0 ≡ 0
 
-unfoldable pub share_list : List ℕ → List ℕ → List ℕ
-share_list u l = listed_from use_entries 0 (share_entry u l)
+unfoldable pub share_entry : (ℕ → ℕ → ℕ) → List ℕ → List ℕ → ℕ → ℕ
+share_entry q u l n = q (get_or u n 0 * 10_000) (get_or l (n % most_resources) 0)
 
-unfoldable pub down_share_entry : List ℕ → List ℕ → ℕ → ℕ
-down_share_entry u l n = get_or u n 0 * 10_000 / get_or l (n % most_resources) 0
-
-unfoldable pub down_share_list : List ℕ → List ℕ → List ℕ
-down_share_list u l = listed_from use_entries 0 (down_share_entry u l)
+unfoldable pub share_list : (ℕ → ℕ → ℕ) → List ℕ → List ℕ → List ℕ
+share_list q u l = listed_from use_entries 0 (share_entry q u l)

@@ -1,15 +1,16 @@
 // The arrays that the phases and the ceiling read, filled once for a plan from a district. What has an entry for each segment
-// is filled for the district's own segments: the arrays are zeros before, and what the district does not have counts 0.
+// is filled for the district's own segments: the arrays are zeros before, and what the district does not have counts 0. So it is
+// asked of them: they are made of zeros, and to write the rest here would be to write it twice.
 #![tactic(auto)]
 
-ghost use Rattle.std.specs.Prelude.{◌≡◌, ℕ, ◌+◌, ◌-◌, ◌*◌, ◌/◌, ◌^◌, ◌<◌, ◌≤◌, length, get_or, replicate};
+ghost use Rattle.std.specs.Prelude.{◌≡◌, ℕ, ◌+◌, ◌-◌, ◌*◌, ◌/◌, ◌%◌, ◌^◌, ◌<◌, ◌≤◌, length, get_or, replicate};
 ghost use Rattle.base.specs.Over.{listed, listed_from};
 ghost use Rattle.tables.specs.Arrays.{columns, entries, use_entries};
 ghost use Rattle.rules.specs.District.{most_segments, most_resources};
 ghost use Rattle.rules.specs.Table.{usage_in};
 ghost use Rattle.rating.specs.Numbers.{Segment};
 ghost use Rattle.fill.specs.Filled.{Filled};
-ghost use Rattle.fill.specs.Lists.{leader_list, benefit_list, usage_list, limit_list, share_entry, share_list, down_share_entry, down_share_list};
+ghost use Rattle.fill.specs.Lists.{leader_list, benefit_list, usage_list, limit_list, Quotient, share_entry, share_list};
 
 use rating::Ranged;
 use rules::District;
@@ -35,6 +36,14 @@ fn fill_leaders(d: &District, leaders: &mut [usize; MOST_SEGMENTS])
     fill_each(leaders, |i| rating::segment_at(d, i + 1, LEADER));
 }
 
+// The segment and the strategy of pair n, counted from 0.
+fn pair(n: usize) -> (usize, usize)
+    ensures segment { result.0 ≡ n / columns + 1 }
+    ensures strategy { result.1 ≡ n % columns }
+{
+    (n / COLUMNS + 1, n % COLUMNS)
+}
+
 // The benefits of all segments and strategies.
 fn fill_benefits(d: Ranged<'_>, table: &mut [u64; ENTRIES])
     requires { table.old ≡ replicate entries 0 }
@@ -42,7 +51,8 @@ fn fill_benefits(d: Ranged<'_>, table: &mut [u64; ENTRIES])
 {
     let end = COLUMNS * d.district[SEGMENT_COUNT];
     fill_each(&mut table[..end], |n| {
-        d.candidate_benefit(n / COLUMNS + 1, n % COLUMNS)
+        let (i, j) = pair(n);
+        d.candidate_benefit(i, j)
     });
 }
 
@@ -63,7 +73,8 @@ fn fill_uses(d: Ranged<'_>, table: &mut [u64; USE_ENTRIES])
 {
     for n in 0..COLUMNS * d.district[SEGMENT_COUNT] {
         let row = &mut table[MOST_RESOURCES * n..MOST_RESOURCES * n + MOST_RESOURCES];
-        fill_row(d, n / COLUMNS + 1, n % COLUMNS, row);
+        let (i, j) = pair(n);
+        fill_row(d, i, j, row);
     }
 }
 
@@ -73,45 +84,39 @@ fn fill_limits(d: Ranged<'_>, table: &mut [u64; MOST_RESOURCES])
     fill_each(table, |r| d.limit_in(r + 1));
 }
 
-// The share that the use at place n is of its limit, in ten-thousandths, rounded up; none of a limit of 0.
+// The share that the use at place n is of its limit, in ten-thousandths, rounded as the quotient is; none of a limit of 0.
 #[tactic(auto, unfolding(crate::specs::Lists::share_entry))]
-fn share(uses: UsageTable<'_>, limits: LimitList<'_>, n: usize) -> u64
-    requires { n < use_entries }
-    ensures { result ≡ share_entry uses.entry.entries.now limits.entry.entries.now n }
+fn share<F: Fn(u64, u64) -> u64>(
+    uses: UsageTable<'_>,
+    limits: LimitList<'_>,
+    n: usize,
+    quotient: &F,
+) -> u64
+    requires place { n < use_entries }
+    requires callable { (a b : ℕ) → 0 < b → F.pre quotient.now a b }
+    ensures { (q : ℕ → ℕ → ℕ) → Quotient q → ((a b v : ℕ) → 0 < b → F.post quotient.now a b v → v ≡ q a b) → result ≡ share_entry q uses.entry.entries.now limits.entry.entries.now n }
 {
     let u = uses.entries[n];
     let l = limits.entries[n % MOST_RESOURCES];
-    if l == 0 { 0 } else { (u * 10000).div_ceil(l) }
+    if l == 0 { 0 } else { quotient(u * 10000, l) }
 }
 
-// The same rounded down.
-#[tactic(auto, unfolding(crate::specs::Lists::down_share_entry))]
-fn down_share(uses: UsageTable<'_>, limits: LimitList<'_>, n: usize) -> u64
-    requires { n < use_entries }
-    ensures { result ≡ down_share_entry uses.entry.entries.now limits.entry.entries.now n }
-{
-    let u = uses.entries[n];
-    let l = limits.entries[n % MOST_RESOURCES];
-    if l == 0 { 0 } else { u * 10000 / l }
-}
-
-// Both shares of all uses, of which those of segments past the last are 0.
-fn fill_shares(
+// The shares of all uses, of which those of segments past the last are 0.
+fn fill_shares<F: Fn(u64, u64) -> u64>(
     segments: usize,
     uses: UsageTable<'_>,
     limits: LimitList<'_>,
     shares: &mut [u64; USE_ENTRIES],
-    downs: &mut [u64; USE_ENTRIES],
+    quotient: F,
 )
-    requires zeros { (shares.old ≡ replicate use_entries 0) × (downs.old ≡ replicate use_entries 0) }
+    requires zeros { shares.old ≡ replicate use_entries 0 }
     requires segments { segments ≤ most_segments }
     requires past { (k : ℕ) → most_resources * (columns * segments) ≤ k → k < use_entries → get_or uses.entries.now k 0 ≡ 0 }
-    ensures up { shares.new ≡ share_list uses.entry.entries.now limits.entry.entries.now }
-    ensures down { downs.new ≡ down_share_list uses.entry.entries.now limits.entry.entries.now }
+    requires callable { (a b : ℕ) → 0 < b → F.pre quotient a b }
+    ensures { (q : ℕ → ℕ → ℕ) → Quotient q → ((a b v : ℕ) → 0 < b → F.post quotient a b v → v ≡ q a b) → shares.new ≡ share_list q uses.entry.entries.now limits.entry.entries.now }
 {
     let end = MOST_RESOURCES * (COLUMNS * segments);
-    fill_each(&mut shares[..end], |n| share(uses, limits, n));
-    fill_each(&mut downs[..end], |n| down_share(uses, limits, n));
+    fill_each(&mut shares[..end], |n| share(uses, limits, n, &quotient));
 }
 
 // The arrays of one plan. Each is one of its own, though they hold entries of the same pairs: each is lent as a typed list to
@@ -153,7 +158,14 @@ impl Arrays {
         let limits = LimitList {
             entries: &self.limits,
         };
-        fill_shares(segments, uses, limits, &mut self.shares, &mut self.downs);
+        fill_shares(
+            segments,
+            uses,
+            limits,
+            &mut self.shares,
+            |a, b| a.div_ceil(b),
+        );
+        fill_shares(segments, uses, limits, &mut self.downs, |a, b| a / b);
         Size {
             segments,
             strategies: d.district[STRATEGY_COUNT],

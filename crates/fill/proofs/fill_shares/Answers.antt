@@ -9,9 +9,9 @@ use Rattle.std.proofs.iter.Serving.{serving}
 use Rattle.base.specs.Over.{listed_from}
 use Rattle.rules.specs.District.{most_segments, most_resources}
 use Rattle.tables.specs.Arrays.{columns, use_entries}
-use Rattle.fill.specs.Lists.{share_entry, share_list, down_share_entry, down_share_list}
+use Rattle.fill.specs.Lists.{share_entry, share_list}
 use Rattle.fill.proofs.Front.{fill_front}
-use Rattle.fill.proofs.Shares.{share_past, down_share_past}
+use Rattle.fill.proofs.Shares.{share_past}
 use Rattle.fill.proofs.fill_shares.Goals as goal
 
 module _ (segments : ℕ) (few : segments ≤ most_segments) where
@@ -19,30 +19,18 @@ module _ (segments : ℕ) (few : segments ≤ most_segments) where
   within table n h = omega (arith, length-take (most_resources * (columns * segments)) table)
 
 pub fill_each-requires : goal.fill_each-requires
-fill_each-requires c = λ n h.
-    let low : n < use_entries = within c.args.segments c.requires.segments _ n h in
-    grind (serving, low)
-
-pub fill_each-requires-2 : goal.fill_each-requires-2
-fill_each-requires-2 c = λ n h.
+fill_each-requires g c = λ n h.
     let low : n < use_entries = within c.args.segments c.requires.segments _ n h in
     grind (serving, low)
 
 pub returns : goal.returns
-unfolding share_list down_share_list
-returns c =
+unfolding share_list
+returns g c q quotient post =
     let p = c.requires in
     let u = c.args.uses.entries.now in
     let v = c.args.limits.entries.now in
     let end = most_resources * (columns * c.args.segments) in
     let few : end ≤ use_entries = omega (arith, p.segments) in
     let part : length (take end c.args.shares.now) ≡ end = length-take end c.args.shares.now ∙ omega arith in
-    let part₂ : length (take end c.args.downs.now) ≡ end = length-take end c.args.downs.now ∙ omega arith in
-    record {
-      up =
-          ap (λ (front : List ℕ). front ++ drop end c.args.shares.now) (c.fill_each.ensures (share_entry u v) (λ n x h e. search rules) ∙ ap (λ k. listed_from k 0 (share_entry u v)) part)
-          ∙ fill_front (share_entry u v) end use_entries 0 _ p.zeros.0 few (λ x low high. share_past u v (0 + x) (p.past (0 + x) (omega arith) (omega arith)));
-      down =
-          ap (λ (front : List ℕ). front ++ drop end c.args.downs.now) (c.fill_each-2.ensures (down_share_entry u v) (λ n x h e. search rules) ∙ ap (λ k. listed_from k 0 (down_share_entry u v)) part₂)
-          ∙ fill_front (down_share_entry u v) end use_entries 0 _ p.zeros.1 few (λ x low high. down_share_past u v (0 + x) (p.past (0 + x) (omega arith) (omega arith)));
-    }
+    ap (λ (front : List ℕ). front ++ drop end c.args.shares.now) (c.fill_each.ensures (share_entry q u v) (λ n x h e. search rules) ∙ ap (λ k. listed_from k 0 (share_entry q u v)) part)
+    ∙ fill_front (share_entry q u v) end use_entries 0 _ p.zeros few (λ x low high. share_past q u v quotient (0 + x) (p.past (0 + x) (omega arith) (omega arith)))

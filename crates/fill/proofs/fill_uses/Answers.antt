@@ -44,7 +44,7 @@ fill_row-requires c =
 pub loop-n-preserved : goal.loop-n-preserved
 loop-n-preserved c =
     let l = c.loop-n in
-    next c.args.d.district.now c.args.table.now l.table c.fill_row.new.row l.n l.invariant c.fill_row.ensures
+    next c.args.d.district.now c.args.table.now l.table c.fill_row.new.row l.n l.invariant (rw (c.pair-i.ensures.segment, c.pair-i.ensures.strategy) at c.fill_row.ensures)
 
 pub returns : goal.returns
 unfolding usage_list
