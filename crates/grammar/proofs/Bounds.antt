@@ -21,6 +21,7 @@ pub record Between (a b : ℕ) (f : Field) : Type 0 where
   pub least : a ≤ f.lo
   pub most : f.hi ≤ b
 
+-- for the ruleset: `search` does not find the property of `pick_all`
 pub between_pick : (a b : ℕ) (t : Bool) (f g : Field) → Between a b f → Between a b g → Between a b (pick t f g)
 between_pick a b t f g h k = pick_all (Between a b) t f g h k
 

@@ -20,6 +20,7 @@ use Rattle.grammar.proofs.Slots.{slot_all}
 record Fit (x : ℕ) (f : Field) : Type 0 where
   fit : inside f x ≡ true → x < 256 ^ f.width
 
+-- `pick_all` at this property, as in Bounds and Slots at theirs: listed itself in a ruleset, `search` does not find the property
 fit_pick : (x : ℕ) (t : Bool) (f g : Field) → Fit x f → Fit x g → Fit x (pick t f g)
 fit_pick x t f g h k = pick_all (Fit x) t f g h k
 

@@ -140,17 +140,17 @@ module _ (d : District) (ok : InRange leader_form d) where
       let f : Between 1 most_pavements (segment_field d (segment_slot i) 0) = between_number 1 most_pavements 1 1 (pavements_of d) (le-leb 1 (pavements_of d) pavements.0) (omega arith) pavements.1 in
       (inside_between 1 most_pavements (segment_field d (segment_slot i) 0) (pavement_of d i) f (rw (lt-ltb (i - 1) (segments_of d) (omega arith), add-zero) at (segment_in i 0 a (omega (arith, segments.1)) (omega arith)))).0
 
-  pavement : (i : ℕ) → 1 ≤ i → i ≤ most_segments → pavement_of d i ≤ most_pavements
-  unfolding pavement_of
-  pavement i a b =
-      let f : Between 0 most_pavements (segment_field d (segment_slot i) 0) = between_number 0 most_pavements 1 1 (pavements_of d) (le-leb 1 (pavements_of d) pavements.0) (omega arith) pavements.1 in
-      at_most most_pavements (segment_slot i) 0 (pavement_of d i) f (rw add-zero at (segment_in i 0 a b (omega arith)))
-
   -- one with a range of its own
   plain : (i n lo hi w : ℕ) → 1 ≤ i → i ≤ most_segments → n < per_segment → leb lo hi ≡ true → segment_field d (segment_slot i) n ≡ number w lo hi → value_at d (segment_place i + n) ≤ hi
   plain i n lo hi w a b h s e =
       let f : Between 0 hi (segment_field d (segment_slot i) n) = rw e (between_number 0 hi w lo hi s (omega arith) (omega arith)) in
       at_most hi (segment_slot i) n (value_at d (segment_place i + n)) f (segment_in i n a b h)
+
+  pavement : (i : ℕ) → 1 ≤ i → i ≤ most_segments → pavement_of d i ≤ most_pavements
+  unfolding pavement_of
+  pavement i a b =
+      let p : pavement_of d i ≤ pavements_of d = rw add-zero at (plain i 0 1 (pavements_of d) 1 a b (omega arith) (le-leb 1 (pavements_of d) pavements.0) refl) in
+      omega (arith, p, pavements.1)
 
   pub bars_most : (i : ℕ) → 1 ≤ i → i ≤ most_segments → bars_of d i ≤ 2 ^ min (strategies_of d) 16 - 1
   unfolding bars_of

@@ -33,20 +33,28 @@ slot_all P form a b c d e f g n =
 
 -- ---- the records of kinds 4, 5 and 6
 
+-- behind the third record
+behind : (form n : ℕ) → 3 ≤ n → slot_of form n ≡ pick (ltb n first_pavement_record) (slot form 4 per_strategy (n - first_strategy_record)) (pick (ltb n first_segment_record) (slot form 5 per_pavement (n - first_pavement_record)) (pick (ltb n last_record) (slot form 6 per_segment (n - first_segment_record)) (slot form 7 0 0)))
+behind form n h = rw (ne_eqb n 0 (λ q. omega arith), ne_eqb n 1 (λ q. omega arith), ne_eqb n 2 (λ q. omega arith))
+
 pub slot_strategy : (form j : ℕ) → j < most_strategies → slot_of form (first_strategy_record + j) ≡ slot form 4 per_strategy j
 slot_strategy form j h =
-    let e : first_strategy_record + j - first_strategy_record ≡ j = omega arith in
-    rw (ne_eqb (first_strategy_record + j) 0 (λ q. omega arith), ne_eqb (first_strategy_record + j) 1 (λ q. omega arith), ne_eqb (first_strategy_record + j) 2 (λ q. omega arith), lt-ltb (first_strategy_record + j) first_pavement_record (omega arith), e)
+    let n = first_strategy_record + j in
+    let e : n - first_strategy_record ≡ j = omega arith in
+    behind form n (omega arith) ∙ rw (lt-ltb n first_pavement_record (omega arith), e)
 
 pub slot_pavement : (form y : ℕ) → y < most_pavements → slot_of form (first_pavement_record + y) ≡ slot form 5 per_pavement y
 slot_pavement form y h =
-    let e : first_pavement_record + y - first_pavement_record ≡ y = omega arith in
-    rw (ne_eqb (first_pavement_record + y) 0 (λ q. omega arith), ne_eqb (first_pavement_record + y) 1 (λ q. omega arith), ne_eqb (first_pavement_record + y) 2 (λ q. omega arith), le-ltb (first_pavement_record + y) first_pavement_record (omega arith), lt-ltb (first_pavement_record + y) first_segment_record (omega arith), e)
+    let n = first_pavement_record + y in
+    let e : n - first_pavement_record ≡ y = omega arith in
+    behind form n (omega arith) ∙ rw (le-ltb n first_pavement_record (omega arith), lt-ltb n first_segment_record (omega arith), e)
 
 pub slot_segment : (form i : ℕ) → i < most_segments → slot_of form (first_segment_record + i) ≡ slot form 6 per_segment i
 slot_segment form i h =
-    let e : first_segment_record + i - first_segment_record ≡ i = omega arith in
-    rw (ne_eqb (first_segment_record + i) 0 (λ q. omega arith), ne_eqb (first_segment_record + i) 1 (λ q. omega arith), ne_eqb (first_segment_record + i) 2 (λ q. omega arith), le-ltb (first_segment_record + i) first_pavement_record (omega arith), le-ltb (first_segment_record + i) first_segment_record (omega arith), lt-ltb (first_segment_record + i) last_record (omega arith), e)
+    let n = first_segment_record + i in
+    let e : n - first_segment_record ≡ i = omega arith in
+    behind form n (omega arith)
+    ∙ rw (le-ltb n first_pavement_record (omega arith), le-ltb n first_segment_record (omega arith), lt-ltb n last_record (omega arith), e)
 
 -- ---- where records start
 
@@ -95,6 +103,7 @@ start_segment = start_run first_segment_record most_segments per_segment (λ i h
 record Small (f : Field) : Type 0 where
   small : f.width ≤ 4
 
+-- for the ruleset: `search` does not find the property of `pick_all`
 small_pick : (t : Bool) (a b : Field) → Small a → Small b → Small (pick t a b)
 small_pick t a b h k = pick_all Small t a b h k
 

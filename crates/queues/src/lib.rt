@@ -13,7 +13,8 @@ pub const MOST_WAITING: usize = 8;
 
 pub const CONSOLES: usize = 4;
 
-// The edits of each console in order, the oldest first.
+// The edits of each console in order, the oldest first. They are lent and not copied: an ArrayVec is no Copy. That none has
+// more than eight is the type's, so it is asked of no caller.
 #[derive(Drop)]
 pub struct Queues {
     pub waiting: [ArrayVec<Waiting, MOST_WAITING>; CONSOLES],
