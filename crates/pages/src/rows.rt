@@ -69,6 +69,8 @@ impl Sheet<'_, '_> {
 
     // ---- rows
 
+    // Each names its four cells of resources: a function over a closure would give an array of them, to be taken apart for the row.
+
     #[tactic(auto, unfolding(rules::specs::Page::segment_row, rules::specs::Page::by_resource, base::specs::Over::listed_from, crate::specs::Cells::text_of, crate::specs::Cells::texts, rules::specs::District::length_of, rules::specs::District::width_of, rules::specs::Phases::chosen_benefit, rules::specs::Table::table_of))]
     pub fn segment_row(&self, i: usize) -> [Cell; COLUMNS]
         requires { Segment i }
