@@ -17,7 +17,7 @@ use Rattle.rules.specs.Table.{Table}
 use Rattle.rules.specs.Phases.{strategy_at, give, chosen_usage, used, holds, within, respects, another, pair, pairs_of}
 use Rattle.laws.proofs.Give.{kept, used_give}
 use Rattle.tables.specs.declared.Size.{Size}
-use Rattle.tables.specs.Arrays.{usage_at, limit_at, tables}
+use Rattle.tables.specs.Arrays.{usage_at, limit_at, tables, Limits}
 use Rattle.tables.specs.Moves.{room_for}
 use Rattle.tables.proofs.Arrays.{limit_at_lem, usage_lt, usage_nothing, benefit_nothing}
 use Rattle.tables.proofs.Moves.{places, two_fits}
@@ -73,7 +73,7 @@ drop_strategies row next lower = record { places = lower.places; strategies = λ
 
 -- ---- tight programmes
 
--- what is used after both segments' moves
+-- what is used after both segments' moves, of any table; tables has it of one held in arrays, with its sums, and for itself alone
 used_both : (t : Table) (c : List ℕ) → t.segments ≤ length c → (i k : ℕ) → 1 ≤ i → i < k → k ≤ t.segments → (a b r : ℕ)
     → used t (give (give c i a) k b) r + (t.usage i (strategy_at c i) r + t.usage k (strategy_at c k) r) ≡ used t c r + (t.usage i a r + t.usage k b r)
 unfolding chosen_usage
@@ -299,9 +299,9 @@ module _ (t : Table) (leader : ℕ → ℕ) (c : List ℕ) (i k : ℕ) where
           rw (ex, ey) (λ d q. all_passed d (record { tight = q; same = λ z. absurd (cc) }))
 
 -- a row with unreached numbers
-pub searching_start : {z : Size} {p u l c sums given : List ℕ} {row : Row} {i k : ℕ} → Setting z p u l c sums given i k → length row.excesses ≡ most_resources
+pub searching_start : {z : Size} {p u l c sums given : List ℕ} {row : Row} {i k : ℕ} → Setting z p u l c sums given i k → Limits l → length row.excesses ≡ most_resources
     → row.holds_for ≡ Some (strategy_at c i, strategy_at c k) → ((r : ℕ) → 1 ≤ r → r ≤ z.resources → numbers row r ≡ unreached) → (leader : ℕ → ℕ) → Searching (tables z p u l) leader c i k row 0
-searching_start {z} {p} {u} {l} s wide fresh h leader =
+searching_start {z} {p} {u} {l} s limits wide fresh h leader =
     record {
       places = wide;
       strategies = λ _ e. cc;
@@ -310,7 +310,7 @@ searching_start {z} {p} {u} {l} s wide fresh h leader =
             places = places s.running;
             first = refl;
             second = refl;
-            short = λ r low high. omega (arith, h r low high, s.limits.small (r - 1), limit_at_lem l r low (omega (arith, s.running.bounded.resources)));
+            short = λ r low high. omega (arith, h r low high, limits.small (r - 1), limit_at_lem l r low (omega (arith, s.running.bounded.resources)));
           };
       before = λ v lv. absurd (omega arith);
     }

@@ -10,6 +10,7 @@ use lib.Dec.{eqb}
 use lib.ListN.{get_or, set, length, replicate, length-replicate, length-set}
 use lib.Seq.{get_or-set_same, get_or-set_other}
 use Rattle.base.proofs.All.{all_at}
+use Rattle.std.proofs.lemmas.Bool.{and_parts}
 use Rattle.std.proofs.lemmas.List.{get_or-replicate}
 use Rattle.base.specs.Over.{all}
 use Rattle.rules.specs.District.{most_segments}
@@ -84,21 +85,17 @@ module _ {z : Size} {leader : ℕ → ℕ} (p : List ℕ) {u l c sums slacks : L
   abbrev row : Row
   row = row_of rows i k
 
-  both : (a b : Bool) → a && b ≡ true → (a ≡ true) × (b ≡ true)
-  both true b q = (refl, q)
-  both false b q = absurd (true≢false (sym q))
-
   same : (o : Option (ℕ × ℕ)) (x y : ℕ) → same_strategies o x y ≡ true → o ≡ Some (x, y)
   same None x y q = absurd (true≢false (sym q))
   same (Some s) x y q =
-      let parts = both (eqb s.0 x) (eqb s.1 y) q in
+      let parts = and_parts (eqb s.0 x) (eqb s.1 y) q in
       let ex : s.0 ≡ x = eqb-true s.0 x parts.0 in
       let ey : s.1 ≡ y = eqb-true s.1 y parts.1 in
       rw (← ex, ← ey)
 
   pub still_none : same_strategies row.holds_for (strategy_at c i) (strategy_at c k) && all z.resources (below slacks row) ≡ true → pairs_of (tables z p u l) leader c i k ≡ None
   still_none e =
-      let parts = both (same_strategies row.holds_for (strategy_at c i) (strategy_at c k)) (all z.resources (below slacks row)) e in
+      let parts = and_parts (same_strategies row.holds_for (strategy_at c i) (strategy_at c k)) (all z.resources (below slacks row)) e in
       holds.each i k low above high (strategy_at c i) (strategy_at c k)
       (same row.holds_for (strategy_at c i) (strategy_at c k) parts.0)
       c

@@ -9,7 +9,7 @@ use Rattle.rules.specs.District.{most_segments, most_resources}
 use Rattle.rules.specs.Table.{Table}
 use Rattle.rules.specs.Phases.{strategy_at, give, used, within, another, pair, pairs_with, pairs_of}
 use Rattle.tables.specs.declared.Size.{Size}
-use Rattle.tables.specs.Arrays.{usage_at, Benefits, Limits, Running}
+use Rattle.tables.specs.Arrays.{usage_at, Benefits, Running}
 use Rattle.tables.specs.Moves.{Budgets}
 use Rattle.phase3.specs.Improve.{counts_two}
 use Rattle.phase3.specs.declared.memory.Row.{Row}
@@ -75,10 +75,10 @@ pub record Remembers (t : Table) (leader : ℕ → ℕ) (rows : List (List Row))
   pub places_of : (i : ℕ) → i < most_segments → length (get_or rows i []) ≡ most_segments
   pub each : (i k : ℕ) → 1 ≤ i → i < k → k ≤ t.segments → Holds t leader i k (row_of rows i k)
 
--- what a search of segments i and k reads, with the budgets where both give up what they have
+-- what a search of segments i and k reads, with the budgets where both give up what they have. What planning and pair hold is in it
+-- too, so that a law of the search takes one fact. Tried without the benefits: the laws do not find their table from the rest.
 pub record Setting (z : Size) (b u l c sums given : List ℕ) (i k : ℕ) : Type 0 where
   pub benefits : Benefits b
-  pub limits : Limits l
   pub running : Running z u c sums
   pub budgets : Budgets z.resources u l i (strategy_at c i) k (strategy_at c k) given
   pub low : 1 ≤ i

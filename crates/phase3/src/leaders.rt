@@ -7,7 +7,7 @@ use crate::change::Change;
 use rules::places::MOST_SEGMENTS;
 use tables::{LeaderList, Move};
 
-// A programme after a change.
+// A programme after a change. The places stay beside the array that says them: tried without, `strategy` did not close.
 #[derive(Clone, Copy)]
 pub struct Changed<'a> {
     pub choice: &'a [usize; MOST_SEGMENTS],

@@ -50,7 +50,7 @@ impl<'a> Look<'a> {
     {
         let pair = self.pair;
         let pass = pair.pass;
-        if !pass.is_another(pair.i, a) {
+        if !pass.is_another(Move(pair.i, a)) {
             return false;
         }
         if pass.planning.t.benefits.at(pair.i, a) + pass.tops[pair.k - 1]

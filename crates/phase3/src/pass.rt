@@ -36,37 +36,39 @@ pub fn slacks_of(planning: &Planning<'_>) -> [u64; MOST_RESOURCES]
 impl Pass<'_> {
     ghost use Rattle.std.specs.Prelude.{◌<◌};
     ghost use Rattle.rules.specs.Phases.{another, first_single, first_pair, change};
-    ghost use Rattle.tables.specs.Arrays.{Cell};
+    ghost use Rattle.tables.specs.Moves.{Inside};
     ghost use Rattle.phase3.specs.Improve.{counts_one};
     ghost use Rattle.phase3.specs.Views.{table_of, leaders_of, choice_of, of_segment, of_pair, FoundBy, Kept};
 
-    // Strategy a is not the one that segment i has, and is a candidate or nothing.
+    // The strategy is not the one that the segment has, and is a candidate or nothing.
     #[tactic(auto, unfolding(rules::specs::Phases::another, rules::specs::Phases::is_candidate))]
-    pub fn is_another(&self, i: usize, a: usize) -> bool
-        requires { Cell i a }
-        ensures { result ≡ another (table_of self.now) (choice_of self.now) i a }
+    pub fn is_another(&self, m: Move) -> bool
+        requires { Inside self.now.planning.now.t.size m }
+        ensures { result ≡ another (table_of self.now) (choice_of self.now) m.0 m.1 }
     {
         let planning = self.planning;
+        let Move(i, a) = m;
         a != planning.draft.choice[i - 1] && (a == 0 || planning.t.benefits.at(i, a) > 0)
     }
 
-    // Giving segment i strategy a counts. A strategy of greater benefit is another one, and a candidate.
+    // The move counts. A strategy of greater benefit is another one, and a candidate.
     #[tactic(auto, using(crate::proofs::ChangeSearch::low_one, crate::proofs::ChangeSearch::high_one, tables::proofs::Moves::places))]
-    fn counts_one(&self, i: usize, a: usize) -> bool
-        requires { (1 ≤ i) × (i ≤ self.now.planning.now.t.size.segments) × (a ≤ self.now.planning.now.t.size.strategies) }
-        ensures { result ≡ counts_one (table_of self.now) (leaders_of self.now) (choice_of self.now) i a }
+    fn counts_one(&self, m: Move) -> bool
+        requires { Inside self.now.planning.now.t.size m }
+        ensures { result ≡ counts_one (table_of self.now) (leaders_of self.now) (choice_of self.now) m.0 m.1 }
     {
+        let Move(i, a) = m;
         let t = &self.planning.t;
         let choice = &self.planning.draft.choice;
         if t.benefits.at(i, a) <= t.benefits.chosen(choice, i) {
             return false;
         }
-        if !self.planning.fits(Move(i, a)) {
+        if !self.planning.fits(m) {
             return false;
         }
         let changed = Changed {
             choice,
-            change: Change::One(Move(i, a)),
+            change: Change::One(m),
         };
         changed.respects_leaders(t.leaders, t.size.segments)
     }
@@ -78,7 +80,7 @@ impl Pass<'_> {
     {
         let strategies_end = self.planning.t.size.strategies + 1;
         (0..strategies_end)
-            .find(|a| self.counts_one(i, *a))
+            .find(|a| self.counts_one(Move(i, *a)))
             .map(|a| Change::One(Move(i, a)))
     }
 

@@ -109,7 +109,7 @@ impl Trial<'_> {
         if new <= pair.present_benefit() {
             return false;
         }
-        if !pass.is_another(pair.k, self.b) {
+        if !pass.is_another(Move(pair.k, self.b)) {
             return false;
         }
         if self.refused(row, asked) {

@@ -12,6 +12,6 @@ use Rattle.phase3.proofs.look.Look.first_change.Goals as goal
 pub search-requires : goal.search-requires
 search-requires c =
     let s = c.args.self.now.setting in
-    searching_start s (omega arith) (ap Some c.strategies.ensures)
+    searching_start s c.args.self.now.pair.now.pass.now.planning.now.t.limits.held (omega arith) (ap Some c.strategies.ensures)
     (λ r low high. get_or-replicate most_resources (r - 1) unreached 0 (omega (arith, s.running.bounded.resources)))
     _
