@@ -18,6 +18,7 @@ lines_append [] ys = refl
 lines_append (row ∷ xs) ys = rw (lines_append xs ys) (sym (append_assoc (line widths row) (lines xs) (lines ys)))
 
 -- of n rows, the next and those after it
+-- Beside listing's law of this name: there a line is made of each number (lines_from), here of each row that the rules list.
 pub lines_next : (n i : ℕ) (f : ℕ → List (List ℕ)) → i < n → lines (listed_from (n - i) (i + 1) f) ≡ line widths (f (i + 1)) ++ lines (listed_from (n - (i + 1)) (i + 1 + 1) f)
 unfolding lines listed_from
 lines_next n i f h =
