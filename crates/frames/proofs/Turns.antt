@@ -1,8 +1,8 @@
 -- One frame after another: what is printed for those so far, and those to come, is what is printed for all.
-use Rattle.std.proofs.Common.{ℕ, zero, suc, ◌+◌, ◌-◌, ◌≤◌, ◌<◌, ◌^◌, ◌≡◌, Bool, true, false, List, [], ◌∷◌, ◌++◌, Option, None, Some, IfSome, length, length-drop, drop, refl, sym, ap, ◌∙◌, subst, append-nil, arith}
+use Rattle.std.proofs.Common.{ℕ, zero, suc, ◌+◌, ◌-◌, ◌≤◌, ◌<◌, ◌^◌, ◌≡◌, Bool, true, false, List, [], ◌∷◌, ◌++◌, Option, None, Some, IfSome, length, length-drop, take, take_at, drop, refl, sym, ap, ◌∙◌, subst, append-nil, arith}
 use mathlib.Core.List.{append_assoc}
 use borrow.Author.Tests.{leb-true}
-use Rattle.std.specs.Io.KnownBytes.{Appends}
+use Rattle.std.specs.Io.KnownBytes.{Appends, IsAtEnd}
 use Rattle.std.proofs.KnownBytes.{Appends-nil, Appends-trans}
 use Rattle.base.proofs.Choice.{and_both, pick_yes, pick_no}
 use Rattle.frames.specs.Frames.{longest_frame, frame_length, begins, first_frame, after_frame, frames_from, frames_in, printed, Next, NoNext, Answers}
@@ -51,43 +51,53 @@ next_frame bytes e =
 
 -- ---- where the bytes are known
 
+printed_more : (print : List ℕ → List ℕ) (frames : List (List ℕ)) (frame : List ℕ) → printed print (frames ++ frame ∷ []) ≡ printed print frames ++ print frame
+unfolding printed
+printed_more print [] frame = append-nil (print frame)
+printed_more print (first ∷ frames) frame = ap (λ (l : List ℕ). print first ++ l) (printed_more print frames frame) ∙ sym (append_assoc (print first) (printed print frames) (print frame))
+
 -- after `turns` frames
 pub record Going (print : List ℕ → List ℕ) (turns : ℕ) (bytes : List ℕ) (now old new : Option (List ℕ)) : Type 0 where
   pub rest : List ℕ
   pub left : now ≡ Some rest
-  pub done : List ℕ
-  pub written : Appends old new done
-  pub whole : done ++ printed print (frames_in rest) ≡ printed print (frames_in bytes)
+  pub done : List (List ℕ)
+  pub written : Appends old new (printed print done)
+  pub whole : done ++ frames_in rest ≡ frames_in bytes
   pub shorter : turns + length rest ≤ length bytes
 
 pub start : (print : List ℕ → List ℕ) (left old : Option (List ℕ)) → IfSome left (λ bytes. Going print 0 bytes left old old)
+unfolding printed
 start print None old = tt
 start print (Some bytes) old = record { rest = bytes; left = refl; done = []; written = Appends-nil old; whole = refl; shorter = omega arith }
 
 module _ (print : List ℕ → List ℕ) (turns : ℕ) (bytes : List ℕ) (now old new : Option (List ℕ)) (g : Going print turns bytes now old new) where
   one_more : (next newer : Option (List ℕ)) (frame : List ℕ) → Next longest_frame now next frame → Appends new newer (print frame) → Going print (turns + 1) bytes next old newer
-  unfolding printed
   one_more next newer frame n w =
       let f = rw g.left at n in
       let rest = after_frame g.rest in
       record {
         rest = rest;
         left = f.2;
-        done = g.done ++ print frame;
-        written = Appends-trans old new newer g.done (print frame) g.written w;
+        done = g.done ++ frame ∷ [];
+        written = subst (Appends old newer) (sym (printed_more print g.done frame)) (Appends-trans old new newer (printed print g.done) (print frame) g.written w);
         whole =
-            append_assoc g.done (print frame) (printed print (frames_in rest))
-            ∙ ap (λ (l : List ℕ). g.done ++ (print l ++ printed print (frames_in rest))) f.1
-            ∙ ap (λ (fs : List (List ℕ)). g.done ++ printed print fs) (sym (next_frame g.rest f.0))
+            append_assoc g.done (frame ∷ []) (frames_in rest)
+            ∙ ap (λ (l : List ℕ). g.done ++ l ∷ frames_in rest) f.1
+            ∙ ap (λ (fs : List (List ℕ)). g.done ++ fs) (sym (next_frame g.rest f.0))
             ∙ g.whole;
         shorter = omega (arith, g.shorter, after_shorter longest_frame g.rest f.0);
       }
 
-  no_more : begins longest_frame g.rest ≡ false → Appends old new (printed print (frames_in bytes))
-  unfolding printed
-  no_more e =
-      let all : g.done ≡ printed print (frames_in bytes) = sym (append-nil g.done) ∙ ap (λ (fs : List (List ℕ)). g.done ++ printed print fs) (sym (from_none (length g.rest) g.rest e)) ∙ g.whole in
-      subst (Appends old new) all g.written
+  -- the frames done are the first of all, and all if no frame is left
+  no_more : (last : Option (List ℕ)) → (IsAtEnd last → begins longest_frame g.rest ≡ false) → (n : ℕ) × Appends old new (printed print (take n (frames_in bytes))) × (IsAtEnd last → length (frames_in bytes) ≤ n)
+  no_more last none =
+      let first : take (length g.done) (frames_in bytes) ≡ g.done = ap (take (length g.done)) (sym g.whole) ∙ take_at g.done (frames_in g.rest) (length g.done) refl in
+      (length g.done, subst (λ (fs : List (List ℕ)). Appends old new (printed print fs)) (sym first) g.written, λ h. all (none h))
+    where
+      all : begins longest_frame g.rest ≡ false → length (frames_in bytes) ≤ length g.done
+      all e =
+          let same : length (frames_in bytes) ≡ length g.done = ap length (sym g.whole ∙ ap (λ (fs : List (List ℕ)). g.done ++ fs) (from_none (length g.rest) g.rest e) ∙ append-nil g.done) in
+          omega arith
 
 module _ (print : List ℕ → List ℕ) (turns : ℕ) (now old new : Option (List ℕ)) where
   pub step : (left : Option (List ℕ)) → IfSome left (λ bytes. Going print turns bytes now old new) → (next newer : Option (List ℕ)) (frame : List ℕ) → Next longest_frame now next frame → Appends new newer (print frame) → IfSome left (λ bytes. Going print (turns + 1) bytes next old newer)
@@ -95,11 +105,11 @@ module _ (print : List ℕ → List ℕ) (turns : ℕ) (now old new : Option (Li
   step (Some bytes) g next newer frame n w = one_more print turns bytes now old new g next newer frame n w
 
   -- where there is no next frame
-  pub ended : (left : Option (List ℕ)) → IfSome left (λ bytes. Going print turns bytes now old new) → NoNext longest_frame now → Answers print left old new
-  ended None g n = tt
-  ended (Some bytes) g n = λ l. no_more print turns bytes now old new g (rw g.left at n)
+  pub ended : (left last : Option (List ℕ)) → IfSome left (λ bytes. Going print turns bytes now old new) → NoNext longest_frame now last → Answers print left last old new
+  ended None last g n = tt
+  ended (Some bytes) last g n = λ l. no_more print turns bytes now old new g last (rw g.left at n)
 
   -- after as many frames as the loop has turns
-  pub run_out : (left : Option (List ℕ)) → IfSome left (λ bytes. Going print turns bytes now old new) → 2 ^ 64 - 1 ≤ turns → Answers print left old new
+  pub run_out : (left : Option (List ℕ)) → IfSome left (λ bytes. Going print turns bytes now old new) → 2 ^ 64 - 1 ≤ turns → Answers print left now old new
   run_out None g h = tt
-  run_out (Some bytes) g h = λ l. no_more print turns bytes now old new g (short_none g.rest (omega (arith, g.shorter)))
+  run_out (Some bytes) g h = λ l. no_more print turns bytes now old new g now (λ _. short_none g.rest (omega (arith, g.shorter)))

@@ -1,9 +1,9 @@
 // Frames of an input: a length of 4 bytes, low byte first, and that many bytes.
 #![tactic(auto)]
 
-ghost use Rattle.std.specs.Prelude.{◌≡◌, ℕ, ◌<◌, ◌≤◌, ◌^◌, List, IfOk, OnOk, IfSome, MatchOption, length};
+ghost use Rattle.std.specs.Prelude.{◌≡◌, ℕ, ◌<◌, ◌≤◌, ◌^◌, List, OnOk, IfSome, MatchOption, length};
 ghost use Rattle.std.specs.Bool.{MatchBool};
-ghost use Rattle.std.specs.Io.KnownBytes.{Consumes};
+ghost use Rattle.std.specs.Io.KnownBytes.{Consumes, IsAtEnd};
 ghost use Rattle.base.specs.Text.{Put};
 ghost use Rattle.frames.specs.Frames.{Next, NoNext, Answers};
 
@@ -13,36 +13,30 @@ use std::io::{Read, Write};
 // No longer frame is read.
 pub const LONGEST_FRAME: usize = 65536;
 
-// Fills the space; false where the input ends before.
-fn fill<R: Read>(input: &mut R, space: &mut [u8]) -> io::Result<bool>
-    ensures { IfOk result (λ whole. MatchBool whole (Consumes (R.remaining input.old) (R.remaining input.new) space.new) (IfSome (R.remaining input.old) (λ bytes. length bytes < length space.old))) }
+// Fills the space; false where the input ends before, or a read fails.
+fn fill<R: Read>(input: &mut R, space: &mut [u8]) -> bool
+    ensures { MatchBool result (Consumes (R.remaining input.old) (R.remaining input.new) space.new) (IfSome (R.remaining input.old) (λ bytes. IsAtEnd (R.remaining input.new) → length bytes < length space.old)) }
 {
-    Ok(input::read_full(input, space)? == space.len())
+    input::read_full(input, space).is_ok_and(|n| n == space.len())
 }
 
 // The next frame, which goes to the front of `space`; none where what is left of the input holds no frame, or none that
-// fits.
-pub fn read<'a, R: Read>(input: &mut R, space: &'a mut [u8]) -> io::Result<Option<&'a [u8]>>
-    ensures fits { IfOk result (λ next. IfSome next (λ frame. length frame.now ≤ length space.old)) }
-    ensures next { IfOk result (λ next. MatchOption next (NoNext (length space.old) (R.remaining input.old)) (λ frame. Next (length space.old) (R.remaining input.old) (R.remaining input.new) frame.now)) }
+// fits, or a read fails.
+pub fn read<'a, R: Read>(input: &mut R, space: &'a mut [u8]) -> Option<&'a [u8]>
+    ensures fits { IfSome result (λ frame. length frame.now ≤ length space.old) }
+    ensures next { MatchOption result (NoNext (length space.old) (R.remaining input.old) (R.remaining input.new)) (λ frame. Next (length space.old) (R.remaining input.old) (R.remaining input.new) frame.now) }
 {
     let mut header = [0u8; 4];
-    if !fill(input, &mut header)? {
-        return Ok(None);
+    if !fill(input, &mut header) {
+        return None;
     }
-    let length = u32::from_le_bytes(header) as usize;
-    let Some(frame) = space.get_mut(..length) else {
-        return Ok(None);
-    };
-    if fill(input, frame)? {
-        Ok(Some(frame))
-    } else {
-        Ok(None)
-    }
+    let frame = space.get_mut(..u32::from_le_bytes(header) as usize)?;
+    fill(input, frame).then_some(frame)
 }
 
-// What `answer` puts to the front of its buffer for each frame of the input goes to the output, until there is no frame. Of
-// an error nothing is said, as in `input::answered`.
+// What `answer` puts to the front of its buffer for each frame of the input goes to the output, until there is no frame, or a
+// read fails, which is the run's end as well. Of an error, which is a write's, nothing is said, as in `input::answered`. That
+// has the same two lines for an answer; a function of them would need the three clauses on `answer` once more.
 pub fn answered<const SPACE: usize, R: Read, W: Write, F: Fn(&[u8], &mut [u8]) -> usize>(
     input: &mut R,
     output: &mut W,
@@ -51,14 +45,14 @@ pub fn answered<const SPACE: usize, R: Read, W: Write, F: Fn(&[u8], &mut [u8]) -
     requires size { SPACE < 2 ^ 63 }
     requires callable { (frame : _) (out : _) → length out.now ≡ SPACE → F.pre answer frame out }
     requires within { (frame : _) (out : _) (n : ℕ) (after : _) → length after.now ≡ SPACE → F.post answer frame out n after → n ≤ SPACE }
-    ensures { (print : List ℕ → List ℕ) → ((frame : _) (out : _) (n : ℕ) (after : _) → length out.now ≡ SPACE → F.post answer frame out n after → Put (print frame.now) out.now after.now n) → OnOk result (Answers print (R.remaining input.old) (W.contents output.old) (W.contents output.new)) }
+    ensures { (print : List ℕ → List ℕ) → ((frame : _) (out : _) (n : ℕ) (after : _) → length out.now ≡ SPACE → F.post answer frame out n after → Put (print frame.now) out.now after.now n) → OnOk result (Answers print (R.remaining input.old) (R.remaining input.new) (W.contents output.old) (W.contents output.new)) }
 {
     let mut space = [0u8; LONGEST_FRAME];
     let mut out = [0u8; SPACE];
     // A proved loop has to end, and nothing says that the input does. Each frame has a byte at least: no input of fewer bytes
     // uses this number up.
     for _ in 0..u64::MAX {
-        let Some(frame) = read(input, &mut space)? else {
+        let Some(frame) = read(input, &mut space) else {
             return Ok(());
         };
         let length = answer(frame, &mut out);

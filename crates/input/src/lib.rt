@@ -1,7 +1,7 @@
 // Reading until there is no room left, or the input ends, and a program that answers what it read.
 #![tactic(auto)]
 
-ghost use Rattle.std.specs.Prelude.{◌≡◌, ℕ, ◌<◌, ◌≤◌, ◌^◌, List, IfOk, OnOk, IfSome, length, take};
+ghost use Rattle.std.specs.Prelude.{◌≡◌, ℕ, ◌<◌, ◌≤◌, ◌^◌, List, IfOk, IfErr, OnOk, IfSome, length, take};
 ghost use Rattle.std.specs.Io.KnownBytes.{Consumes, IsAtEnd};
 ghost use Rattle.std.specs.Io.{ReadsAtMost};
 ghost use Rattle.base.specs.Text.{Put};
@@ -14,13 +14,14 @@ use std::io::{Read, Write};
 pub const MOST_READ: usize = 4096;
 
 // Reads until the space is full or the input ends, and returns how many bytes stand at its front. The first read that
-// fails ends it, with that error.
+// fails ends it, with that error; if nothing is left of the input then, it had too few bytes to fill the space.
 #[tactic(auto, using(crate::proofs::Front::front))]
 pub fn read_full<R: Read>(input: &mut R, space: &mut [u8]) -> io::Result<usize>
     ensures bound { ReadsAtMost result space.new }
     ensures front { IfOk result (λ n. IfSome (R.remaining input.old) (λ bytes. take n space.new ≡ take (length space.old) bytes)) }
     ensures bytes { IfOk result (λ n. Consumes (R.remaining input.old) (R.remaining input.new) (take n space.new)) }
     ensures end { IfOk result (λ n. n < length space.old → IsAtEnd (R.remaining input.new)) }
+    ensures failed { IfErr result (λ _. IfSome (R.remaining input.old) (λ bytes. IsAtEnd (R.remaining input.new) → length bytes < length space.old)) }
 {
     let mut done: usize = 0;
     // Each read goes behind what those before it gave, and no one knows how many it takes. The library's `read_exact` says

@@ -46,6 +46,7 @@ fn put_district(out: &mut [u8], d: &District) -> usize
     put_framed(out, &file[..n])
 }
 
+// A cast, in a function for its contract. `From<Refusal> for u8` would stand in rules, where nothing else is a byte.
 fn byte_of(refusal: Refusal) -> u8
     ensures { result ≡ refusal_number refusal }
 {
@@ -63,10 +64,10 @@ fn answer(frame: &[u8], out: &mut [u8]) -> usize
     }
 }
 
-// What is answered to each frame of the input goes to the output.
+// What is answered to each frame of the input goes to the output. A read that fails ends the run, as the input's end does.
 #[tactic(auto, using(base::proofs::Text::put_within))]
 fn run<R: Read, W: Write>(input: &mut R, output: &mut W) -> io::Result<()>
-    ensures { OnOk result (Answers transcoded (R.remaining input.old) (W.contents output.old) (W.contents output.new)) }
+    ensures { OnOk result (Answers transcoded (R.remaining input.old) (R.remaining input.new) (W.contents output.old) (W.contents output.new)) }
 {
     frames::answered::<LONGEST_FRAMED, _, _, _>(input, output, answer)
 }

@@ -31,7 +31,7 @@ fn answer(script: &[u8], out: &mut [u8]) -> usize
 // answered, and the room for it.
 #[tactic(auto, using(base::proofs::Text::put_within))]
 fn run<R: Read, W: Write>(input: &mut R, output: &mut W) -> io::Result<()>
-    ensures { OnOk result (Answers worked (R.remaining input.old) (W.contents output.old) (W.contents output.new)) }
+    ensures { OnOk result (Answers worked (R.remaining input.old) (R.remaining input.new) (W.contents output.old) (W.contents output.new)) }
 {
     frames::answered::<LONGEST_LISTING, _, _, _>(input, output, answer)
 }
