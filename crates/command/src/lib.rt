@@ -17,7 +17,8 @@ const BLANK: u8 = b' ';
 
 #[derive(Clone, Copy)]
 pub enum Command {
-    // A line to pass over, and one that is no command.
+    // A line to pass over, and one that is no command. That is an answer of its own, which the console prints, and the definition
+    // (command_in) has it: so a line is read as a Command, not as an Option of one.
     Nothing,
     Unknown,
     // The path is what `path` finds in its line.
@@ -174,7 +175,8 @@ fn first_number(bytes: &[u8]) -> Option<(usize, &[u8])>
     Some((number, text::on_from(rest, BLANK)))
 }
 
-// So many numbers and then the end; 0 behind them.
+// So many numbers and then the end; 0 behind them. Four places for each word: `make` matches a word's numbers by their places,
+// which an ArrayVec would give as Options.
 fn read_arguments(bytes: &[u8], n: usize) -> Option<[usize; 4]>
     requires { n ≤ 4 }
     ensures { placed result ≡ placed (arguments n bytes.now) }

@@ -1,5 +1,6 @@
 // A desk: a station, and the queues of four consoles before it. It is lent; an edit arrives at a console, a step carries
-// one out, and the station's own calls go on as ever.
+// one out, and the station's own calls go on as ever. Calls are functions over the desk, and one without a value answers 0,
+// as in unit.
 #![tactic(auto)]
 
 ghost use Rattle.rules.specs.DeskDemands.{EveryCall, EveryArrival, EveryStep, OnceInOrder, NobodyStarves, CarriedInTime, EveryRun, EveryDesk};
@@ -20,7 +21,7 @@ pub struct Desk {
 }
 
 // The desk before the first event. What is promised of every call, every arrival, every step and every list of events is
-// stated of it.
+// stated of it. No Default, as unit's.
 pub fn fresh() -> Desk
     ensures start { KeepsDesk result fresh_desk }
     ensures calls { EveryCall }

@@ -7,7 +7,7 @@ use native.Mathlib.Omega.{arith}
 use lib.ListN.{length, length-append}
 use Rattle.listing.specs.Listing.{lines_from}
 
--- a line is to come
+-- a line is to come; it is the step of this recursion, and pages has that of its own, the lines of rows
 pub lines_next : (n i : ℕ) (f : ℕ → List ℕ) → i < n → lines_from (n - i) (i + 1) f ≡ f (i + 1) ++ lines_from (n - (i + 1)) (i + 1 + 1) f
 unfolding lines_from
 lines_next n i f h =

@@ -1,5 +1,7 @@
 // What the programs print, written to the front of a lent buffer. Each writer takes what remains of the buffer, and
-// says how many bytes it wrote. No Display: the programs have no heap, and a contract says which bytes the buffer holds.
+// says how many bytes it wrote. No Display: the programs have no heap, and a contract says which bytes the buffer holds. No
+// ArrayVec: its capacity is in its type, so each writer would have it as a parameter, and would ask for the room that is left
+// as now. No struct of buffer and length: its clauses would tell of the bytes before as well, which a writer here is not lent.
 #![tactic(auto)]
 
 ghost use Rattle.std.specs.Prelude.{◌≡◌, ◌+◌, ◌≤◌, length, take};
@@ -140,7 +142,7 @@ pub fn put_shown(out: &mut [u8], u: &Unit) -> usize
 // A value or a refusal is a match in each writer, here and in the programs: one writer that takes the value's as a closure
 // was tried. Its contract says when the closure may be called and what it puts, and each caller needs a proof by hand.
 
-// Of any number, also one that is no refusal's.
+// Of any number, also one that is no refusal's; the writers of answers have the rules' refusals alone, as the answers do.
 #[tactic(auto, using(crate::proofs::Lengths::refusal_few), unfolding(crate::specs::Listing::refusal, base::specs::Text::text))]
 pub fn put_refused(out: &mut [u8], number: usize) -> usize
     requires { longest_refusal ≤ length out.old }
@@ -167,7 +169,7 @@ pub fn put_done(out: &mut [u8], answer: Answer) -> usize
     }
 }
 
-// Of an edit that a step carried out, with the number of its console.
+// Of an edit that a step carried out, with the number of its console: the line is of any number, so it takes no Console.
 #[tactic(auto, using(base::proofs::Text::front_fits, crate::proofs::Pieces::second_fits, crate::proofs::Pieces::put_two, crate::proofs::Lengths::console_fits, crate::proofs::Lengths::carried_fits), unfolding(crate::specs::Listing::carried, base::specs::Text::text))]
 pub fn put_carried(out: &mut [u8], console: usize, answer: Answer) -> usize
     requires { longest_stepped ≤ length out.old }

@@ -1,5 +1,5 @@
 // An office: its planning unit and, beside it, the window of its roughness meter. Neither sees what is asked of the
-// other.
+// other. Calls are functions over the office, and one without a value answers 0, as in unit.
 #![tactic(auto)]
 
 ghost use Rattle.std.specs.Prelude.{◌≡◌};
@@ -19,7 +19,7 @@ pub struct Office {
     pub window: Window,
 }
 
-// The office before the first call. The demands are stated of every call and every list of calls on it.
+// The office before the first call. The demands are stated of every call and every list of calls on it. No Default, as unit's.
 pub fn fresh() -> Office
     ensures start { Keeps result fresh_held }
     ensures settled { EveryOfficeAnswer }

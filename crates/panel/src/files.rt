@@ -30,7 +30,8 @@ pub fn read(rt: &impl Files, path: &[u8], space: &mut [u8]) -> Result<usize, Fai
 
 // ---- a new file in the place of another
 
-// The name of the new file beside the path. What stands for the X's is found when the file is made.
+// The name of the new file beside the path: how many bytes it has, as listing's writers. What stands for the X's is found when
+// the file is made.
 fn new_name(path: &[u8], name: &mut [u8]) -> usize
     requires { (length path.now ≤ kept_bytes) × (kept_bytes + 7 ≤ length name.old) }
     ensures prefix_len { IsPrefixLen result name.new }

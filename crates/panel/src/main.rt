@@ -1,5 +1,6 @@
 // A console over a desk, two offices on one unit with four queues before them, fresh at its start: each line of standard
-// input is a command, answered on standard output. The end of the input ends it.
+// input is a command, answered on standard output. The end of the input ends it. What is done with the console are functions
+// over it, as in the layers below (unit).
 #![tactic(auto)]
 
 mod files;
@@ -46,7 +47,7 @@ pub struct Console {
     pub office: usize,
 }
 
-// Before the first line.
+// Before the first line. No Default: it would say the same clause and the same body in more lines, for one caller.
 fn start() -> Console
     ensures { KeepsState result Console·start }
 {
@@ -178,7 +179,7 @@ fn respond<H: Files + RandomSource>(
     }
 }
 
-// The answer to a line goes to the output.
+// The answer to a line goes to the output. Why the bytes have their number beside them, listing says.
 fn answer<H: Files + RandomSource, W: Write>(
     rt: &H,
     output: &mut Output<W>,

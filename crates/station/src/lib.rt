@@ -1,5 +1,6 @@
 // A station: two offices on one unit, which share tables. Every call names its office by number and settles every number
-// by itself; one office's call leaves the other's part as it is, but for a load that changes the shared tables.
+// by itself; one office's call leaves the other's part as it is, but for a load that changes the shared tables. Calls are
+// functions over the station, and one without a value answers 0, as in unit.
 #![tactic(auto)]
 
 ghost use Rattle.std.specs.Prelude.{List, [], ◌≡◌, ℕ};
@@ -26,7 +27,8 @@ pub struct Station {
     pub second: Office,
 }
 
-// The station before the first call. The demands are stated of every call and every list of calls on it, for each office.
+// The station before the first call. The demands are stated of every call and every list of calls on it, for each office. No
+// Default, as unit's.
 pub fn fresh() -> Station
     ensures start { KeepsBoth result fresh_both }
     ensures settled { EveryStationAnswer }
@@ -53,7 +55,7 @@ fn other(w: Which) -> Which
     }
 }
 
-// The office of that name.
+// The office of that name. A number is read by Which::try_from, which has the refusal of one that is no office's.
 pub fn own(s: &Station, w: Which) -> &Office
     ensures { result.now ≡ office_in w s.now }
 {

@@ -1,5 +1,8 @@
 // The planning unit's calls. A call that changes the unit is lent it. Each settles every input by itself: its contract is
 // an equality with the rules, refusals included, and has no `requires`.
+// The calls are functions over the state that is lent, not methods: so the rules state them, and Unit is a record of theirs.
+// The layers above (office, station, desk, panel) have them alike. A load or an edit answers 0: the rules answer a value to
+// every call, and a list of calls has answers of one type.
 #![tactic(auto)]
 
 ghost use Rattle.std.specs.Prelude.{◌≡◌};
@@ -26,7 +29,8 @@ pub fn hold(district: District) -> Unit
     }
 }
 
-// The unit before the first call. The demands are stated of every call, every file and every list of calls on it.
+// The unit before the first call. The demands are stated of every call, every file and every list of calls on it. No Default:
+// its contract is one predicate of the value, and these promises have names, and most are of every call.
 pub fn fresh() -> Unit
     ensures start { result ≡ fresh_unit }
     ensures settled { EveryAnswer }
