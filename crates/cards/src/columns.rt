@@ -10,7 +10,8 @@ use rules::{Field, Notation};
 // How many numbers a card has.
 pub const PER_CARD: usize = 5;
 
-// The counts N, S, T, D and Y, or a segment's length, width, highway type, traffic and environment.
+// The counts N, S, T, D and Y, or a segment's length, width, highway type, traffic and environment. By place and not by name,
+// since the rules' rows and the file's record count them so, and one reader reads both cards.
 pub type Numbers = [usize; PER_CARD];
 
 // A card with numbers.
@@ -31,7 +32,8 @@ pub struct Columns {
 }
 
 // Tables, since the columns follow no rule that a function could compute, and of tuples: a constant may call no function that
-// makes a `Columns`, and written out each takes six lines.
+// makes a `Columns`, and written out each takes six lines. A tuple struct would be one line too, but its readers would have
+// numbers for the names of its parts.
 const COUNTS: [(usize, usize, Notation, usize); PER_CARD] = [
     (1, 5, Notation::Whole, 0),
     (6, 10, Notation::Whole, 1),

@@ -5,20 +5,20 @@ use mathlib.Core.Bool.{Bool, true, false, true≢false}
 use mathlib.Core.List.{List, [], ◌∷◌, ◌++◌}
 use native.Mathlib.Omega.{arith}
 use lib.Dec.{ltb}
-use lib.ListN.{length, replicate, length-append}
+use lib.ListN.{length, replicate}
 use borrow.Author.Tests.{ltb-true, lt-ltb}
 use Rattle.base.specs.Bytes.{bytes_of}
 use Rattle.base.specs.Choice.{pick}
 use Rattle.base.specs.Over.{all}
 use Rattle.rules.specs.District.{District, greatest_of, leader_of, with_leader, most_resources, most_distresses, most_segments, strategies_at, segments_at, bars_at, per_segment}
-use Rattle.rules.specs.File.{widths, size, header_bytes, record_bytes, records_bytes, encode_as, leaderless, form_of, encode, numbers_in_range, records_in_range, in_range, longest_file}
+use Rattle.rules.specs.File.{widths, size, header_bytes, encode_as, leaderless, form_of, encode, numbers_in_range, records_in_range, in_range, longest_file}
 use Rattle.rules.specs.Format.{plain_form, leader_form, number, absent, ranged, slot_of, present, kind_field, field_at, file_records, most_counts, Slot}
 use Rattle.rules.specs.declared.Field.{Field}
 use Rattle.grammar.specs.Places.{Form, InRange}
 use Rattle.grammar.proofs.InRange.{in_range_lem}
 use Rattle.grammar.proofs.InRanges.{segments, strategies, years, distresses, pavements, resources}
 use Rattle.grammar.proofs.Slots.{form_all}
-use Rattle.file.proofs.Steps.{length_record}
+use Rattle.file.proofs.Steps.{total, length_records}
 use Rattle.file.proofs.TwoForms.{form_of_lem}
 
 -- a district with every count at its greatest, a leader, and else the smallest numbers that the file may hold
@@ -62,19 +62,6 @@ imp_same true a b a' b' h k = h
 imp_same false a b a' b' h k = k
 
 ruleset mono = (le_number, le_absent, le_imp, le_same, imp_refl, imp_ltb, imp_same)
-
--- the bytes of m records of a form, from the n-th on
-total : ℕ → ℕ → District → ℕ → ℕ
-total form zero d n = 0
-total form (suc m) d n = (length (header_bytes d (slot_of form n)) + size d (slot_of form n)) + total form m d (n + 1)
-
-length_records : (form : ℕ) (d : District) (m n place : ℕ) → length (records_bytes form m d n place) ≡ total form m d n
-unfolding records_bytes total
-length_records form d zero n place = refl
-length_records form d (suc m) n place =
-    let s = slot_of form n in
-    length-append (record_bytes d s place) (records_bytes form m d (n + 1) (place + s.places))
-    ∙ omega (arith, length_record d s place, length_records form d m (n + 1) (place + s.places))
 
 length_file : (form : ℕ) (d : District) → length (encode_as form d) ≡ total form file_records d 0
 unfolding encode_as

@@ -96,28 +96,28 @@ pub records_step : (form : ℕ) (d : District) (n place : ℕ) (s : Slot) → n 
 unfolding records_bytes
 records_step form d n place s h e p = rw (less file_records n h, e, p, start_next form n)
 
-pub length_records : (form m : ℕ) (d : District) (n place : ℕ) → length (records_bytes form m d n place) ≤ 464 * m
-unfolding records_bytes
-length_records form zero d n place = omega arith
-length_records form (suc m) d n place =
+-- the bytes of m records of a form, from the n-th on
+unfoldable pub total : ℕ → ℕ → District → ℕ → ℕ
+total form zero d n = 0
+total form (suc m) d n = (length (header_bytes d (slot_of form n)) + size d (slot_of form n)) + total form m d (n + 1)
+
+pub length_records : (form : ℕ) (d : District) (m n place : ℕ) → length (records_bytes form m d n place) ≡ total form m d n
+unfolding records_bytes total
+length_records form d zero n place = refl
+length_records form d (suc m) n place =
+    let s = slot_of form n in
+    length-append (record_bytes d s place) (records_bytes form m d (n + 1) (place + s.places))
+    ∙ omega (arith, length_record d s place, length_records form d m (n + 1) (place + s.places))
+
+pub total_small : (form m : ℕ) (d : District) (n : ℕ) → total form m d n ≤ 464 * m
+unfolding total
+total_small form zero d n = omega arith
+total_small form (suc m) d n =
     let s = slot_of form n in
     let h = pick_all (λ (l : List ℕ). length l ≤ 4) (present d s) (bytes_of 2 (size d s) ++ bytes_of 2 s.kind) [] (omega arith) (omega arith) in
-    omega (arith, h, length-append (record_bytes d s place) (records_bytes form m d (n + 1) (place + s.places)), length_record d s place, widths_small s.places d s 0, few_places form n, length_records form m d (n + 1) (place + s.places))
+    omega (arith, h, widths_small s.places d s 0, few_places form n, total_small form m d (n + 1))
 
 -- ---- reading a record
-
--- the header, where the bytes have one
-pub header_length : (bs : List ℕ) → take 2 (take 4 bs) ≡ take 2 bs
-header_length [] = refl
-header_length (a ∷ []) = refl
-header_length (a ∷ b ∷ bs) = refl
-
-pub header_kind : (bs : List ℕ) → take 2 (drop 2 (take 4 bs)) ≡ take 2 (drop 2 bs)
-header_kind [] = refl
-header_kind (a ∷ []) = refl
-header_kind (a ∷ b ∷ []) = refl
-header_kind (a ∷ b ∷ c ∷ []) = refl
-header_kind (a ∷ b ∷ c ∷ d ∷ bs) = refl
 
 module _ (d : District) (s : Slot) (bs : List ℕ) where
   pub record_none : present d s ≡ false → read_record d s bs ≡ read_numbers s.places d s 0 [] bs

@@ -2,11 +2,12 @@
 ghost use Rattle.std.specs.Prelude.{◌++◌, ◌≡◌, ◌+◌, ◌≤◌, length, take, drop};
 ghost use Rattle.base.specs.Bytes.{bytes_of, number_of};
 
-// The number in the `width` bytes from `at`.
+// The number in the `width` bytes from `at`. A place and a width, since it is public as it is.
 pub fn number(file: &[u8], at: usize, width: usize) -> usize
     requires { (width ≤ 4) × (at + width ≤ length file.now) }
     ensures { result ≡ number_of (take width (drop at file.now)) }
 {
+    // `from_le_bytes` takes eight bytes, which would have to be filled first.
     let mut value = 0;
     for byte in file[at..at + width].iter().rev() {
         value = value * 256 + usize::from(*byte);

@@ -23,7 +23,8 @@ pub fn form_in(file: &[u8]) -> Form
     }
 }
 
-// Whether no segment has a leader. Past the last place there is none.
+// Whether no segment has a leader. Past the last place there is none. By the segments' numbers, as the definition goes: of
+// `chunks` it would have to be shown which place of the district each one's leader is.
 pub fn is_leaderless(d: &District) -> bool
     ensures { result ≡ leaderless d.now }
 {

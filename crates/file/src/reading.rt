@@ -11,7 +11,7 @@ use crate::records::Placed;
 use grammar::Slot;
 use rules::{District, Refusal};
 
-// How many bytes the payload of the record has.
+// How many bytes the payload of the record has: of the slot alone, as the rules' `size`, whatever its place.
 pub fn payload(d: &District, slot: Slot) -> usize
     requires { slot.places ≤ most_places }
     ensures { result ≡ size d.now (slot_in slot) }

@@ -1,5 +1,6 @@
 // The records of a file in order, each with the place of the district at which its numbers start. That is known from which
-// record it is, so that a walk over them is one over their numbers, and keeps no place.
+// record it is, so that a walk over them is one over their numbers, and keeps no place. An iterator over the records would be
+// an `impl Iterator`, of which nothing can be proved yet.
 ghost use Rattle.std.specs.Prelude.{◌≡◌, ◌<◌, length, take, drop};
 ghost use Rattle.rules.specs.Format.{slot_of, file_records};
 ghost use Rattle.grammar.specs.Places.{start_of, Ready};
@@ -10,7 +11,7 @@ use rules::District;
 use rules::places::*;
 use rules::records::*;
 
-// A record, and where its numbers start.
+// A record, and where its numbers start. What is read, written or tested of it stands with the readers, writers and tests.
 #[derive(Clone, Copy)]
 pub struct Placed {
     pub slot: Slot,
@@ -28,7 +29,8 @@ impl Placed {
     }
 }
 
-// Where the numbers of the `n`-th record start.
+// Where the numbers of the `n`-th record start. By the number, as its definition goes: by the slot's kind, it would have to be
+// shown again which number that is.
 fn start_of(n: usize) -> usize
     requires { n < file_records }
     ensures { result ≡ start_of n }

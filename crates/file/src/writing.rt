@@ -1,4 +1,5 @@
 // Writing a district's records. Each writer takes the tail of the buffer that follows what is written, and says how many bytes it wrote.
+// Its two clauses are base's `Put` in its parts, which the proofs of what follows cite apart.
 ghost use Rattle.std.specs.Prelude.{◌++◌, ◌≡◌, ◌≤◌, length, drop};
 ghost use Rattle.rules.specs.File.{header_bytes, number_bytes, record_bytes, encode_as};
 ghost use Rattle.grammar.specs.Slots.{form_number, slot_in};

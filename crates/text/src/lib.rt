@@ -6,7 +6,8 @@ ghost use Rattle.base.specs.Text.{up_to, on_from, skipped, value_from, going_on,
 
 // ---- parts
 
-// The first `n` bytes, and those behind them; where there are fewer, all of them, and none.
+// The first `n` bytes, and those behind them; where there are fewer, all of them, and none. Here and below both parts are
+// public, and a caller takes one: so each has its function and its promise.
 pub fn take(bytes: &[u8], n: usize) -> &[u8]
     ensures { result.now ≡ ListN·take n bytes.now }
 {
@@ -19,7 +20,8 @@ pub fn drop(bytes: &[u8], n: usize) -> &[u8]
     bytes.split_at(n.min(bytes.len())).1
 }
 
-// How many bytes stand before the first `byte`.
+// How many bytes stand before the first `byte`. `skip` has the same line with its own test: one function for both would take
+// a closure, and its clauses over any test would be longer than the two lines.
 pub fn find(bytes: &[u8], byte: u8) -> usize
     ensures { result ≡ length (up_to byte bytes.now) }
 {
@@ -60,7 +62,8 @@ fn with_digit(value: usize, byte: u8) -> Option<usize>
     value.checked_mul(10)?.checked_add(usize::from(byte - b'0'))
 }
 
-// What digits stand for, after the value of those before them.
+// What digits stand for, after the value of those before them. `try_fold` would take the same step in a closure, and need the
+// loop's invariant for it.
 pub fn digits_after(before: usize, bytes: &[u8]) -> Option<usize>
     ensures { result ≡ held (value_from before bytes.now) }
 {
@@ -71,7 +74,7 @@ pub fn digits_after(before: usize, bytes: &[u8]) -> Option<usize>
     Some(value)
 }
 
-// The number goes on with these digits.
+// The number goes on with these digits: the rules' `going_on`, which a deck's hundredths are made of.
 pub fn go_on(number: Option<usize>, bytes: &[u8]) -> Option<usize>
     ensures { result ≡ held (going_on number bytes.now) }
 {

@@ -5,11 +5,13 @@ use mathlib.Core.Bool.{true, false}
 use mathlib.Core.List.{List}
 use native.Mathlib.Omega.{arith}
 use lib.ListN.{length, take, drop}
+use lib.Seq.{take-take}
+use Rattle.std.proofs.lemmas.List.{drop-take}
 use Rattle.base.specs.Bytes.{number_of}
 use Rattle.rules.specs.File.{size, kind_in}
 use Rattle.rules.specs.Format.{present}
 use Rattle.grammar.specs.Slots.{slot_in}
-use Rattle.file.proofs.Steps.{header_length, header_kind, record_none, record_short, record_other, record_unlike, record_cut, record_there, widths_none, widths_take}
+use Rattle.file.proofs.Steps.{record_none, record_short, record_other, record_unlike, record_cut, record_there, widths_none, widths_take}
 use Rattle.file.proofs.reading.read_record.Goals as goal
 use Rattle.file.proofs.reading.read_record.Goals.{After-number-kind, Then-not-is_present, Else-not-is_present}
 
@@ -26,10 +28,10 @@ sized c =
     c.payload-size.ensures ∙ sym (widths_take p.ready c.args.d.now p.slot.places 0 (omega arith))
 
 len : (c : After-number-kind) → c.number-length.result ≡ number_of (take 2 c.args.file.now)
-len c = c.number-length.ensures ∙ ap (λ (l : List ℕ). number_of (take 2 l)) c.in-Some.ensures.cases.1 ∙ ap number_of (header_length c.args.file.now)
+len c = c.number-length.ensures ∙ ap (λ (l : List ℕ). number_of (take 2 l)) c.in-Some.ensures.cases.1 ∙ ap number_of (take-take 2 4 c.args.file.now (omega arith))
 
 kind : (c : After-number-kind) → c.number-kind.result ≡ kind_in c.args.file.now
-kind c = c.number-kind.ensures ∙ ap (λ (l : List ℕ). number_of (take 2 (drop 2 l))) c.in-Some.ensures.cases.1 ∙ ap number_of (header_kind c.args.file.now)
+kind c = c.number-kind.ensures ∙ ap (λ (l : List ℕ). number_of (take 2 (drop 2 l))) c.in-Some.ensures.cases.1 ∙ ap (λ (l : List ℕ). number_of (take 2 l)) (drop-take 2 2 c.args.file.now) ∙ ap number_of (take-take 2 2 (drop 2 c.args.file.now) (omega arith))
 
 long : (c : After-number-kind) → 4 ≤ length c.args.file.now
 long c = c.in-Some.ensures.cases.0

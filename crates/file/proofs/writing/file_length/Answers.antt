@@ -10,7 +10,7 @@ use Rattle.rules.specs.Format.{slot_of, file_records}
 use Rattle.grammar.specs.Places.{start_of}
 use Rattle.grammar.specs.Slots.{form_number}
 use Rattle.grammar.proofs.Slots.{start_next}
-use Rattle.file.proofs.Steps.{length_records}
+use Rattle.file.proofs.Steps.{length_records, total_small}
 use Rattle.file.proofs.writing.file_length.Goals as goal
 
 module _ (form : ℕ) (d : District) where
@@ -31,7 +31,7 @@ sum-requires-clause-fits c =
     let d = c.args.d.now in
     let form = form_number c.args.form in
     fits_from_yields_list c.map.result (2 ^ 64) (YieldsList-from_map _ (long form d) (YieldsList-at c.map.ensures.source (YieldsList-from_range 0 file_records file_records refl (omega arith))) c.map.ensures.closure (λ x r q k. search rules))
-    (rw (listed form d file_records 0) (omega (arith, length_records form file_records d 0 0)))
+    (rw (listed form d file_records 0) (omega (arith, length_records form d file_records 0 0, total_small form file_records d 0)))
 
 pub returns : goal.returns
 unfolding encode_as
