@@ -1,11 +1,11 @@
 -- Laws of choices by tests. `search picks` finds the case of a definition that goes by tests.
 use Prim.Native.Nat.{ℕ, ◌≤◌, ◌<◌}
 use mathlib.Core.Path.{◌≡◌, refl, sym, ◌∙◌}
-use mathlib.Core.Bool.{Bool, true, false, ◌&&◌, ◌||◌, and-false, true≢false}
-use mathlib.Core.Logic.{◌⊎◌, inl, inr}
+use mathlib.Core.Bool.{Bool, true, false, ◌&&◌, ◌||◌}
 use native.Mathlib.Omega.{arith}
 use borrow.Author.Tests.{lt-ltb, le-ltb, le-leb, lt-leb, leb-true, leb-false, eq-eqb, ne_eqb}
 use lib.Dec.{leb, eqb}
+use Rattle.std.proofs.lemmas.Bool.{and_from, and_left, and_right, and_parts}
 use Rattle.base.specs.Choice.{pick}
 use Rattle.base.specs.Over.{between}
 
@@ -31,15 +31,6 @@ pub ruleset picks = (refl, pick_yes, pick_no, and_yes, and_no, or_yes, or_no, lt
 
 -- ---- what tests say
 
-pub both : (s t : Bool) → s ≡ true → t ≡ true → (s && t) ≡ true
-both s t p q = rw (p, q)
-
-pub first_fails : (s t : Bool) → s ≡ false → (s && t) ≡ false
-first_fails s t p = rw p
-
-pub second_fails : (s t : Bool) → t ≡ false → (s && t) ≡ false
-second_fails s t p = rw p (and-false s)
-
 pub lt_eqb : (a b : ℕ) → a < b → eqb a b ≡ false
 lt_eqb a b l = ne_eqb a b (λ e. omega arith)
 
@@ -59,7 +50,7 @@ leb_same a b c d to from = known (leb a b) refl (leb c d) refl
     known false e false f = e ∙ sym f
 
 -- finds the case of a choice between such tests
-pub ruleset cases = (refl, pick_yes, pick_no, both, first_fails, second_fails, le-leb, lt-leb, eq-eqb, ne_eqb, lt_eqb, gt_eqb, arith)
+pub ruleset cases = (refl, pick_yes, pick_no, and_from, and_left, and_right, le-leb, lt-leb, eq-eqb, ne_eqb, lt_eqb, gt_eqb, arith)
 
 -- what holds of both answers holds of the one that is picked
 pub pick_all {ℓ} : {A : Type ℓ} (P : A → Type 0) (t : Bool) (a b : A) → P a → P b → P (pick t a b)
@@ -71,14 +62,5 @@ pub pick_by {ℓ} : {A : Type ℓ} (P : A → Type 0) (t : Bool) (a b : A) → (
 pick_by P true a b h k = h refl
 pick_by P false a b h k = k
 
--- what a test says that is made of two
-pub and_both : (s t : Bool) → (s && t) ≡ true → (s ≡ true) × (t ≡ true)
-and_both true t e = (refl, e)
-and_both false t e = absurd (true≢false (sym e))
-
-pub or_either : (s t : Bool) → (s || t) ≡ true → (s ≡ true) ⊎ (t ≡ true)
-or_either true t e = inl refl
-or_either false t e = inr e
-
 pub between_in : (a b x : ℕ) → between a b x ≡ true → (a ≤ x) × (x ≤ b)
-between_in a b x e = let t = and_both (leb a x) (leb x b) e in (leb-true a x t.0, leb-true x b t.1)
+between_in a b x e = let t = and_parts (leb a x) (leb x b) e in (leb-true a x t.0, leb-true x b t.1)

@@ -1,5 +1,5 @@
 -- Laws of parts of bytes, and of digits that are read from the first to the last.
-use Prim.Native.Nat.{ℕ, zero, suc, ◌+◌, ◌-◌, ◌*◌, ◌^◌, ◌≤◌, ◌<◌}
+use Prim.Native.Nat.{ℕ, ◌+◌, ◌-◌, ◌*◌, ◌^◌, ◌≤◌, ◌<◌}
 use mathlib.Core.Bool.{Bool, true, false}
 use mathlib.Core.List.{List, [], ◌∷◌, ◌++◌}
 use Rattle.std.specs.Prelude.{Option, None, Some}
@@ -7,17 +7,11 @@ use mathlib.Core.Path.{◌≡◌, refl, sym, ap, ◌∙◌}
 use native.Mathlib.Omega.{arith}
 use lib.Dec.{ltb, eqb}
 use lib.ListN.{length, take, drop, length-append, drop_of_length-le}
-use lib.Seq.{take-nil, take_at, drop_at}
+use lib.Seq.{take_at, drop_at}
 use borrow.Author.Tests.{le-ltb, lt-ltb, ltb-false}
 use Rattle.base.specs.Choice.{pick, only}
 use Rattle.base.specs.Over.{between}
 use Rattle.base.specs.Text.{up_to, on_from, value_from, going_on, held}
-
--- the next m behind n are there in the first n + m
-pub drop_take : (n m : ℕ) (bs : List ℕ) → drop n (take (n + m) bs) ≡ take m (drop n bs)
-drop_take zero m bs = let e : 0 + m ≡ m = omega arith in rw e
-drop_take (suc n) m [] = let e : suc n + m ≡ suc (n + m) = omega arith in rw e (sym (take-nil m))
-drop_take (suc n) m (b ∷ bs) = let e : suc n + m ≡ suc (n + m) = omega arith in rw e (drop_take n m bs)
 
 -- ---- up to the first b, and on from it
 

@@ -9,7 +9,7 @@ use lib.Dec.{eqb}
 use lib.ListN.{length, get_or, drop}
 use lib.Seq.{drop-cons}
 use Rattle.base.specs.Same.{same}
-use Rattle.base.proofs.Choice.{and_both}
+use Rattle.std.proofs.lemmas.Bool.{and_parts}
 
 pub drop_next : (xs : List ℕ) (i : ℕ) → i < length xs → drop i xs ≡ get_or xs i 0 ∷ drop (i + 1) xs
 drop_next xs i h = rw (add-one) (drop-cons xs i 0 h)
@@ -20,4 +20,4 @@ unfolding same
 same_is [] [] e = refl
 same_is [] (y ∷ ys) e = absurd (true≢false (sym e))
 same_is (x ∷ xs) [] e = absurd (true≢false (sym e))
-same_is (x ∷ xs) (y ∷ ys) e = let t = and_both (eqb x y) (same xs ys) e in ap₂ ◌∷◌ (eqb-true x y t.0) (same_is xs ys t.1)
+same_is (x ∷ xs) (y ∷ ys) e = let t = and_parts (eqb x y) (same xs ys) e in ap₂ ◌∷◌ (eqb-true x y t.0) (same_is xs ys t.1)

@@ -10,7 +10,8 @@ use borrow.Author.Tests.{lt-leb, ltb-false}
 use Rattle.base.specs.Choice.{only}
 use Rattle.base.specs.Over.{between, listed_from}
 use Rattle.base.specs.Text.{held}
-use Rattle.base.proofs.Choice.{second_fails, pick_all}
+use Rattle.std.proofs.lemmas.Bool.{and_right}
+use Rattle.base.proofs.Choice.{pick_all}
 use Rattle.rules.specs.Deck.{layout, row, range_of, only_inside, field_on, or_zero, number_on, numbers_on, counts_in}
 use Rattle.rules.specs.District.{most_segments, segments_of}
 use Rattle.rules.specs.Format.{inside, ranged}
@@ -21,8 +22,8 @@ inside_over : (f : Field) (v : ℕ) → f.hi < v → 255 < v → inside f v ≡ 
 unfolding ranged
 inside_over f v h k =
     pick_all (λ (x : Bool). x ≡ false) (leb f.lo f.hi) (between f.lo f.hi v) (leb v f.hi || between f.lo 255 v)
-    (second_fails (leb f.lo v) (leb v f.hi) (lt-leb v f.hi h))
-    (rw (lt-leb v f.hi h) (second_fails (leb f.lo v) (leb v 255) (lt-leb v 255 k)))
+    (and_right (leb f.lo v) (leb v f.hi) (lt-leb v f.hi h))
+    (rw (lt-leb v f.hi h) (and_right (leb f.lo v) (leb v 255) (lt-leb v 255 k)))
 
 -- what 64 bits do not hold is in no range of theirs
 pub inside_held : (f : Field) (o : Option ℕ) → f.hi < 2 ^ 64 → only_inside f (held o) ≡ only_inside f o

@@ -5,7 +5,7 @@ use mathlib.Core.Path.{◌≡◌, refl, ap, ap₂, ◌∙◌}
 use native.Mathlib.Omega.{arith}
 use lib.ListN.{take, drop}
 use lib.Seq.{take-take}
-use Rattle.base.proofs.Parts.{drop_take}
+use Rattle.std.proofs.lemmas.List.{drop-take}
 use Rattle.rules.specs.Answers.{or_later, first_refusal}
 use Rattle.rules.specs.Deck.{per_line, line_at, title_refusal, counts_refusal, counts_in, segment_refusal, segment_in, deck_refusal, deck_bytes}
 use Rattle.rules.specs.District.{segments_of}
@@ -17,7 +17,7 @@ line_kept deck n k h =
     let rest = deck_bytes n - at in
     let room : deck_bytes n ≡ at + rest = omega arith in
     ap (λ (m : ℕ). take (per_line + 1) (drop at (take m deck))) room
-    ∙ ap (take (per_line + 1)) (drop_take at rest deck)
+    ∙ ap (take (per_line + 1)) (drop-take at rest deck)
     ∙ take-take (per_line + 1) rest (drop at deck) (omega arith)
 
 first_alike : (n : ℕ) (f g : ℕ → ℕ) → ((i : ℕ) → i ≤ n → f i ≡ g i) → first_refusal n f ≡ first_refusal n g

@@ -6,7 +6,7 @@ use borrow.Author.Tests.{le-leb}
 use lib.Dec.{eqb}
 use lib.ListN.{length}
 use Rattle.rules.specs.District.{District}
-use Rattle.base.proofs.Choice.{and_both}
+use Rattle.std.proofs.lemmas.Bool.{and_parts}
 use Rattle.rules.specs.Format.{plain_form, leader_form}
 use Rattle.rules.specs.File.{form_in, leaderless, encode_as, encode}
 use Rattle.rules.specs.Answers.{answer_of, accepting}
@@ -33,5 +33,5 @@ every_file file =
       plain = λ none led u buffer room.
           let d = district_in file in
           rw (held u file none)
-          (exports d (encode_as plain_form d) buffer (encode_plain d (and_both (eqb (form_in file) leader_form) (leaderless d) led).1) room);
+          (exports d (encode_as plain_form d) buffer (encode_plain d (and_parts (eqb (form_in file) leader_form) (leaderless d) led).1) room);
     }

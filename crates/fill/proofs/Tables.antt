@@ -8,7 +8,8 @@ use lib.Dec.{lit<}
 use lib.ListN.{get_or}
 use Rattle.base.specs.Choice.{pick}
 use Rattle.base.specs.Over.{between}
-use Rattle.base.proofs.Choice.{and_both, between_yes, between_in}
+use Rattle.std.proofs.lemmas.Bool.{and_parts}
+use Rattle.base.proofs.Choice.{between_yes, between_in}
 use Rattle.base.proofs.Each.{each_listed}
 use Rattle.base.proofs.Listed.{listed_at, listed_length}
 use Rattle.grammar.specs.Ranges.{Ranges}
@@ -71,11 +72,11 @@ module _ (d : District) (ok : Ranges d) where
     where
       go : (t : Bool) → (between 1 most_segments i && between 1 most_strategies j) ≡ t → pick t (get_or (benefit_list d) (entry i j) 0) 0 ≡ candidate_benefit d i j
       go true e =
-          let w = and_both (between 1 most_segments i) (between 1 most_strategies j) e in
+          let w = and_parts (between 1 most_segments i) (between 1 most_strategies j) e in
           benefit_entry_lem d i j (between_in 1 most_segments i w.0) (between_in 1 most_strategies j w.1).1
       go false e =
           outside (between 1 most_segments i && between 1 most_strategies j) (has d i j && candidate d i j) _ e
-          (λ h. let w = has_within d ok i j (and_both (has d i j) (candidate d i j) h).0 in rw (between_yes 1 most_segments i w.0.0 w.0.1) (between_yes 1 most_strategies j w.1.0 w.1.1))
+          (λ h. let w = has_within d ok i j (and_parts (has d i j) (candidate d i j) h).0 in rw (between_yes 1 most_segments i w.0.0 w.0.1) (between_yes 1 most_strategies j w.1.0 w.1.1))
 
   usage_is : (i j r : ℕ) → usage_at (usage_list d) i j r ≡ usage_in d i j r
   unfolding usage_at usage_in
@@ -83,15 +84,15 @@ module _ (d : District) (ok : Ranges d) where
     where
       go : (t : Bool) → (between 1 most_segments i && (between 1 most_strategies j && between 1 most_resources r)) ≡ t → pick t (get_or (usage_list d) (use_entry i j r) 0) 0 ≡ usage_in d i j r
       go true e =
-          let v = and_both (between 1 most_segments i) (between 1 most_strategies j && between 1 most_resources r) e in
-          let w = and_both (between 1 most_strategies j) (between 1 most_resources r) v.1 in
+          let v = and_parts (between 1 most_segments i) (between 1 most_strategies j && between 1 most_resources r) e in
+          let w = and_parts (between 1 most_strategies j) (between 1 most_resources r) v.1 in
           usage_entry_lem d i j r (between_in 1 most_segments i v.0) (between_in 1 most_strategies j w.0).1 (between_in 1 most_resources r w.1)
       go false e =
           outside (between 1 most_segments i && (between 1 most_strategies j && between 1 most_resources r)) (has d i j && between 1 (resources_of d) r) _ e there
         where
           there : (has d i j && between 1 (resources_of d) r) ≡ true → (between 1 most_segments i && (between 1 most_strategies j && between 1 most_resources r)) ≡ true
           there h =
-              let v = and_both (has d i j) (between 1 (resources_of d) r) h in
+              let v = and_parts (has d i j) (between 1 (resources_of d) r) h in
               let w = has_within d ok i j v.0 in
               let x = resource_within d ok r v.1 in
               rw (between_yes 1 most_segments i w.0.0 w.0.1, between_yes 1 most_strategies j w.1.0 w.1.1) (between_yes 1 most_resources r x.0 x.1)

@@ -4,7 +4,8 @@ use mathlib.Core.List.{append_assoc}
 use borrow.Author.Tests.{leb-true}
 use Rattle.std.specs.Io.KnownBytes.{Appends, IsAtEnd}
 use Rattle.std.proofs.KnownBytes.{Appends-nil, Appends-trans}
-use Rattle.base.proofs.Choice.{and_both, pick_yes, pick_no}
+use Rattle.std.proofs.lemmas.Bool.{and_parts}
+use Rattle.base.proofs.Choice.{pick_yes, pick_no}
 use Rattle.frames.specs.Frames.{longest_frame, frame_length, begins, first_frame, after_frame, frames_from, frames_in, printed, Next, NoNext, Answers}
 
 -- ---- the frames of bytes
@@ -12,7 +13,7 @@ use Rattle.frames.specs.Frames.{longest_frame, frame_length, begins, first_frame
 after_shorter : (most : ℕ) (bytes : List ℕ) → begins most bytes ≡ true → 4 + length (after_frame bytes) ≤ length bytes
 after_shorter most bytes e =
     let n = frame_length bytes in
-    let fits = leb-true (4 + n) (length bytes) (and_both _ _ e).1 in
+    let fits = leb-true (4 + n) (length bytes) (and_parts _ _ e).1 in
     omega (arith, fits, length-drop n (drop 4 bytes), length-drop 4 bytes)
 
 from_none : (k : ℕ) (bytes : List ℕ) → begins longest_frame bytes ≡ false → frames_from k bytes ≡ []

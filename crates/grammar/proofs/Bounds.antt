@@ -9,7 +9,8 @@ use lib.IntN.{nat_abs}
 use borrow.Author.Tests.{leb-true, le-leb, ltb-true, ltb-false, lt-ltb, le-ltb, ne_eqb}
 use Rattle.base.specs.Choice.{pick}
 use Rattle.base.specs.Over.{between}
-use Rattle.base.proofs.Choice.{pick_yes, pick_all, and_yes, and_both, or_either}
+use Rattle.std.proofs.lemmas.Bool.{and_parts, or_cases}
+use Rattle.base.proofs.Choice.{pick_yes, pick_all, and_yes}
 use Rattle.base.specs.Bytes.{signed}
 use Rattle.rules.specs.District.{District, most_distresses, length_at, width_at, bars_at, ratings_at, leader_at, distresses_of, greatest_of}
 use Rattle.rules.specs.Format.{number, absent, ranged, inside, rating_field, segment_field, Slot}
@@ -35,7 +36,7 @@ unfolding ranged
 inside_between a b f x k e =
     let lo = f.lo in
     let hi = f.hi in
-    let both = and_both (leb lo x) (leb x hi) (pick_yes (leb lo hi) (leb lo x && leb x hi) (leb lo x && leb x hi) (leb x hi || between lo 255 x) k.straight refl ∙ e) in
+    let both = and_parts (leb lo x) (leb x hi) (pick_yes (leb lo hi) (leb lo x && leb x hi) (leb lo x && leb x hi) (leb x hi || between lo 255 x) k.straight refl ∙ e) in
     let l = leb-true lo x both.0 in
     let h = leb-true x hi both.1 in
     (omega (arith, k.least), omega (arith, k.most))
@@ -53,18 +54,18 @@ absent_zero x e = omega (arith, (inside_between 0 0 absent x (between_number 0 0
 pub gain_byte : (x : ℕ) → inside (number 1 206 50) x ≡ true → x < 256
 unfolding ranged
 gain_byte x e =
-    ⊎_elim (λ l. omega (arith, leb-true x 50 l)) (λ l. omega (arith, leb-true x 255 (and_both (leb 206 x) (leb x 255) l).1))
-    (or_either (leb x 50) (between 206 255 x) e)
+    ⊎_elim (λ l. omega (arith, leb-true x 50 l)) (λ l. omega (arith, leb-true x 255 (and_parts (leb 206 x) (leb x 255) l).1))
+    (or_cases (leb x 50) (between 206 255 x) e)
 
 pub gain_most : (x : ℕ) → inside (number 1 206 50) x ≡ true → nat_abs (signed x) ≤ 50
 unfolding ranged
-gain_most x e = go (or_either (leb x 50) (between 206 255 x) e) (ltb x 128) refl
+gain_most x e = go (or_cases (leb x 50) (between 206 255 x) e) (ltb x 128) refl
   where
     go : (leb x 50 ≡ true) ⊎ (between 206 255 x ≡ true) → (t : Bool) → ltb x 128 ≡ t → nat_abs (signed x) ≤ 50
-    go (inr l) true q = absurd (let a = leb-true 206 x (and_both _ (leb x 255) l).0 in let b = ltb-true x 128 q in omega arith)
+    go (inr l) true q = absurd (let a = leb-true 206 x (and_parts _ (leb x 255) l).0 in let b = ltb-true x 128 q in omega arith)
     go (inl l) true q = rw q (leb-true x 50 l)
     go (inr l) false q =
-        rw (q, lt-ltb x 256 (gain_byte x e)) (omega (arith, leb-true 206 x (and_both (leb 206 x) (leb x 255) l).0))
+        rw (q, lt-ltb x 256 (gain_byte x e)) (omega (arith, leb-true 206 x (and_parts (leb 206 x) (leb x 255) l).0))
     go (inl l) false q = absurd (let a = leb-true x 50 l in let b = ltb-false x 128 q in omega arith)
 
 -- ---- ratings

@@ -10,7 +10,8 @@ use lib.ListN.{set, length-set}
 use lib.Pow.{pow_pos, pow-add, shr_lt, split}
 use lib.Seq.{get_or-set_same, get_or-set_other}
 use borrow.Author.Tests.{ltb-true, ltb-false, eqb-true, eqb-false, leb-true, lt-ltb}
-use Rattle.base.proofs.Choice.{pick_all, and_both}
+use Rattle.std.proofs.lemmas.Bool.{and_parts}
+use Rattle.base.proofs.Choice.{pick_all}
 use Rattle.base.specs.Bits.{bit_at, set_bit, clear_bit}
 use Rattle.rules.specs.Answers.{no_such_segment, no_such_number, new_out_of_range, leader_not_below, unless, one_to}
 use Rattle.rules.specs.Calls.{bar_refusal, limit_refusal, rating_refusal, leader_refusal, edit_refusal, edited}
@@ -63,7 +64,7 @@ unless_passes false n rest h e = absurd (omega arith)
 pub one_to_lem : (x count n rest : ℕ) → 1 ≤ n → one_to x count n rest ≡ 0 → (1 ≤ x) × (x ≤ count) × (rest ≡ 0)
 one_to_lem x count n rest h e =
     let u = unless_passes (leb 1 x && leb x count) n rest h e in
-    let b = and_both (leb 1 x) (leb x count) u.0 in
+    let b = and_parts (leb 1 x) (leb x count) u.0 in
     (leb-true 1 x b.0, leb-true x count b.1, u.1)
 
 -- a bar that is not refused names a segment and a strategy of the district

@@ -9,7 +9,8 @@ use native.Mathlib.Omega.{arith}
 use lib.ListN.{length, get_or, drop}
 use lib.Seq.{get_or-drop, drop-drop}
 use borrow.Author.Tests.{eqb-true, eq-eqb}
-use Rattle.base.proofs.Choice.{and_both, and_yes}
+use Rattle.std.proofs.lemmas.Bool.{and_parts}
+use Rattle.base.proofs.Choice.{and_yes}
 use Rattle.rules.specs.District.{District, value_at, district_places}
 use Rattle.rules.specs.Format.{leader_form, slot_of, file_records, field_at, inside, Slot}
 use Rattle.rules.specs.File.{numbers_in_range, records_in_range, in_range}
@@ -22,11 +23,11 @@ module _ (d : District) (s : Slot) where
   pub numbers_in : (m n : ℕ) (vs : List ℕ) → numbers_in_range m d s n vs ≡ true → (i : ℕ) → i < m → inside (field_at d s (n + i)) (get_or vs i 0) ≡ true
   unfolding numbers_in_range
   numbers_in zero n vs e i h = absurd (omega arith)
-  numbers_in (suc m) n vs e zero h = rw add-zero (and_both (inside (field_at d s n) (get_or vs 0 0)) _ e).0
+  numbers_in (suc m) n vs e zero h = rw add-zero (and_parts (inside (field_at d s n) (get_or vs 0 0)) _ e).0
   numbers_in (suc m) n vs e (suc i) h =
       let q : n + 1 + i ≡ n + suc i = omega arith in
       let r : 1 + i ≡ suc i = omega arith in
-      rw (q, get_or-drop 1 vs i 0, r) at (numbers_in m (n + 1) (drop 1 vs) (and_both (inside (field_at d s n) (get_or vs 0 0)) _ e).1 i (omega arith))
+      rw (q, get_or-drop 1 vs i 0, r) at (numbers_in m (n + 1) (drop 1 vs) (and_parts (inside (field_at d s n) (get_or vs 0 0)) _ e).1 i (omega arith))
 
   pub in_numbers : (m n : ℕ) (vs : List ℕ) → ((i : ℕ) → i < m → inside (field_at d s (n + i)) (get_or vs i 0) ≡ true) → numbers_in_range m d s n vs ≡ true
   unfolding numbers_in_range
@@ -53,7 +54,7 @@ module _ (d : District) where
   unfolding records_in_range
   records_in zero n e q a b = absurd (omega arith)
   records_in (suc m) n e q a b =
-      let both = and_both (numbers_in_range (slot_of leader_form n).places d (slot_of leader_form n) 0 (drop (start_of n) d)) (records_in_range m d (n + 1) (drop (slot_of leader_form n).places (drop (start_of n) d))) e in
+      let both = and_parts (numbers_in_range (slot_of leader_form n).places d (slot_of leader_form n) 0 (drop (start_of n) d)) (records_in_range m d (n + 1) (drop (slot_of leader_form n).places (drop (start_of n) d))) e in
       ⊎_elim (λ (z : n ≡ q). subst RecordIn z both.0)
       (λ l. records_in m (n + 1) (rw (next_start n) at both.1) q (omega arith) (omega arith))
       (eq-or-lt_of_le a)
@@ -67,7 +68,7 @@ module _ (d : District) where
   pub in_range_lem : in_range d ≡ true → InRange leader_form d
   unfolding in_range
   in_range_lem e =
-      let both = and_both _ _ e in
+      let both = and_parts _ _ e in
       record { places = eqb-true (length d) district_places both.0; values = λ n i h l. each both.1 n i h l }
     where
       each : records_in_range file_records d 0 d ≡ true → (n i : ℕ) → n < file_records → i < (slot_of leader_form n).places → inside (field_at d (slot_of leader_form n) i) (value_at d (start_of n + i)) ≡ true

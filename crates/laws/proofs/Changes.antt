@@ -10,7 +10,7 @@ use borrow.Author.Tests.{ltb-true, ltb-false, eqb-true, eqb-false}
 use lib.Dec.{ltb, eqb}
 use Rattle.base.specs.Choice.{pick}
 use Rattle.base.specs.Search.{first}
-use Rattle.base.proofs.Choice.{and_both}
+use Rattle.std.proofs.lemmas.Bool.{and_parts}
 use Rattle.base.proofs.Sums.{sum_le}
 use Rattle.base.proofs.Search.{only_some, first_some, or_else_some}
 use Rattle.base.proofs.Best.{best_most}
@@ -37,7 +37,7 @@ module _ (t : Table) (leader : ℕ → ℕ) (c : List ℕ) where
   -- another strategy than the segment has is nothing or a candidate
   another_allowed : (i j : ℕ) → j ≤ t.strategies → another t c i j ≡ true → Allowed t i j
   unfolding another
-  another_allowed i j s ok = go (eqb j 0) refl (and_both (not (eqb j (strategy_at c i))) (eqb j 0 || is_candidate t i j) ok).1
+  another_allowed i j s ok = go (eqb j 0) refl (and_parts (not (eqb j (strategy_at c i))) (eqb j 0 || is_candidate t i j) ok).1
     where
       go : (x : Bool) → eqb j 0 ≡ x → (x || is_candidate t i j) ≡ true → Allowed t i j
       go true e ok = inl (eqb-true j 0 e)
@@ -52,7 +52,7 @@ module _ (t : Table) (leader : ℕ → ℕ) (c : List ℕ) where
   unfolding single
   single_some i a l h s e q =
       let w = only_some (another t c i a && counts t leader c (give c i a)) q in
-      let x = and_both (another t c i a) (counts t leader c (give c i a)) w.0 in
+      let x = and_parts (another t c i a) (counts t leader c (give c i a)) w.0 in
       let g = give_gives t c i a l h (another_allowed i a s x.0) in
       subst Counted w.1 (record { changed = one i a l h s; counted = x.1; gives = g })
 
@@ -61,8 +61,8 @@ module _ (t : Table) (leader : ℕ → ℕ) (c : List ℕ) where
   pair_some i k a b l m h s v e q =
       let d = give (give c i a) k b in
       let w = only_some (another t c i a && (another t c k b && counts t leader c d)) q in
-      let x = and_both (another t c i a) (another t c k b && counts t leader c d) w.0 in
-      let y = and_both (another t c k b) (counts t leader c d) x.1 in
+      let x = and_parts (another t c i a) (another t c k b && counts t leader c d) w.0 in
+      let y = and_parts (another t c k b) (counts t leader c d) x.1 in
       let g = give_gives t c i a l (omega arith) (another_allowed i a s x.0) in
       let f = give_gives t (give c i a) k b (omega arith) h (another_allowed k b v y.0) in
       subst Counted w.1 (record { changed = two i k a b l m h s v; counted = y.1; gives = gives_then t c (give c i a) d g f })
@@ -91,8 +91,8 @@ module _ (t : Table) (leader : ℕ → ℕ) (c : List ℕ) where
       (e : List ℕ) → counts t leader c e ≡ true → (total t c < total t e) × (within t e ≡ true) × (respects leader t.segments e ≡ true)
   unfolding counts
   counted_is e q =
-      let x = and_both (ltb (total t c) (total t e)) (within t e && respects leader t.segments e) q in
-      let y = and_both (within t e) (respects leader t.segments e) x.1 in
+      let x = and_parts (ltb (total t c) (total t e)) (within t e && respects leader t.segments e) q in
+      let y = and_parts (within t e) (respects leader t.segments e) x.1 in
       (ltb-true (total t c) (total t e) x.0, y.0, y.1)
 
   pub change_rises : (e : List ℕ) → change t leader c ≡ Some e → total t c < total t e

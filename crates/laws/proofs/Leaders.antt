@@ -10,7 +10,8 @@ use borrow.Author.Tests.{ltb-true, lt-ltb, eqb-true, eqb-false, eq-eqb}
 use lib.Dec.{ltb, eqb}
 use lib.ListN.{get_or, set, length}
 use Rattle.base.specs.Choice.{pick}
-use Rattle.base.proofs.Choice.{pick_all, or_either}
+use Rattle.std.proofs.lemmas.Bool.{or_cases}
+use Rattle.base.proofs.Choice.{pick_all}
 use Rattle.base.proofs.All.{all_at, all_true}
 use Rattle.rules.specs.Table.{Table}
 use Rattle.rules.specs.Phases.{strategy_at, give, led, heeds, respects, pruned}
@@ -105,7 +106,7 @@ module _ (leader : ℕ → ℕ) where
           → pick (led leader (strategy_at c) (suc n)) c (give c (suc n) 0) ≡ c
       go true q w = rw q
       go false q w =
-          let z : strategy_at c (suc n) ≡ 0 = ⊎_elim (λ e. eqb-true (strategy_at c (suc n)) 0 e) (λ e. absurd (let n : ◌≡◌ {A = Bool} true false = cc in clash n)) (or_either (eqb (strategy_at c (suc n)) 0) (led leader (strategy_at c) (suc n)) w) in
+          let z : strategy_at c (suc n) ≡ 0 = ⊎_elim (λ e. eqb-true (strategy_at c (suc n)) 0 e) (λ e. absurd (let n : ◌≡◌ {A = Bool} true false = cc in clash n)) (or_cases (eqb (strategy_at c (suc n)) 0) (led leader (strategy_at c) (suc n)) w) in
           rw (q, set_same c (suc n - 1) z)
         where
           clash : true ≡ false → ⊥
@@ -153,4 +154,4 @@ module _ (leader : ℕ → ℕ) where
       each k lk was false q =
           ⊎_elim (λ z. heeds_nothing (strategy_at (give c i j)) k (kept c i j k l lk (eqb-false k i q) ∙ eqb-true (strategy_at c k) 0 z))
           (λ may. heeds_led (strategy_at (give c i j)) k (led_more (strategy_at c) (strategy_at (give c i j)) k more may))
-          (or_either (eqb (strategy_at c k) 0) (led leader (strategy_at c) k) was)
+          (or_cases (eqb (strategy_at c k) 0) (led leader (strategy_at c) k) was)

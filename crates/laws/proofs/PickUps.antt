@@ -11,7 +11,8 @@ use lib.Dec.{ltb, eqb}
 use lib.ListN.{length}
 use Rattle.base.specs.Choice.{pick}
 use Rattle.base.specs.Over.{sum}
-use Rattle.base.proofs.Choice.{and_both, pick_all}
+use Rattle.std.proofs.lemmas.Bool.{and_parts}
+use Rattle.base.proofs.Choice.{pick_all}
 use Rattle.base.proofs.Sums.{sum_bound}
 use Rattle.base.proofs.Best.{best_le, best_passes}
 use Rattle.rules.specs.Table.{Table}
@@ -24,7 +25,7 @@ module _ (t : Table) where
   pub offer_fits : (c : List ℕ) (i : ℕ) → 1 ≤ offer t c i → (1 ≤ t.benefit i (offer t c i)) × (within t (give c i (offer t c i)) ≡ true)
   unfolding offer greater fitting is_candidate
   offer_fits c i l =
-      let w = and_both (is_candidate t i (offer t c i)) (within t (give c i (offer t c i))) (best_passes (fitting t c i) (t.benefit i) t.strategies l) in
+      let w = and_parts (is_candidate t i (offer t c i)) (within t (give c i (offer t c i))) (best_passes (fitting t c i) (t.benefit i) t.strategies l) in
       (ltb-true 0 (t.benefit i (offer t c i)) w.0, w.1)
 
   -- c has a place for each segment
@@ -59,8 +60,8 @@ module _ (t : Table) (leader : ℕ → ℕ) where
   best_fits c i is l =
       let few = best_le t.segments (vacant t leader c) (greater_offer t c) in
       let free = subst (λ (k : ℕ). vacant t leader c k ≡ true) is (best_passes (vacant t leader c) (offer_benefit t c) t.segments (rw is l)) in
-      let w = and_both (eqb (strategy_at c i) 0) (led leader (strategy_at c) i && ltb 0 (offer t c i)) free in
-      let v = and_both (led leader (strategy_at c) i) (ltb 0 (offer t c i)) w.1 in
+      let w = and_parts (eqb (strategy_at c i) 0) (led leader (strategy_at c) i && ltb 0 (offer t c i)) free in
+      let v = and_parts (led leader (strategy_at c) i) (ltb 0 (offer t c i)) w.1 in
       let some_j = ltb-true 0 (offer t c i) v.1 in
       let ok = offer_fits t c i some_j in
       record {

@@ -8,7 +8,7 @@ use Rattle.std.specs.Prelude.{Option, None, Some}
 use native.Mathlib.Omega.{arith}
 use borrow.Author.Tests.{ltb-true}
 use Rattle.base.specs.Over.{best}
-use Rattle.base.proofs.Choice.{and_both}
+use Rattle.std.proofs.lemmas.Bool.{and_parts}
 use Rattle.base.proofs.Best.{best_ind, best_le}
 use Rattle.base.proofs.Listed.{listed_at, listed_length}
 use Rattle.rules.specs.District.{most_segments}
@@ -36,7 +36,7 @@ module _ (t : Table) where
 
   pub next_allowed : (i a : ℕ) → Allowed t i (next_candidate t i a)
   unfolding next_candidate comes_after
-  next_allowed i a = allowed_best i (comes_after t i a) (greater t i) (λ k e. (and_both (is_candidate t i k) _ e).0)
+  next_allowed i a = allowed_best i (comes_after t i a) (greater t i) (λ k e. (and_parts (is_candidate t i k) _ e).0)
 
   pub bests_at : (i : ℕ) → 1 ≤ i → i ≤ most_segments → strategy_at (bests t) i ≡ top_candidate t i
   unfolding bests

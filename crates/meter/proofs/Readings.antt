@@ -10,7 +10,7 @@ use lib.Ieee.Back.{round_whole}
 use lib.Ieee.Positive.{num, den, positive, den_pos, positive-finite, value→cross}
 use borrow.Author.Tests.{eqb-false}
 use Rattle.base.specs.Choice.{pick}
-use Rattle.base.proofs.Choice.{and_both, second_fails, first_fails}
+use Rattle.std.proofs.lemmas.Bool.{and_parts, and_right, and_left}
 use Rattle.rules.specs.Meter.{is_negative, size_of, part1024, is_reading, reading_of}
 use Rattle.meter.specs.Window.{0f, unsigned, Counts}
 use Rattle.meter.proofs.Values.{same_test, lt_values, eq_values, eq_zero, rescaled}
@@ -49,10 +49,10 @@ module _ (part : ℕ) (P : 0 < part) (s : Bool) (a : ℕ) where
   test_zero z = rw (z, zero-mod part, lt-ltb 0 (8 * 1024 * part) (omega arith)) (or-true (not s))
 
   test_high : 8192 * part ≤ a → test part s a ≡ false
-  test_high h = second_fails (eqb (a % part) 0) _ (first_fails _ _ (le-ltb a (8 * 1024 * part) h))
+  test_high h = and_right (eqb (a % part) 0) _ (and_left _ _ (le-ltb a (8 * 1024 * part) h))
 
   test_negative : s ≡ true → eqb a 0 ≡ false → test part s a ≡ false
-  test_negative e z = second_fails (eqb (a % part) 0) _ (second_fails (ltb a (8 * 1024 * part)) _ (rw (e, z)))
+  test_negative e z = and_right (eqb (a % part) 0) _ (and_right (ltb a (8 * 1024 * part)) _ (rw (e, z)))
 
   test_between : s ≡ false → a < 8192 * part → test part s a ≡ eqb (a % part) 0
   test_between e h = rw (e, lt-ltb a (8 * 1024 * part) h) (and-true (eqb (a % part) 0))
@@ -135,7 +135,7 @@ not_signed false t h e = refl
 
 module _ (part : ℕ) (P : 0 < part) (x : Float) (s : Bool) (a : ℕ) (r : Reads part x s a) (yes : test part s a ≡ true) where
   few : a < 8192 * part
-  few = ltb-true a (8 * 1024 * part) (and_both (ltb a (8 * 1024 * part)) (not s || eqb a 0) (and_both (eqb (a % part) 0) _ yes).1).0
+  few = ltb-true a (8 * 1024 * part) (and_parts (ltb a (8 * 1024 * part)) (not s || eqb a 0) (and_parts (eqb (a % part) 0) _ yes).1).0
 
   few_parts : a / part < 8192
   few_parts = (div-lt_iff_lt-mul P).1 few
@@ -149,10 +149,10 @@ module _ (part : ℕ) (P : 0 < part) (x : Float) (s : Bool) (a : ℕ) (r : Reads
       known (inr v) true h = rw (eq_zero x s a (1024 * part) (omega arith) v, h, eqb-true a 0 h, zero-div part) (refl, refl)
       known (inr v) false h =
           let d = div-add-mod' a part in
-          let z = eqb-true (a % part) 0 (and_both (eqb (a % part) 0) _ yes).0 in
+          let z = eqb-true (a % part) 0 (and_parts (eqb (a % part) 0) _ yes).0 in
           rw (eq_zero x s a (1024 * part) (omega arith) v, h)
           (rescaled x false a (1024 * part) (a / part) 1024 (omega arith) (omega arith)
-          (rw (not_signed s (eqb a 0) (and_both (ltb a (8 * 1024 * part)) _ (and_both (eqb (a % part) 0) _ yes).1).1 h) at v))
+          (rw (not_signed s (eqb a 0) (and_parts (ltb a (8 * 1024 * part)) _ (and_parts (eqb (a % part) 0) _ yes).1).1 h) at v))
 
 -- ---- the same of 32 bits
 

@@ -8,7 +8,7 @@ use borrow.Author.Tests.{ltb-true, lt-ltb, leb-true, leb-false}
 use lib.Dec.{leb, ltb}
 use lib.ListN.{length, get_or-eq_default}
 use lib.Seq.{ext_get_or}
-use Rattle.base.proofs.Choice.{and_both}
+use Rattle.std.proofs.lemmas.Bool.{and_parts}
 use Rattle.base.proofs.Best.{best_le, best_cong, Leads, leads_none, leads_taken, leads_kept}
 use Rattle.base.proofs.Listed.{listed_length}
 use Rattle.rules.specs.District.{most_segments}
@@ -27,7 +27,7 @@ passing b i p k = ltb 0 (benefit_at b i k) && p k
 
 module _ (b : List ℕ) (i : ℕ) (p : ℕ → Bool) where
   pub passing_none : Leads (passing b i p) (benefit_at b i) 0 0 0
-  passing_none = leads_none (passing b i p) (benefit_at b i) (benefit_nothing b i) (λ k e. ltb-true 0 (benefit_at b i k) (and_both (ltb 0 (benefit_at b i k)) (p k) e).0)
+  passing_none = leads_none (passing b i p) (benefit_at b i) (benefit_nothing b i) (λ k e. ltb-true 0 (benefit_at b i k) (and_parts (ltb 0 (benefit_at b i k)) (p k) e).0)
 
   -- a turn: strategy n + 1 has the benefit `value`
   module _ {n top most : ℕ} (leads : Leads (passing b i p) (benefit_at b i) n top most) {value : ℕ} (is : value ≡ benefit_at b i (n + 1)) where
@@ -40,7 +40,7 @@ module _ (b : List ℕ) (i : ℕ) (p : ℕ → Bool) where
     pub passing_failed : p (n + 1) ≡ false → Leads (passing b i p) (benefit_at b i) (n + 1) top most
     passing_failed f =
         leads_kept (passing b i p) (benefit_at b i) n top most leads
-        (λ e. absurd (true≢false (sym (and_both (ltb 0 (benefit_at b i (n + 1))) (p (n + 1)) e).1 ∙ f)))
+        (λ e. absurd (true≢false (sym (and_parts (ltb 0 (benefit_at b i (n + 1))) (p (n + 1)) e).1 ∙ f)))
 
 module _ (z : Size) (b u l : List ℕ) (i : ℕ) where
   pub top_is : best_passing z.strategies (benefit_at b i) (λ _. true) ≡ top_candidate (tables z b u l) i

@@ -7,7 +7,7 @@ use Rattle.std.specs.Prelude.{Option, None, Some, MatchOption}
 use native.Mathlib.Omega.{arith}
 use borrow.Author.Tests.{lt-ltb, ltb-true}
 use lib.Dec.{ltb, eqb}
-use Rattle.base.proofs.Choice.{both, and_both}
+use Rattle.std.proofs.lemmas.Bool.{and_from, and_parts}
 use Rattle.base.proofs.Best.{best_le, Leads, leads_none, leads_taken, leads_kept, leads_end}
 use Rattle.base.proofs.Runs.{Reached, reached_start, reached_next, reached_end}
 use Rattle.rules.specs.Table.{Table}
@@ -70,7 +70,7 @@ module _ (z : Size) (b u l c : List ℕ) where
     unfolding offer_benefit benefit_at
     best_none = (
       leads_none (vacant t leader c) (offer_benefit t c) refl
-          (λ k e. (offer_fits t c k (ltb-true 0 (offer t c k) (and_both (free k) (ltb 0 (offer t c k)) (sym (vacant_is k) ∙ e)).1)).0),
+          (λ k e. (offer_fits t c k (ltb-true 0 (offer t c k) (and_parts (free k) (ltb 0 (offer t c k)) (sym (vacant_is k) ∙ e)).1)).0),
       tt,
     )
 
@@ -84,7 +84,7 @@ module _ (z : Size) (b u l c : List ℕ) where
       pub best_taken : (r : Option Offer) → MatchOption r (offer t c i ≡ 0) (IsOffer t c i) → ok ≡ true → worth best < worth r → Best m r
       best_taken None is e h = absurd (omega arith)
       best_taken (Some o) is e h =
-          let passes = vacant_is i ∙ both (free i) (ltb 0 (offer t c i)) (sym tested ∙ e) (lt-ltb 0 (offer t c i) (omega (arith, is.strategy, is.some))) in
+          let passes = vacant_is i ∙ and_from (free i) (ltb 0 (offer t c i)) (sym tested ∙ e) (lt-ltb 0 (offer t c i) (omega (arith, is.strategy, is.some))) in
           let seg : o.takes.0 ≡ n + 1 = is.segment ∙ next in
           let worth₁ : o.benefit ≡ offer_benefit t c (n + 1) = rw next at is.benefit in (
             rw (up, next, seg) (leads_taken (vacant t leader c) (offer_benefit t c) n (segment_of best) (worth best) held.0 worth₁ (rw next at passes) h),
@@ -100,7 +100,7 @@ module _ (z : Size) (b u l c : List ℕ) where
           let none : free (n + 1) ≡ false = rw next at (sym tested ∙ no-offer) in
           rw (up, next) (
             leads_kept (vacant t leader c) (offer_benefit t c) n (segment_of best) (worth best) held.0
-                (λ e. absurd (true≢false (sym (and_both (free (n + 1)) (ltb 0 (offer t c (n + 1))) (sym (vacant_is (n + 1)) ∙ e)).0 ∙ none))),
+                (λ e. absurd (true≢false (sym (and_parts (free (n + 1)) (ltb 0 (offer t c (n + 1))) (sym (vacant_is (n + 1)) ∙ e)).0 ∙ none))),
             held.1,
           )
 

@@ -8,7 +8,8 @@ use borrow.Author.Tests.{le-leb, lt-leb}
 use lib.IntN.{nat_abs}
 use Rattle.base.specs.Choice.{pick}
 use Rattle.base.specs.Over.{between}
-use Rattle.base.proofs.Choice.{and_both, between_in}
+use Rattle.std.proofs.lemmas.Bool.{and_parts}
+use Rattle.base.proofs.Choice.{between_in}
 use Rattle.rules.specs.District.{District, segments_of, strategies_of, resources_of, requirement_of}
 use Rattle.grammar.specs.Ranges.{Ranges}
 use Rattle.rules.specs.Rating.{area, benefit, usage, scaled_limit, candidate}
@@ -25,7 +26,7 @@ usage_of d i (suc j) r h = refl
 
 pub has_in : (d : District) (i j : ℕ) → has d i j ≡ true → SegmentOf d i × ((1 ≤ j) × (j ≤ strategies_of d))
 has_in d i j e =
-    let t = and_both (between 1 (segments_of d) i) (between 1 (strategies_of d) j) e in
+    let t = and_parts (between 1 (segments_of d) i) (between 1 (strategies_of d) j) e in
     (between_in 1 (segments_of d) i t.0, between_in 1 (strategies_of d) j t.1)
 
 pick_zero : (t : Bool) (x : ℕ) → x ≡ 0 → 0 ≡ pick t x 0
@@ -89,13 +90,13 @@ module _ (d : District) (ok : Ranges d) where
   pub candidate_benefit_le : (i j : ℕ) → candidate_benefit d i j ≤ 899_910_000_000
   unfolding candidate_benefit
   candidate_benefit_le i j =
-      pick_le (has d i j && candidate d i j) (nat_abs (benefit d i j)) (λ e. let w = has_within i j (and_both (has d i j) (candidate d i j) e).0 in benefit_abs d ok i j w.0 w.1)
+      pick_le (has d i j && candidate d i j) (nat_abs (benefit d i j)) (λ e. let w = has_within i j (and_parts (has d i j) (candidate d i j) e).0 in benefit_abs d ok i j w.0 w.1)
 
   pub usage_in_le : (i j r : ℕ) → usage_in d i j r ≤ 1_999_798_000_200
   unfolding usage_in
   usage_in_le i j r =
       pick_le (has d i j && between 1 (resources_of d) r) (usage d i j r)
-      (λ e. let t = and_both (has d i j) (between 1 (resources_of d) r) e in let w = has_within i j t.0 in usage_le d ok i j r w.0 w.1.1 (resource_within r t.1))
+      (λ e. let t = and_parts (has d i j) (between 1 (resources_of d) r) e in let w = has_within i j t.0 in usage_le d ok i j r w.0 w.1.1 (resource_within r t.1))
 
   pub limit_in_le : (r : ℕ) → limit_in d r ≤ 99_999_999_900_000
   unfolding limit_in

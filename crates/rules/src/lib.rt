@@ -10,7 +10,8 @@ pub mod refusals;
 
 pub use refusals::Refusal;
 
-// A district: its numbers, each at its place.
+// A district: its numbers, each at its place. One flat array, since the file, the ranges and the rules go over the numbers in one
+// order; a struct of records would say each number's place twice, in its field and there.
 pub type District = [usize; places::DISTRICT_PLACES];
 
 // One number of a record: how many bytes it has, and its range. Where hi < lo it is a signed byte, from lo to 255 and
@@ -31,8 +32,8 @@ pub enum Notation {
     Units,
 }
 
-// The result of planning: which strategy each of 64 places gets (0 is nothing), three sums, and how much work each
-// phase did.
+// The result of planning: which strategy each of 64 places gets, three sums, and how much work each phase did. Strategy 0 is
+// nothing: the rules count strategies from 1 and reckon with 0 as with the others.
 #[derive(Clone, Copy)]
 pub struct Programme {
     pub strategies: [usize; places::MOST_SEGMENTS],
@@ -69,7 +70,8 @@ pub struct Waiting {
     pub edit: Edit,
 }
 
-// What stands in a place where no edit waits: its number is no office's.
+// What stands in a place where no edit waits: its number is no office's. An ArrayVec asks for it, and an edit has no default from
+// which it could be derived.
 impl Default for Waiting {
     ghost is_default = { λ w. w.office ≡ 0 };
 
@@ -127,5 +129,6 @@ pub struct Roughness {
     pub marker: u32,
 }
 
-// What a call returns: a value (0, a length, points), or what refuses it.
+// What a call returns: a value (0, a length, points), or what refuses it. A call with nothing to tell answers 0, as in the rules,
+// so that a list of calls has answers of one type.
 pub type Answer = Result<usize, Refusal>;

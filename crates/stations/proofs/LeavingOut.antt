@@ -8,7 +8,7 @@ use Rattle.std.specs.Prelude.{None, Some}
 use borrow.Author.Tests.{not-true}
 use lib.Dec.{eqb}
 use Rattle.base.specs.Choice.{pick}
-use Rattle.base.proofs.Choice.{and_both}
+use Rattle.std.proofs.lemmas.Bool.{and_parts}
 use Rattle.rules.specs.District.{segments_of, fresh_district}
 use Rattle.rules.specs.Calls.{unit_of, fresh_unit}
 use Rattle.rules.specs.Offices.{Held, fresh_held, OfficeCall, office_refusal, office_outcome}
@@ -148,8 +148,8 @@ apart :
 unfolding throughout got_from without
 apart v [] b e alike leaves free = refl
 apart v (c ∷ cs) b e alike leaves free =
-    let l = and_both (leaves_tables (other v) b c) (throughout (leaves_tables (other v)) (next b c) cs) leaves in
-    let f = and_both (not_in_use v b c) (throughout (not_in_use v) (next b c) cs) free in
+    let l = and_parts (leaves_tables (other v) b c) (throughout (leaves_tables (other v)) (next b c) cs) leaves in
+    let f = and_parts (not_in_use v b c) (throughout (not_in_use v) (next b c) cs) free in
     apart_first v b e alike c cs l.0 f.0 (λ x h. apart v cs (next b c) x h l.1 f.1)
 
 pub leaving_out : LeavingOut

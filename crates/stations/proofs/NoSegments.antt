@@ -11,7 +11,8 @@ use lib.Dec.{leb}
 use lib.ListN.{replicate}
 use Rattle.base.specs.Over.{sum, listed_from, between}
 use Rattle.base.specs.Search.{Run, run}
-use Rattle.base.proofs.Choice.{second_fails, pick_all}
+use Rattle.std.proofs.lemmas.Bool.{and_right}
+use Rattle.base.proofs.Choice.{pick_all}
 use Rattle.base.proofs.Best.{best_ind}
 use Rattle.base.proofs.Each.{each_replicate}
 use Rattle.base.proofs.Listed.{listed_cong}
@@ -113,7 +114,7 @@ module _ (t : Table) (leader : ℕ → ℕ) (empty : t.segments ≡ 0) (None : (
 
 none_there : (d : District) → segments_of d ≡ 0 → (i : ℕ) → between 1 (segments_of d) i ≡ false
 none_there d e zero = refl
-none_there d e (suc i) = second_fails (leb 1 (suc i)) (leb (suc i) (segments_of d)) (lt-leb (suc i) (segments_of d) (omega arith))
+none_there d e (suc i) = and_right (leb 1 (suc i)) (leb (suc i) (segments_of d)) (lt-leb (suc i) (segments_of d) (omega arith))
 
 no_benefit : (d : District) → segments_of d ≡ 0 → (i j : ℕ) → candidate_benefit d i j ≡ 0
 unfolding candidate_benefit

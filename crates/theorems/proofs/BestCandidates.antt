@@ -5,7 +5,7 @@ use mathlib.Core.Bool.{Bool, true, false, ◌&&◌, true≢false}
 use borrow.Author.Tests.{lt-ltb, ltb-true}
 use lib.IntN.{ℤ, pos, negsuc, nat_abs}
 use lib.Signed.{lt_z}
-use Rattle.base.proofs.Choice.{and_both}
+use Rattle.std.proofs.lemmas.Bool.{and_parts}
 use Rattle.base.proofs.Best.{best_cong}
 use Rattle.rules.specs.District.{District, segments_of, strategies_of}
 use Rattle.rules.specs.Rating.{benefit, permitted, fits_alone, candidate}
@@ -19,8 +19,8 @@ module _ (d : District) (i : ℕ) (l : 1 ≤ i) (h : i ≤ segments_of d) where
   positive : (j : ℕ) → candidate d i j ≡ true → lt_z (pos 0) (benefit d i j) ≡ true
   unfolding candidate
   positive j e =
-      (and_both (lt_z (pos 0) (benefit d i j)) (fits_alone d i j)
-      (and_both (permitted d i j) (lt_z (pos 0) (benefit d i j) && fits_alone d i j) e).1).0
+      (and_parts (lt_z (pos 0) (benefit d i j)) (fits_alone d i j)
+      (and_parts (permitted d i j) (lt_z (pos 0) (benefit d i j) && fits_alone d i j) e).1).0
 
   pub worth : (j : ℕ) → 1 ≤ j → j ≤ strategies_of d → candidate d i j ≡ true → 1 ≤ candidate_benefit d i j
   unfolding candidate_benefit

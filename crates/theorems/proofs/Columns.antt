@@ -14,7 +14,7 @@ use Rattle.base.specs.Over.{sum, listed, listed_from}
 use Rattle.base.specs.Search.{Run}
 use Rattle.base.specs.Text.{text, decimal}
 use Rattle.base.proofs.All.{all_at}
-use Rattle.base.proofs.Choice.{and_both}
+use Rattle.std.proofs.lemmas.Bool.{and_parts}
 use Rattle.base.proofs.Digits.{decimal_within, decimal_each}
 use Rattle.base.proofs.Each.{Each, each_none, each_cons, each_append, each_listed}
 use Rattle.base.proofs.Sums.{sum_bound, sum_part}
@@ -161,13 +161,13 @@ fine (b ∷ bs) = leb 32 b && (leb b 126 && fine bs)
 fine_plain : (bs : List ℕ) → fine bs ≡ true → Plain bs
 fine_plain [] e = none
 fine_plain (b ∷ bs) e =
-    let t = and_both (leb 32 b) (leb b 126 && fine bs) e in
-    let u = and_both (leb b 126) (fine bs) t.1 in
+    let t = and_parts (leb 32 b) (leb b 126 && fine bs) e in
+    let u = and_parts (leb b 126) (fine bs) t.1 in
     each_cons Character 32 b bs (leb-true 32 b t.0, leb-true b 126 u.0) (fine_plain bs u.1)
 
 word : {w : ℕ} (bs : List ℕ) → (leb (length bs) w && fine bs) ≡ true → Cell w bs
 word {w} bs e =
-    let t = and_both (leb (length bs) w) (fine bs) e in
+    let t = and_parts (leb (length bs) w) (fine bs) e in
     record { room = leb-true (length bs) w t.0; plain = fine_plain bs t.1 }
 
 heading_fits : Fits widths heading

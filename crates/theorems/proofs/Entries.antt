@@ -7,7 +7,8 @@ use borrow.Author.Tests.{leb-true, le-leb, lt-leb}
 use lib.IntN.{ℤ, pos, negsuc, nat_abs}
 use lib.Signed.{lt_z}
 use Rattle.base.specs.Choice.{pick}
-use Rattle.base.proofs.Choice.{and_both, between_yes}
+use Rattle.std.proofs.lemmas.Bool.{and_parts}
+use Rattle.base.proofs.Choice.{between_yes}
 use Rattle.base.proofs.All.{all_at}
 use Rattle.rules.specs.District.{District, most_segments, segments_of, strategies_of, resources_of}
 use Rattle.rules.specs.Rating.{benefit, usage, scaled_limit, permitted, fits_limit, fits_alone, candidate}
@@ -43,7 +44,7 @@ module _ (d : District) where
   module _ (i j : ℕ) (worth : 1 ≤ candidate_benefit d i j) where
     is_candidate_lem : (has d i j ≡ true) × (candidate d i j ≡ true)
     unfolding candidate_benefit
-    is_candidate_lem = and_both (has d i j) (candidate d i j) (taken (has d i j && candidate d i j) worth)
+    is_candidate_lem = and_parts (has d i j) (candidate d i j) (taken (has d i j && candidate d i j) worth)
       where
         taken : (x : Bool) → 1 ≤ pick x (nat_abs (benefit d i j)) 0 → x ≡ true
         taken true w = refl
@@ -51,7 +52,7 @@ module _ (d : District) where
 
     parts : (permitted d i j ≡ true) × ((lt_z (pos 0) (benefit d i j) && fits_alone d i j) ≡ true)
     unfolding candidate
-    parts = and_both (permitted d i j) (lt_z (pos 0) (benefit d i j) && fits_alone d i j) is_candidate_lem.1
+    parts = and_parts (permitted d i j) (lt_z (pos 0) (benefit d i j) && fits_alone d i j) is_candidate_lem.1
 
     pub candidate_permitted : permitted d i j ≡ true
     candidate_permitted = parts.0
@@ -59,13 +60,13 @@ module _ (d : District) where
     pub candidate_fits : (r : ℕ) → 1 ≤ r → r ≤ resources_of d → usage d i j r ≤ scaled_limit d r
     unfolding fits_alone fits_limit
     candidate_fits r lr hr =
-        let alone = (and_both (lt_z (pos 0) (benefit d i j)) (fits_alone d i j) parts.1).1 in
+        let alone = (and_parts (lt_z (pos 0) (benefit d i j)) (fits_alone d i j) parts.1).1 in
         leb-true (usage d i j r) (scaled_limit d r) (all_at (resources_of d) (fits_limit d i j) alone r lr hr)
 
     pub candidate_benefit_lem : benefit d i j ≡ pos (candidate_benefit d i j)
     unfolding candidate_benefit
     candidate_benefit_lem =
-        rw (is_candidate_lem.0, is_candidate_lem.1) (above (benefit d i j) (and_both (lt_z (pos 0) (benefit d i j)) (fits_alone d i j) parts.1).0)
+        rw (is_candidate_lem.0, is_candidate_lem.1) (above (benefit d i j) (and_parts (lt_z (pos 0) (benefit d i j)) (fits_alone d i j) parts.1).0)
       where
         above : (z : ℤ) → lt_z (pos 0) z ≡ true → z ≡ pos (nat_abs z)
         above (pos n) e = refl

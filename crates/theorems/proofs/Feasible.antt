@@ -10,7 +10,7 @@ use lib.Dec.{leb, eqb, le→leb}
 use lib.IntN.{pos}
 use lib.Signed.{lt_z, ◌≤ℤ◌, le_z_yes}
 use Rattle.base.specs.Over.{sum}
-use Rattle.base.proofs.Choice.{and_both, both}
+use Rattle.std.proofs.lemmas.Bool.{and_parts, and_from}
 use Rattle.base.proofs.Sums.{sum_part}
 use Rattle.base.proofs.All.{all_at, all_true}
 use Rattle.rules.specs.District.{District, segments_of, strategies_of, resources_of, leader_of}
@@ -37,7 +37,7 @@ module _ (d : District) (c : ℕ → ℕ) (permits : all_permitted d c ≡ true)
       go : (j : ℕ) → c i ≡ j → (eqb (c i) 0 || (leb (c i) (strategies_of d) && permitted d i (c i))) ≡ true → P j
       go zero e ok = none
       go (suc j) e ok =
-          let w = and_both (leb (suc j) (strategies_of d)) (permitted d i (suc j)) (rw (e, ne_eqb (suc j) 0 (λ z. omega arith)) at ok) in
+          let w = and_parts (leb (suc j) (strategies_of d)) (permitted d i (suc j)) (rw (e, ne_eqb (suc j) 0 (λ z. omega arith)) at ok) in
           some (suc j) (omega arith) (leb-true (suc j) (strategies_of d) w.0) w.1 e
 
   pub numbers : Numbers d c
@@ -81,7 +81,7 @@ module _ (d : District) (c : ℕ → ℕ) (feasible : Feasible d c) where
       (λ j lj hj ok e.
       let above : lt_z (pos 0) (benefit d i j) ≡ true = rw (e, ne_eqb j 0 (λ z. omega arith)) at worthy in
       let fits : fits_alone d i j ≡ true = rw e at (alone i l h) in
-      inr (lj, hj, worth d i l h j lj hj (both (permitted d i j) (lt_z (pos 0) (benefit d i j) && fits_alone d i j) ok (both (lt_z (pos 0) (benefit d i j)) (fits_alone d i j) above fits))))
+      inr (lj, hj, worth d i l h j lj hj (and_from (permitted d i j) (lt_z (pos 0) (benefit d i j) && fits_alone d i j) ok (and_from (lt_z (pos 0) (benefit d i j)) (fits_alone d i j) above fits))))
 
 pub rival_heeding : (d : District) → LowerLeaders (leader_of d) (segments_of d) → (c : ℕ → ℕ) → DistrictRival d c → Heeding (table_of d) c (leader_of d)
 unfolding leaders_respected leaders_worth leader_worth table_of

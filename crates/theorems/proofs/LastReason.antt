@@ -11,7 +11,8 @@ use lib.Dec.{T, eqb}
 use lib.IntN.{ℤ, pos, negsuc}
 use lib.ListN.{length}
 use lib.Signed.{le_z, lt_z}
-use Rattle.base.proofs.Choice.{both, between_yes}
+use Rattle.std.proofs.lemmas.Bool.{and_from}
+use Rattle.base.proofs.Choice.{between_yes}
 use Rattle.base.proofs.All.{all_true, all_at}
 use Rattle.rules.specs.District.{District, segments_of, strategies_of, years_of, distresses_of, resources_of, barred_in, leader_of}
 use Rattle.rules.specs.Rating.{benefit, scaled_limit, minimum_reached, years_reached, minima_reached, overall_reached, permitted, total_of}
@@ -52,9 +53,9 @@ module _
   j_permitted : permitted d i j ≡ true
   unfolding permitted minima_reached years_reached holds names
   j_permitted =
-      both (not (barred_in d i j)) (minima_reached d i j && overall_reached d i j)
+      and_from (not (barred_in d i j)) (minima_reached d i j && overall_reached d i j)
       (rw (free Barred refl (omega arith)))
-      (both (minima_reached d i j) (overall_reached d i j)
+      (and_from (minima_reached d i j) (overall_reached d i j)
       (all_true (distresses_of d) (years_reached d i j)
       (λ k lk hk. all_true (years_of d) (minimum_reached d i j k)
       (λ t lt ht. not-false (minimum_reached d i j k t)
@@ -115,7 +116,7 @@ module _
   last_holds : holds d p.strategies i j NoGreaterTotal ≡ true
   unfolding holds
   last_holds =
-      both (within (table_of d) rival) (le_z (total_of d (strategy_at rival)) (total_of d (strategy_at p.strategies))) rival_within
+      and_from (within (table_of d) rival) (le_z (total_of d (strategy_at rival)) (total_of d (strategy_at p.strategies))) rival_within
       (T_true _ (sound.neighbours (strategy_at rival) rival_rival i i rival_apart).le)
 
   pub last_explained : Explained d p.strategies i j NoGreaterTotal

@@ -10,7 +10,7 @@ use borrow.Author.Tests.{ltb-true, ltb-false, lt-ltb, eqb-true, eqb-false, eq-eq
 use lib.Dec.{ltb, eqb}
 use lib.Seq.{set-get_or, set-set, set_comm}
 use Rattle.base.specs.Search.{first}
-use Rattle.base.proofs.Choice.{both}
+use Rattle.std.proofs.lemmas.Bool.{and_from}
 use Rattle.base.proofs.Search.{or_else_none, only_none, first_at}
 use Rattle.rules.specs.Table.{Table}
 use Rattle.rules.specs.Phases.{strategy_at, give, is_candidate, total, within, respects, another, counts, single, pair, first_strategy, singles_of, first_single, pairs_with, pairs_of, pairs_from, first_pair, change}
@@ -35,11 +35,11 @@ module _ (t : Table) (leader : ℕ → ℕ) (c : List ℕ) where
   abbrev pub Keeps : List ℕ → Type 0
   Keeps e = (within t e ≡ true) × (respects leader t.segments e ≡ true)
 
-  -- a change that does not count, though both are kept, does not raise the total
+  -- a change that does not count, though and_from are kept, does not raise the total
   no_rise : (e : List ℕ) → counts t leader c e ≡ false → Keeps e → total t e ≤ total t c
   unfolding counts
   no_rise e f w =
-      let kept = both (within t e) (respects leader t.segments e) w.0 w.1 in
+      let kept = and_from (within t e) (respects leader t.segments e) w.0 w.1 in
       ltb-false (total t c) (total t e) (first_fails (ltb (total t c) (total t e)) (within t e && respects leader t.segments e) f kept)
     where
       first_fails : (x y : Bool) → (x && y) ≡ false → y ≡ true → x ≡ false

@@ -8,7 +8,8 @@ use native.Mathlib.Omega.{arith}
 use borrow.Author.Tests.{ltb-true}
 use lib.Dec.{leb}
 use lib.ListN.{replicate}
-use Rattle.base.proofs.Choice.{pick_by, and_both}
+use Rattle.std.proofs.lemmas.Bool.{and_parts}
+use Rattle.base.proofs.Choice.{pick_by}
 use Rattle.base.proofs.Each.{each_replicate}
 use Rattle.base.proofs.Sums.{sum_le, sum_bound, most_bound}
 use Rattle.rules.specs.District.{most_resources}
@@ -28,7 +29,7 @@ module _ (t : Table) where
       pick_by (λ q. ceiling_at t q ≤ ceiling_at t p) (lowers t p (raised p r s)) (raised p r s) _
       (λ e. le_of_lt (ltb-true _ _ e))
       (pick_by (λ q. ceiling_at t q ≤ ceiling_at t p) (leb s (price_at p r) && lowers t p (lowered p r s)) (lowered p r s) p
-      (λ e. le_of_lt (ltb-true _ _ (and_both (leb s (price_at p r)) (lowers t p (lowered p r s)) e).1))
+      (λ e. le_of_lt (ltb-true _ _ (and_parts (leb s (price_at p r)) (lowers t p (lowered p r s)) e).1))
       (le_refl (ceiling_at t p)))
 
   all_falls : (s n : ℕ) (p : List ℕ) → ceiling_at t (priced_all t s n p) ≤ ceiling_at t p

@@ -11,7 +11,8 @@ use lib.Dec.{ltb, eqb}
 use lib.ListN.{get_or, drop}
 use Rattle.base.specs.Over.{between}
 use Rattle.base.specs.Search.{or_else, first}
-use Rattle.base.proofs.Choice.{and_both, or_either, between_yes, between_in}
+use Rattle.std.proofs.lemmas.Bool.{and_parts, or_cases}
+use Rattle.base.proofs.Choice.{between_yes, between_in}
 use Rattle.base.proofs.Search.{or_else_assoc, only_none, only_some, first_at, first_some, first_ended}
 use Rattle.rules.specs.District.{District, years_of, distresses_of, resources_of}
 use Rattle.rules.specs.Reasons.{told, holds, given, hindrance}
@@ -54,8 +55,8 @@ unfolding before
 before_cases x y xs ys b less same =
     ⊎_elim
     (λ l. less (ltb-true x y l))
-    (λ e. let w = and_both (eqb x y) (before xs ys) e in same (eqb-true x y w.0) w.1)
-    (or_either (ltb x y) (eqb x y && before xs ys) b)
+    (λ e. let w = and_parts (eqb x y) (before xs ys) e in same (eqb-true x y w.0) w.1)
+    (or_cases (ltb x y) (eqb x y && before xs ys) b)
 
 not_ended : {P : Type 0} (ys : List ℕ) → before [] ys ≡ true → P
 unfolding before
@@ -219,7 +220,7 @@ module _ (d : District) (c : List ℕ) (i j : ℕ) where
     none_before InProgramme named b = plain 1 InProgramme (omega arith) (omega arith) refl b
     none_before Barred named b = plain 2 Barred (omega arith) (omega arith) refl b
     none_before (MinimumMissed k t) named b =
-        let w = and_both (between 1 (distresses_of d) k) (between 1 (years_of d) t) named in
+        let w = and_parts (between 1 (distresses_of d) k) (between 1 (years_of d) t) named in
         let x = between_in 1 (distresses_of d) k w.0 in
         let y = between_in 1 (years_of d) t w.1 in
         of_minimum k t x.0 x.1 y.0 y.1 b
