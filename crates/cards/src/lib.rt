@@ -36,8 +36,8 @@ fn only_inside(range: Field, number: Option<usize>) -> Option<usize>
     number.filter(|value| grammar::is_inside(range, *value))
 }
 
-// The number of a card, counted from 0, in a deck with these counts. Counts and card go apart: the card of the counts is read
-// before there are any.
+// The number of a card, counted from 0, in a deck with these counts. The counts go beside the card, since their own card is
+// read before there are any.
 fn read_field(counts: &Numbers, card: Card, line: &[u8], n: usize) -> Option<usize>
     requires { n < per_card }
     ensures { result ≡ field_on counts.now line.now (rows_before card + n + 1) }
@@ -52,7 +52,7 @@ fn read_fields(counts: &Numbers, card: Card, line: &[u8]) -> Result<Numbers, Ref
     ensures refused { refusal_in result ≡ unless (all per_card (is_good counts.now line.now (rows_before card))) wrong_field 0 }
     ensures numbers { IfOk result (λ numbers. numbers ≡ numbers_on counts.now line.now (rows_before card)) }
 {
-    // By a loop, since `from_fn` takes no refusal.
+    // By a loop: the first number that is refused ends it.
     let mut numbers = [0; PER_CARD];
     for (n, number) in numbers.iter_mut().enumerate() {
         *number = read_field(counts, card, line, n).ok_or(Refusal::WrongField)?;

@@ -16,8 +16,9 @@ use tables::{ENTRIES, Size, USE_ENTRIES};
 
 mod candidates;
 
-// The search stands at prices: what each candidate costs at them, and the ceiling. The costs stand in an array beside the table,
-// whose own are lent to be read alone, and in the places of its benefits, so that one number finds a candidate in each.
+// The search stands at prices: what each candidate costs at them, and the ceiling. The costs stand in an array beside the
+// table, whose own are lent to be read alone, and in the places of its benefits, so that one number finds a candidate in
+// each.
 #[derive(Drop)]
 struct Search<'a> {
     table: Candidates<'a>,
@@ -58,7 +59,8 @@ impl Search<'_> {
         best
     }
 
-    // The ceiling at the new price, or the present one where that is lower: the sum ends where it reaches it.
+    // The ceiling at the new price, or the present one where that is lower: the sum ends where it reaches it,
+    // so it is a loop.
     fn trial(&self, new: NewPrice) -> u64
         requires { new.resource ≤ self.now.table.size.resources }
         ensures { result ≡ min (ceiling_at (priced_in self.now.table) (repriced self.now.prices new)) self.now.ceiling }
@@ -112,7 +114,7 @@ impl Search<'_> {
         self.try_price(NewPrice { resource: r, price });
     }
 
-    // A round of the search: each resource in order.
+    // A round of the search: each resource in order, from the prices that the one before it left.
     fn price_all(&mut self, step: u64)
         requires { Headroom step self.old.prices }
         ensures same_table { self.new.table ≡ self.old.table }
@@ -124,7 +126,7 @@ impl Search<'_> {
     }
 }
 
-// The ceiling of every table with these benefits and down-shares.
+// The ceiling of every table with these benefits and down-shares. Each round of the search goes on from the one before it.
 pub fn ceiling_of(z: Size, benefits: &[u64; ENTRIES], downs: &[u64; USE_ENTRIES]) -> u64
     requires { Sized z benefits.now downs.now }
     ensures { (t : Table) → Priced t z benefits.now downs.now → result ≡ ceiling t }

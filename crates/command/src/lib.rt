@@ -17,8 +17,8 @@ const BLANK: u8 = b' ';
 
 #[derive(Clone, Copy)]
 pub enum Command {
-    // A line to pass over, and one that is no command. That is an answer of its own, which the console prints, and the definition
-    // (command_in) has it: so a line is read as a Command, not as an Option of one.
+    // A line to pass over, and one that is no command. That is an answer of its own, which the console prints, and the
+    // definition (command_in) has it. Inside, what is no command is None, and parse says this for it.
     Nothing,
     Unknown,
     // The path is what `path` finds in its line.
@@ -175,8 +175,8 @@ fn first_number(bytes: &[u8]) -> Option<(usize, &[u8])>
     Some((number, text::on_from(rest, BLANK)))
 }
 
-// So many numbers and then the end; 0 behind them. Four places for each word: `make` matches a word's numbers by their places,
-// which an ArrayVec would give as Options.
+// So many numbers and then the end; 0 behind them. Four places for each word: `make` names a word's numbers by one
+// pattern, and the slice of an ArrayVec would want one for each count.
 fn read_arguments(bytes: &[u8], n: usize) -> Option<[usize; 4]>
     requires { n ≤ 4 }
     ensures { placed result ≡ placed (arguments n bytes.now) }

@@ -1,6 +1,6 @@
 // The records of a file in order, each with the place of the district at which its numbers start. That is known from which
 // record it is, so that a walk over them is one over their numbers, and keeps no place. An iterator over the records would be
-// an `impl Iterator`, of which nothing can be proved yet.
+// a type of its own, with its laws, for four walks of a line each.
 ghost use Rattle.std.specs.Prelude.{◌≡◌, ◌<◌, length, take, drop};
 ghost use Rattle.rules.specs.Format.{slot_of, file_records};
 ghost use Rattle.grammar.specs.Places.{start_of, Ready};

@@ -1,5 +1,5 @@
-// Writing a district's records. Each writer takes the tail of the buffer that follows what is written, and says how many bytes it wrote.
-// Its two clauses are base's `Put` in its parts, which the proofs of what follows cite apart.
+// Writing a district's records. Each writer takes the tail of the buffer that follows what is written, and says how many
+// bytes it wrote. Its two clauses are those of base's `Put`.
 ghost use Rattle.std.specs.Prelude.{◌++◌, ◌≡◌, ◌≤◌, length, drop};
 ghost use Rattle.rules.specs.File.{header_bytes, number_bytes, record_bytes, encode_as};
 ghost use Rattle.grammar.specs.Slots.{form_number, slot_in};
@@ -68,7 +68,7 @@ pub fn file_length(form: Form, d: &District) -> usize
         .sum()
 }
 
-// Each record goes into what is left of the buffer.
+// Each record goes into what is left of the buffer: a loop, since the next one begins where this one ends.
 pub fn write_file(out: &mut [u8], form: Form, d: &District)
     requires { length (encode_as (form_number form) d.now) ≤ length out.old }
     ensures { out.new ≡ encode_as (form_number form) d.now ++ drop (length (encode_as (form_number form) d.now)) out.old }

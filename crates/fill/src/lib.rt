@@ -1,6 +1,6 @@
-// The arrays that the phases and the ceiling read, filled once for a plan from a district. What has an entry for each segment
-// is filled for the district's own segments: the arrays are zeros before, and what the district does not have counts 0. So it is
-// asked of them: they are made of zeros, and to write the rest here would be to write it twice.
+// The arrays that the phases and the ceiling read, filled once for a plan from a district. What has an entry for each
+// segment and strategy is filled for the district's own segments: the arrays are zeros before, and what the district does
+// not have counts 0. So it is asked of them: they are made of zeros, and to write the rest here would be to write it twice.
 #![tactic(auto)]
 
 ghost use Rattle.std.specs.Prelude.{◌≡◌, ℕ, ◌+◌, ◌-◌, ◌*◌, ◌/◌, ◌%◌, ◌^◌, ◌<◌, ◌≤◌, length, get_or, replicate};

@@ -24,11 +24,11 @@ pub enum Record {
 
 pub const WINDOW_SIZE: usize = 64;
 
-// The last readings since the last marker, in a ring whose unused places are 0; `next`, modulo 64, is the place
-// of the next one. The marker's bits are kept beside its float, which forgets a NaN's.
-// The sum beside the readings is prescribed, and memory is fixed. In an ArrayVec, which would hold the count, every reading past
-// the 64th would move 63 others, and `put` would ask whether the window is full: here it subtracts what stands at its place.
-// That it holds what was heard is no ghost field: what was heard is a list that no code holds, and any window may be handed in.
+// The last readings since the last marker, in a ring whose unused places are 0; `next`, modulo 64, is the place of the next
+// one. The marker's bits are kept beside its float, which forgets a NaN's. The sum beside the readings is prescribed, and
+// memory is fixed. In an ArrayVec, which would hold the count, every reading past the 64th would move 63 others, and `put`
+// would ask whether the window is full: here it subtracts what stands at its place. That it holds what was heard is no ghost
+// field: what was heard is a list that no code holds, and any window may be handed in.
 #[derive(Clone, Copy)]
 pub struct Window {
     pub readings: [f32; WINDOW_SIZE],
@@ -126,7 +126,8 @@ fn index(w: &mut Window, x: f32) -> Answer
     Ok(0)
 }
 
-// One record. `bits` stand beside it, as they were sent: its float forgets those of a NaN, and a marker's are to be given back.
+// One record. `bits` stand beside it, as they were sent: its float forgets those of a NaN, and a marker's are to be given
+// back.
 fn step(w: &mut Window, sent: Record, bits: u32) -> Answer
     ensures { (s : Sent) → sent ≡ record_of s → bits ≡ bits_of s → Follows w.old s (stepped result w.new) }
 {
@@ -143,7 +144,7 @@ fn step(w: &mut Window, sent: Record, bits: u32) -> Answer
 // ---- the calls: functions over the window that is lent, as the rules state them and every layer above has them (office, unit,
 // station, desk), so not methods
 
-// The window before the first record.
+// The window before the first record. No Default: its two clauses have names, and its contract would be one predicate.
 pub fn start() -> Window
     ensures start { Holds result silence }
     ensures run { (ss : List Sent) → After result ss (λ v. Holds v (heard_after ss)) }

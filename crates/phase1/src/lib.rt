@@ -1,7 +1,7 @@
 // Phase 1: each segment takes its top candidate; while some limit does not hold, the weakest segment steps down. A segment
-// whose leader has nothing has nothing. That segment i is the table's stays a clause of what takes an i: it is a number of a loop,
-// and a type for it would have to carry the table. The searches take a size and the benefits in place of a view of a table, since
-// start has no limits to make one.
+// whose leader has nothing has nothing. That segment i is the table's stays a clause of what takes an i: it is a number of a
+// loop, and a type for it would have to carry the table. The searches take a size and the benefits in place of a view of a
+// table, since start asks for no limits, and so could make none.
 #![tactic(auto)]
 
 ghost use Rattle.std.specs.Prelude.{◌≡◌, Bool, false, List, ℕ, ◌≤◌, Some};
@@ -25,8 +25,9 @@ mod weighed;
 pub use shares::ShareTable;
 
 // The candidate of segment i with the greatest benefit, of equals the lowest, among those of which the test, of number and
-// benefit, holds; 0 where there is none, which is the number of nothing. A loop, since a filter before the search for the greatest
-// would make the test of each candidate, and that of phase 2 is of every limit; here it is made of those alone that would lead.
+// benefit, holds; 0 where there is none, which is the number of nothing. A loop, since a filter before the search for the
+// greatest would make the test of each candidate, and that of phase 2 is of every limit; here it is made of those alone that
+// would lead.
 pub fn best_candidate<F: Fn(usize, u64) -> bool>(
     z: Size,
     benefits: BenefitTable<'_>,
@@ -57,7 +58,8 @@ fn top_candidate(z: Size, benefits: BenefitTable<'_>, i: usize) -> usize
     best_candidate(z, benefits, i, |_, _| true)
 }
 
-// The candidate of segment i that comes next after a, by falling benefit and among equals by number, or nothing after the last.
+// The candidate of segment i that comes next after a, by falling benefit and among equals by number, or nothing after the
+// last.
 fn next_candidate(z: Size, benefits: BenefitTable<'_>, i: usize, a: usize) -> usize
     requires { Cell i z.strategies × (a ≤ z.strategies) }
     ensures { (u l : List ℕ) → result ≡ next_candidate (tables z benefits.entry.entries.now u l) i a }
@@ -66,7 +68,8 @@ fn next_candidate(z: Size, benefits: BenefitTable<'_>, i: usize, a: usize) -> us
     best_candidate(z, benefits, i, |j, value| (value, a) < (old, j))
 }
 
-// Of an array at the places of uses, what stands there for a programme's strategies in resource r, together.
+// Of an array at the places of uses, what stands there for a programme's strategies in resource r, together. The array goes
+// apart from the size and the programme: it is of uses once, and of shares once.
 fn sum_in(z: Size, entries: &[u64; USE_ENTRIES], choice: &[usize; MOST_SEGMENTS], r: usize) -> u64
     requires summable { Summable z entries.now choice.now }
     requires le_r { (1 ≤ r) × (r ≤ z.resources) }
@@ -123,8 +126,8 @@ fn last_led(segments: usize, leaders: LeaderList<'_>) -> usize
 }
 
 // Segment i takes its next candidate; where that leaves others without their leaders, they lose what they have in the same
-// step. The first `led` segments have all the leaders. The facts of the shares and their sums are clauses here and in to_step
-// alone; a struct that held them would have to lend one part to be changed and both to be weighed.
+// step. The first `led` segments have all the leaders. The facts of the shares and their sums are clauses here, in to_step and
+// in reduce; a struct that held them would have to lend one part to be changed and both to be weighed.
 fn step(planning: &mut Planning<'_>, summed: &mut Summed<'_>, led: usize, i: usize)
     requires leaders { LedWithin planning.old.t.leaders.entries.now planning.old.t.size.segments led }
     requires held { HeldIn planning.old.t summed.old.shares.entries.now planning.old.draft.choice }

@@ -7,6 +7,7 @@ ghost use Rattle.phase1.specs.Reduce.{share_at};
 use rules::places::MOST_RESOURCES;
 use tables::{Move, USE_ENTRIES, row_of, shift};
 
+// The places are a ghost field beside the array's type: the laws of sums take the length as a fact.
 #[derive(Clone, Copy)]
 pub struct ShareTable<'a> {
     pub entries: &'a [u64; USE_ENTRIES],

@@ -26,7 +26,7 @@ fn worth(offer: Option<Offer>) -> u64
     offer.map_or(0, |o| o.benefit)
 }
 
-// The best that segment i could take.
+// The best that segment i could take. That the segment is the table's stays a clause, as in phase 1.
 fn offer_of(planning: &Planning<'_>, i: usize) -> Option<Offer>
     requires { (1 ≤ i) × (i ≤ planning.now.t.size.segments) }
     ensures { let t = table_in planning.now.t in let c = planning.now.draft.choice in MatchOption result (offer t c i ≡ 0) (IsOffer t c i) }
@@ -50,9 +50,9 @@ fn is_free(leaders: LeaderList<'_>, choice: &[usize; MOST_SEGMENTS], i: usize) -
     choice[i - 1] == 0 && leaders.is_led(choice, i)
 }
 
-// The offer to pick up: of equals the one of the lowest segment. A loop, since max_by_key would take the last of equals, and of
-// min_by_key over Reverse, which takes the first, the library says which of equals by its turns alone, and these are the loop's.
-// To n + 1, since 1..=n has a second exit, where the proof stands once more.
+// The offer to pick up: of equals the one of the lowest segment. A loop, since max_by_key would take the last of equals, and
+// of min_by_key over Reverse, which takes the first, the library says which of equals by its turns alone, and these are the
+// loop's. To n + 1, since 1..=n has a second exit, where the proof stands once more.
 fn best_offer(planning: &Planning<'_>) -> Option<Offer>
     ensures { let t = table_in planning.now.t in let c = planning.now.draft.choice in let i = best_offer t (leaders_in planning.now.t) c in MatchOption result (i ≡ 0) (λ o. (1 ≤ i) × IsOffer t c i o) }
 {

@@ -1,5 +1,6 @@
 // Phase 3: changes of one segment or two that raise the total, keep the limits and respect leaders, until none is left.
-// Ranges end at a number plus one: an inclusive range keeps a flag beside its ends, which each step of the inner loops would test.
+// Ranges end at a number plus one: an inclusive range keeps a flag beside its ends, which each step of the inner loops would
+// test. That segment i is the table's stays a clause, as in phase 1.
 #![tactic(auto)]
 
 ghost use Rattle.std.specs.Prelude.{◌≡◌};
@@ -24,9 +25,9 @@ use rules::places::{MOST_RESOURCES, MOST_SEGMENTS};
 use tables::Planning;
 use tops::tops_of;
 
-// Slacks and excesses have this added, since they may be negative. They are made of limits, sums and uses and compared, nothing
-// more, so as naturals they keep the tables' numbers: an i64 would need a conversion of each, with its bound, and the integers in
-// the definitions. And a number that no slack reaches.
+// Slacks and excesses have this added, since they may be negative. They are made of limits, sums and uses and compared,
+// nothing more, so as naturals they keep the tables' numbers: an i64 would need a conversion of each, with its bound, and
+// the integers in the definitions. And a number that no slack reaches.
 const OFFSET: u64 = 1 << 48;
 
 const UNREACHED: u64 = 1 << 50;

@@ -21,7 +21,7 @@ pub struct Queues {
     pub turn: Console,
 }
 
-// Before the first arrival; console 1 is first.
+// Before the first arrival; console 1 is first. No Default: it would say the same clause and the same body in more lines.
 #[tactic(auto, unfolding(rules::specs::Desks::fresh_queues))]
 pub fn fresh() -> Queues
     ensures { queues_in result ≡ fresh_queues }

@@ -10,8 +10,9 @@ use crate::rows::shift;
 use crate::{Move, Size};
 use rules::places::{MOST_RESOURCES, MOST_SEGMENTS};
 
-// The strategy of each segment, 0 for nothing, and the sums. Its methods ask for what they read alone; Planning's, which call
-// them, have the whole table. That a move is Inside the size stays a clause, since a Move is of no table.
+// The strategy of each segment, 0 for nothing, and the sums. Its methods promise of uses and limits alone, and ask for no
+// benefits or leaders; Planning's, which call them, have the whole table. That a move is Inside the size stays a clause,
+// since a Move is of no table.
 #[derive(Drop)]
 pub struct Draft {
     pub choice: [usize; MOST_SEGMENTS],

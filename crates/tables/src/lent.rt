@@ -1,7 +1,8 @@
-// The parts of a table, each a lent array with what is known of it. The arrays are flat: what is written and proved of a table
-// goes by one place (the filling, the ceiling's costs, the zeros behind the last segment), and a bound of all entries is one
-// fact; nested, each of these would be three deep. That an entry is there, Cell, stays a clause, of numbers and of a Move: it is
-// a fact of a loop's numbers for as long as one entry is read, and a value that held it would be made anew for each.
+// The parts of a table, each a lent array with what is known of it. The arrays are flat: what is written and proved of a
+// table goes by one place (the filling, the ceiling's costs, the zeros behind the last segment), and a bound of all entries
+// is one fact; nested, benefits would be two deep in each of these, and uses three. That an entry is there, Cell, stays a
+// clause, of numbers and of a Move: it is a fact of a loop's numbers for as long as one entry is read, and a value that held
+// it would be made anew for each.
 ghost use Rattle.std.specs.Prelude.{◌≡◌, ℕ, ◌-◌, ◌^◌, ◌<◌, ◌≤◌, List, get_or, length};
 ghost use Rattle.rules.specs.District.{most_segments, most_resources};
 ghost use Rattle.rules.specs.Phases.{strategy_at, total, led};

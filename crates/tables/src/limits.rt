@@ -9,7 +9,8 @@ use crate::Move;
 use crate::lent::{LimitList, UsageTable};
 use rules::places::MOST_RESOURCES;
 
-// Resource r suffices where both moves are made.
+// Resource r suffices where both moves are made. Sums and budgets go beside the moves: who asks keeps the budgets over many
+// moves, and the sums are the programme's.
 #[tactic(auto, unfolding(crate::specs::Moves::room_for))]
 pub fn room_in(
     uses: UsageTable<'_>,

@@ -16,7 +16,8 @@ pub fn entry(i: usize, j: usize) -> usize
     COLUMNS * (i - 1) + j
 }
 
-// Of an array with an entry for each strategy on each segment, the greatest on segment i, nothing left out; 0 without strategies.
+// Of an array with an entry for each strategy on each segment, the greatest on segment i, nothing left out; 0 without
+// strategies.
 pub fn greatest(table: &[u64; ENTRIES], strategies: usize, i: usize) -> u64
     requires { Cell i strategies }
     ensures { result ≡ most strategies (entry_at table.now i) }
@@ -29,7 +30,8 @@ pub fn greatest(table: &[u64; ENTRIES], strategies: usize, i: usize) -> u64
         .unwrap_or(0)
 }
 
-// Of an array with a number of each resource for each strategy on each segment, those of strategy j on segment i.
+// Of an array with a number of each resource for each strategy on each segment, those of strategy j on segment i. A
+// slice, with its length in a clause: the library gives a part as an array by an Option alone (`first_chunk`).
 pub fn row_of(table: &[u64; USE_ENTRIES], i: usize, j: usize) -> &[u64]
     requires { Cell i j }
     ensures len { length result.now ≡ most_resources }

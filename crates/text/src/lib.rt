@@ -74,7 +74,8 @@ pub fn digits_after(before: usize, bytes: &[u8]) -> Option<usize>
     Some(value)
 }
 
-// The number goes on with these digits: the rules' `going_on`, which a deck's hundredths are made of.
+// The number goes on with these digits. It is `going_on` of the definitions, of which a deck's hundredths are made: an
+// `and_then` at each call would spell it out there.
 pub fn go_on(number: Option<usize>, bytes: &[u8]) -> Option<usize>
     ensures { result ≡ held (going_on number bytes.now) }
 {
