@@ -86,10 +86,3 @@ module _ {A : Type 0} (next : A → Option A) (bound : ℕ) (start : A) where
   reached_end s m here e =
       let ended = run_end next (bound - m) s e in
       (here.last ∙ ap (λ (r : Run A). r.last) ended, let c = ap (λ (r : Run A). r.count) ended in omega (arith, here.count))
-
-  pub reached_spent : (s : A) (m : ℕ) → Reached next bound start s m → bound ≤ m → ((run next bound start).last ≡ s) × ((run next bound start).count ≡ m)
-  unfolding run
-  reached_spent s m here l =
-      let none_left : bound - m ≡ 0 = omega (arith, l) in
-      let ended : run next (bound - m) s ≡ record { last = s; count = 0 } = rw none_left in
-      (here.last ∙ ap (λ (r : Run A). r.last) ended, let c = ap (λ (r : Run A). r.count) ended in omega (arith, here.count, here.spent))
