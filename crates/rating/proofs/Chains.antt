@@ -2,15 +2,20 @@
 use Prim.Native.Nat.{ℕ, zero, suc, ◌+◌, ◌-◌}
 use mathlib.Core.Path.{◌≡◌, refl, sym, ap, ◌∙◌}
 use mathlib.Core.Bool.{Bool, true, false, ◌&&◌, and-true, and_assoc}
+use mathlib.Core.List.{map}
 use native.Mathlib.Numerals.{add-one}
 use native.Mathlib.Omega.{arith}
+use denote.Param.Members.{Mut, Called}
 use Rattle.std.proofs.iter.runs.Sources.{nat_range_inclusive_steps}
-use Rattle.std.proofs.lemmas.Iterator.{YieldsList}
+use Rattle.std.proofs.lemmas.Iterator.{YieldsList, YieldsList-from_map, maps}
+use Rattle.std.proofs.lemmas.Iterator.Consumers.{YieldsList-at}
 use Rattle.std.proofs.lemmas.List.Sums.{sum_by-cons}
 use Rattle.std.specs.Iterator.{AlwaysYields}
 use Rattle.std.specs.List.{list_all, range_with_len, sum_by}
 use Rattle.std.specs.Range.{range_inclusive_start, range_inclusive_end, range_inclusive_exhausted, range_inclusive_len}
 use Rattle.std.specs.declared.ops.RangeInclusive.{RangeInclusive}
+use Rattle.std.specs.declared.iter.Map.{Map}
+use Rattle.std.specs.Iterator.Adapters.{map_source, map_callee}
 use Rattle.base.specs.Over.{all, sum}
 use Rattle.base.proofs.Sums.{sum_none, sum_next}
 
@@ -44,6 +49,11 @@ module _ {s : RangeInclusive ℕ} {n : ℕ} (from : range_inclusive_start s ≡ 
   pub from_1 : YieldsList nat_range_inclusive_steps (λ x. x) s (range_with_len 1 n)
   unfolding left
   from_1 = record { runs = yields n 1 s (rw (whole, from, to) (omega arith)) (λ e. from) }
+
+  -- and what `map` over it does, where the closure gives h of each number
+  pub mapped_from_1 : {F R : Type 0} {chain : Map (RangeInclusive ℕ) F} {g : Mut F (ℕ × Unit {0}) R} (h : ℕ → R) {f : F} → map_source chain ≡ s → map_callee chain ≡ f
+      → ((k : ℕ) (r : R) (q : F) → Called g f (k, tt) r q → (q ≡ f) × (r ≡ h k)) → YieldsList (maps nat_range_inclusive_steps g) (λ r. r) chain (map h (range_with_len 1 n))
+  mapped_from_1 {g = g} h source = YieldsList-from_map g h (YieldsList-at source from_1)
 
 -- ---- all of them pass
 

@@ -4,4 +4,5 @@ pub mod Chains
 pub mod Least
 pub mod Bounds
 pub mod Entries
+pub mod SignedSums
 pub mod Uses

@@ -25,8 +25,8 @@ const PAVEMENT: usize = 0;
 
 // ---- what stands at its places
 
-// A reader for each run, which names it: its first place and its width are constants of the rules, and one reader for all would
-// take both as parameters.
+// A reader for each run, which names it. Its first place and its width are constants of the rules, and a call of one reader for
+// all would give both: `at(d, STRATEGIES, PER_STRATEGY, j, n)` in place of `strategy_at(d, j, n)`.
 
 pub fn limit_at(d: &District, r: usize) -> usize
     requires { Resource r }
@@ -107,20 +107,6 @@ pub struct Ranged<'a> {
 }
 
 impl Ranged<'_> {
-    // The sum of what each distress type gives. A loop: the library gives a `sum` of signed numbers as a fold of its own, and has
-    // no lemma that bounds it, as it has for `sum` of the others.
-    fn over_distresses<F: Fn(usize) -> i64>(&self, term: F) -> i64
-        requires callable { (k : ℕ) → Distress k → F.pre term k }
-        requires small { (k : ℕ) (z : ℤ) → Distress k → F.post term k z → nat_abs z ≤ 1000000000 }
-        ensures { (f : ℕ → ℤ) → ((k : ℕ) (z : ℤ) → Distress k → F.post term k z → z ≡ f k) → result ≡ sum_z (distresses_of self.now.district.now) f }
-    {
-        let mut sum: i64 = 0;
-        for k in 1..=self.district[DISTRESS_COUNT] {
-            sum += term(k);
-        }
-        sum
-    }
-
     pub fn scaled_limit(&self, r: usize) -> u64
         requires { Resource r }
         ensures { result ≡ scaled_limit self.now.district.now r }
@@ -189,7 +175,8 @@ impl<'a> Treatment<'a> {
     // ---- effect, area, benefit
 
     // What is left of a gain at the start and at the end of each year, summed over the years. All of it is there when
-    // year 1 starts. A loop, which hands the end of a year on to the next: a sum of both ends would find each twice.
+    // year 1 starts. A loop, which hands the end of a year on to the next. A `fold` would carry the same two numbers as a pair,
+    // `|(total, start), t| { let end = self.survival(k, t); (total + start + end, end) }`, and take it apart behind.
     fn survivals(&self, k: usize) -> usize
         requires { Distress k }
         ensures { result ≡ sum (years_of self.now.ranged.district.now) (both_ends self.now.ranged.district.now self.now.segment self.now.strategy k) }
@@ -216,7 +203,9 @@ impl<'a> Treatment<'a> {
     fn total_credits(&self) -> i64
         ensures { result ≡ sum_z (distresses_of self.now.ranged.district.now) (credits self.now.ranged.district.now self.now.segment self.now.strategy) }
     {
-        self.ranged.over_distresses(|k| self.credits(k))
+        (1..=self.ranged.district[DISTRESS_COUNT])
+            .map(|k| self.credits(k))
+            .sum()
     }
 
     // One division, toward zero, after the whole sum.
@@ -297,8 +286,9 @@ impl<'a> Treatment<'a> {
     fn first_ratings(&self) -> i64
         ensures { result ≡ sum_z (distresses_of self.now.ranged.district.now) (first_rating self.now.ranged.district.now self.now.segment self.now.strategy) }
     {
-        self.ranged
-            .over_distresses(|k| self.rating(k, 1, self.gain(k)))
+        (1..=self.ranged.district[DISTRESS_COUNT])
+            .map(|k| self.rating(k, 1, self.gain(k)))
+            .sum()
     }
 
     pub fn overall_reached(&self) -> bool
@@ -392,7 +382,7 @@ impl<'a> Ranged<'a> {
         a * (strategy_at(self.district, j, r - 1) as u64)
     }
 
-    // By `if`: an Option would be made and taken apart in the same line.
+    // By `if`: `(r <= count).then(|| limit).unwrap_or(0)` makes an Option and takes it apart in one line.
     pub fn limit_in(&self, r: usize) -> u64
         requires { Resource r }
         ensures { result ≡ limit_in self.now.district.now r }

@@ -2,13 +2,12 @@
 use mathlib.Core.Path.{◌∙◌}
 use native.Mathlib.Omega.{arith}
 use Rattle.std.proofs.Common.{rules}
-use Rattle.std.proofs.lemmas.Iterator.{YieldsList-from_map}
-use Rattle.std.proofs.lemmas.Iterator.Consumers.{YieldsList-at, sum_by_from_yields_List, fits_by_from_yields_list}
+use Rattle.std.proofs.lemmas.Iterator.Consumers.{sum_by_from_yields_List, fits_by_from_yields_list}
 use Rattle.std.specs.List.{range_with_len}
 use Rattle.rules.specs.District.{segments_of}
 use Rattle.rules.specs.Phases.{chosen_usage, used}
 use Rattle.rules.specs.Table.{table_of}
-use Rattle.rating.proofs.Chains.{from_1, sum_listed}
+use Rattle.rating.proofs.Chains.{mapped_from_1, sum_listed}
 use Rattle.rating.proofs.Uses.{sum_le}
 use Rattle.rating.proofs.Ranged.used.Goals as goal
 
@@ -20,7 +19,7 @@ sum-requires-clause-fits c =
     let range = c.new.ensures in
     let few = ok.segments in
     fits_by_from_yields_list uses (range_with_len 1 (segments_of d)) c.map.result _
-    (YieldsList-from_map _ uses (YieldsList-at c.map.ensures.source (from_1 range.start range.end range.exhausted)) c.map.ensures.closure (λ x r q k. search rules))
+    (mapped_from_1 range.start range.end range.exhausted uses c.map.ensures.source c.map.ensures.closure (λ x r q k. search rules))
     (omega (arith, sum_listed (segments_of d) uses, sum_le d ok c.args.c.now c.args.r (segments_of d)))
 
 pub returns : goal.returns
@@ -30,5 +29,5 @@ returns c =
     let uses = chosen_usage (table_of d) c.args.c.now c.args.r in
     let range = c.new.ensures in
     sum_by_from_yields_List uses (range_with_len 1 (segments_of d)) c.map.result _ c.sum.ensures.ran
-    (YieldsList-from_map _ uses (YieldsList-at c.map.ensures.source (from_1 range.start range.end range.exhausted)) c.map.ensures.closure (λ x r q k. search rules))
+    (mapped_from_1 range.start range.end range.exhausted uses c.map.ensures.source c.map.ensures.closure (λ x r q k. search rules))
     ∙ sum_listed (segments_of d) uses

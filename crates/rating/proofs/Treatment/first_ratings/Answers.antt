@@ -1,20 +1,31 @@
 -- `rating::Treatment::first_ratings` meets its contract: the rating of a type is small.
-use mathlib.Core.Path.{◌≡◌}
 use native.Mathlib.Omega.{arith}
-use mir.Syntax.{w64}
 use Rattle.std.proofs.Common.{rules}
-use Rattle.base.proofs.Integers.{told}
-use Rattle.rules.specs.Rating.{rating, first_rating}
+use Rattle.rules.specs.District.{distresses_of}
+use Rattle.rules.specs.Rating.{first_rating}
 use Rattle.rating.proofs.Bounds.{rating_abs}
+use Rattle.rating.proofs.Chains.{mapped_from_1}
+use Rattle.rating.proofs.SignedSums.{signed_sum, signed_fits}
 use Rattle.rating.proofs.Treatment.first_ratings.Goals as goal
 
-pub over_distresses-requires-clause-small : goal.over_distresses-requires-clause-small
-over_distresses-requires-clause-small c =
+pub sum-requires-clause-fits : goal.sum-requires-clause-fits
+unfolding first_rating
+sum-requires-clause-fits c =
     let s = c.args.self.now in
-    λ k z p e.
-    let here : z ≡ rating s.ranged.district.now s.segment s.strategy k 1 = search rules in
-    rw here (omega (arith, rating_abs _ s.ranged.in_range _ _ k 1 s.segment_in s.strategy_in p))
+    let d = s.ranged.district.now in
+    let few = s.ranged.in_range.distresses in
+    let each = first_rating d s.segment s.strategy in
+    let range = c.new.ensures in
+    signed_fits c.map.result (distresses_of d) 100_000_000 each (mapped_from_1 range.start range.end range.exhausted each c.map.ensures.source c.map.ensures.closure (λ x r q k. search rules))
+    (λ k a b. rating_abs d s.ranged.in_range _ _ k 1 s.segment_in s.strategy_in (a, omega arith)) (omega arith)
 
 pub returns : goal.returns
 unfolding first_rating
-returns c = told w64 c.over_distresses.type_inv (c.over_distresses.ensures (first_rating _ _ _) (λ k z p e. search rules))
+returns c =
+    let s = c.args.self.now in
+    let d = s.ranged.district.now in
+    let few = s.ranged.in_range.distresses in
+    let each = first_rating d s.segment s.strategy in
+    let range = c.new.ensures in
+    signed_sum c.map.result (distresses_of d) 100_000_000 each (mapped_from_1 range.start range.end range.exhausted each c.map.ensures.source c.map.ensures.closure (λ x r q k. search rules))
+    (λ k a b. rating_abs d s.ranged.in_range _ _ k 1 s.segment_in s.strategy_in (a, omega arith)) (omega arith) c.sum.result c.sum.ensures.ran
