@@ -39,11 +39,10 @@ module _ {z : Size} {u c sums : List ℕ} (running : Running z u c sums) where
   pub sums_le : (r : ℕ) → 1 ≤ r → r ≤ z.resources → get_or sums (r - 1) 0 ≤ 2 ^ 47
   sums_le r low high = omega (arith, running.sums_are [] [] r low high, used_le running.bounded running.uses [] [] c r)
 
-  pub testable : {given : List ℕ} → length given ≡ most_resources → Testable z.resources u sums given
+  pub testable : {given : List ℕ} → length given ≡ most_resources → Testable z.resources sums given
   testable places =
       record {
         few = running.bounded.resources;
-        uses = running.uses;
         sums_length = running.sums_length;
         sums_small = sums_le;
         budgets_length = places;
@@ -109,11 +108,10 @@ module _ {z : Size} {u c sums : List ℕ} (running : Running z u c sums) where
           sums_are = λ b l r lr hr. omega (arith, h r lr hr, running.sums_are b l r lr hr, used_one i a low high b l r);
         }
 
-pub testable_part : (n m : ℕ) {u sums given : List ℕ} → Testable n u sums given → m ≤ n → Testable m u sums given
+pub testable_part : (n m : ℕ) {sums given : List ℕ} → Testable n sums given → m ≤ n → Testable m sums given
 testable_part n m test h =
     record {
       few = omega (arith, test.few);
-      uses = test.uses;
       sums_length = test.sums_length;
       sums_small = λ r lr hr. test.sums_small r lr (omega arith);
       budgets_length = test.budgets_length;

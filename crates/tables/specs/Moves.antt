@@ -2,7 +2,7 @@
 use Rattle.std.specs.Prelude.{ℕ, ◌+◌, ◌-◌, ◌≤◌, ◌<◌, ◌^◌, ◌≡◌, Bool, List, leb, get_or, length}
 use Rattle.tables.specs.declared.Size.{Size}
 use Rattle.tables.specs.declared.Move.{Move}
-use Rattle.tables.specs.Arrays.{usage_at, Uses}
+use Rattle.tables.specs.Arrays.{usage_at}
 use Rattle.rules.specs.District.{most_resources}
 
 -- Budgets, where segments i and k give up strategies x and y: of each of the first resources its limit, and what they use of it now.
@@ -11,9 +11,8 @@ pub record Budgets (resources : ℕ) (u l : List ℕ) (i x k y : ℕ) (budgets :
   pub each : (r : ℕ) → 1 ≤ r → r ≤ resources → get_or budgets (r - 1) 0 ≡ get_or l (r - 1) 0 + (usage_at u i x r + usage_at u k y r)
 
 -- what a test of the first resources reads, and bounds under which no sum wraps
-pub record Testable (resources : ℕ) (u sums budgets : List ℕ) : Type 0 where
+pub record Testable (resources : ℕ) (sums budgets : List ℕ) : Type 0 where
   pub few : resources ≤ most_resources
-  pub uses : Uses u
   pub sums_length : length sums ≡ most_resources
   pub sums_small : (r : ℕ) → 1 ≤ r → r ≤ resources → get_or sums (r - 1) 0 ≤ 2 ^ 47
   pub budgets_length : length budgets ≡ most_resources

@@ -8,7 +8,7 @@ ghost use Rattle.rules.specs.District.{most_segments, most_resources};
 ghost use Rattle.rules.specs.Phases.{strategy_at, total, led};
 ghost use Rattle.tables.specs.Arrays.{benefit_at, usage_at, tables, leader_in, Leaders, Benefits, Uses, Limits, Bounded, Cell, Chosen};
 
-use crate::rows::{entry, row_of};
+use crate::rows::{entry, row_of, use_entry};
 use crate::{ENTRIES, Size, USE_ENTRIES};
 use rules::places::{MOST_RESOURCES, MOST_SEGMENTS};
 
@@ -87,7 +87,7 @@ impl<'a> UsageTable<'a> {
         ensures value { result ≡ usage_at self.entry.entries.now i j r }
         ensures small { result < 2 ^ 41 }
     {
-        self.entries[MOST_RESOURCES * entry(i, j) + (r - 1)]
+        self.entries[use_entry(i, j, r)]
     }
 
     // The same of each resource.

@@ -7,6 +7,7 @@ pub mod draft;
 pub mod lent;
 pub mod limits;
 pub mod planning;
+pub mod resources;
 pub mod rows;
 pub mod view;
 
@@ -14,7 +15,8 @@ pub use draft::Draft;
 pub use lent::{BenefitTable, LeaderList, LimitList, UsageTable};
 pub use limits::{budgets, room_in};
 pub use planning::Planning;
-pub use rows::{greatest, row_of, shift};
+pub use resources::by_resource;
+pub use rows::{entry, greatest, row_of, shift, use_entry};
 pub use view::TableView;
 
 // The entries of a segment, one for nothing and one for each strategy; those of all segments; and a use of each

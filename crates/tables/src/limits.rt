@@ -7,6 +7,7 @@ ghost use Rattle.tables.specs.Moves.{Budgets, Testable, room_for};
 
 use crate::Move;
 use crate::lent::{LimitList, UsageTable};
+use crate::resources::by_resource;
 use rules::places::MOST_RESOURCES;
 
 // Resource r suffices where both moves are made. Sums and budgets go beside the moves: who asks keeps the budgets over many
@@ -20,7 +21,7 @@ pub fn room_in(
     second: Move,
     r: usize,
 ) -> bool
-    requires testable { Testable r uses.entries.now sums.now budgets.now }
+    requires testable { Testable r sums.now budgets.now }
     requires cell { Cell first.0 first.1 × Cell second.0 second.1 × (1 ≤ r) }
     ensures { result ≡ room_for uses.entry.entries.now sums.now budgets.now first.0 first.1 second.0 second.1 r }
 {
@@ -39,7 +40,7 @@ pub(crate) fn room(
     first: Move,
     second: Move,
 ) -> bool
-    requires testable { Testable resources uses.entries.now sums.now budgets.now }
+    requires testable { Testable resources sums.now budgets.now }
     requires cell { Cell first.0 first.1 × Cell second.0 second.1 }
     ensures { result ≡ all resources (room_for uses.entry.entries.now sums.now budgets.now first.0 first.1 second.0 second.1) }
 {
@@ -60,9 +61,7 @@ pub fn budgets(
 {
     let Move(i, x) = first;
     let Move(k, y) = second;
-    let mut each = [0u64; MOST_RESOURCES];
-    for (r, budget) in each[..resources].iter_mut().enumerate() {
-        *budget = limits.entries[r] + (uses.at(i, x, r + 1) + uses.at(k, y, r + 1));
-    }
-    each
+    by_resource(resources, |r| {
+        limits.entries[r - 1] + (uses.at(i, x, r) + uses.at(k, y, r))
+    })
 }

@@ -16,6 +16,14 @@ pub fn entry(i: usize, j: usize) -> usize
     COLUMNS * (i - 1) + j
 }
 
+// Where its use of resource r stands.
+pub fn use_entry(i: usize, j: usize, r: usize) -> usize
+    requires { Cell i j × (1 ≤ r) × (r ≤ most_resources) }
+    ensures { result ≡ use_entry i j r }
+{
+    MOST_RESOURCES * entry(i, j) + (r - 1)
+}
+
 // Of an array with an entry for each strategy on each segment, the greatest on segment i, nothing left out; 0 without
 // strategies.
 pub fn greatest(table: &[u64; ENTRIES], strategies: usize, i: usize) -> u64
@@ -37,7 +45,7 @@ pub fn row_of(table: &[u64; USE_ENTRIES], i: usize, j: usize) -> &[u64]
     ensures len { length result.now ≡ most_resources }
     ensures numbers { (r : ℕ) → 1 ≤ r → r ≤ most_resources → get_or result.now (r - 1) 0 ≡ get_or table.now (use_entry i j r) 0 }
 {
-    let at = MOST_RESOURCES * entry(i, j);
+    let at = use_entry(i, j, 1);
     &table[at..at + MOST_RESOURCES]
 }
 
