@@ -1,14 +1,14 @@
 -- Laws of parts of bytes, and of digits that are read from the first to the last.
-use Prim.Native.Nat.{ℕ, ◌+◌, ◌-◌, ◌*◌, ◌^◌, ◌≤◌, ◌<◌}
+use Prim.Native.Nat.{ℕ, ◌+◌, ◌-◌, ◌*◌, ◌^◌, ◌≤◌}
 use mathlib.Core.Bool.{Bool, true, false}
 use mathlib.Core.List.{List, [], ◌∷◌, ◌++◌}
 use Rattle.std.specs.Prelude.{Option, None, Some}
 use mathlib.Core.Path.{◌≡◌, refl, sym, ap, ◌∙◌}
 use native.Mathlib.Omega.{arith}
 use lib.Dec.{ltb, eqb}
-use lib.ListN.{length, take, drop, length-append, drop_of_length-le}
+use lib.ListN.{length, take, drop, length-append}
 use lib.Seq.{take_at, drop_at}
-use borrow.Author.Tests.{le-ltb, lt-ltb, ltb-false}
+use borrow.Author.Tests.{le-ltb, ltb-false}
 use Rattle.base.specs.Choice.{pick, only}
 use Rattle.base.specs.Over.{between}
 use Rattle.base.specs.Text.{up_to, on_from, value_from, going_on, held}
@@ -45,11 +45,6 @@ held_over v (b ∷ bs) h = go (between 48 57 b) (held_over (v * 10 + (b - 48)) b
     go : (t : Bool) → held (value_from (v * 10 + (b - 48)) bs) ≡ None → held (pick t (value_from (v * 10 + (b - 48)) bs) None) ≡ None
     go true e = e
     go false e = refl
-
--- at the end it is the value, which 64 bits hold
-pub value_end : (v : ℕ) (bs : List ℕ) (i : ℕ) → v < 2 ^ 64 → length bs ≤ i → held (value_from v (drop i bs)) ≡ Some v
-unfolding value_from held
-value_end v bs i l h = rw (drop_of_length-le bs {i = i} h, lt-ltb v (2 ^ 64) l)
 
 -- two runs of digits are read as one
 pub value_append : (xs bs : List ℕ) (v : ℕ) → value_from v (xs ++ bs) ≡ going_on (value_from v xs) bs

@@ -1,9 +1,8 @@
 -- `payload` meets its contract: the widths of the numbers in their order.
 use Rattle.std.proofs.Common.{ℕ, zero, suc, ◌+◌, ◌^◌, ◌≡◌, refl, ap, ◌∙◌, map, arith, rules}
 use Rattle.std.specs.List.{sum, range_with_len}
-use Rattle.std.proofs.lemmas.Iterator.{YieldsList-from_range, YieldsList-from_map}
 use Rattle.std.proofs.lemmas.List.Sums.{sum_by-cons}
-use Rattle.std.proofs.lemmas.Iterator.Consumers.{YieldsList-at, fits_from_yields_list, sum_from_yields_List}
+use Rattle.base.proofs.Ranges.{range_fits, range_total}
 use Rattle.rules.specs.District.{District}
 use Rattle.rules.specs.File.{widths}
 use Rattle.rules.specs.Format.{field_at, Slot}
@@ -24,13 +23,11 @@ sum-requires-clause-fits c =
     let d = c.args.d.now in
     let s = slot_in c.args.slot in
     let n = c.args.slot.places in
-    fits_from_yields_list c.map.result (2 ^ 64) (YieldsList-from_map _ (width d s) (YieldsList-at c.map.ensures.source (YieldsList-from_range 0 n n refl (omega arith))) c.map.ensures.closure (λ x r q k. search rules))
-    (rw (listed d s n 0) (omega (arith, widths_small n d s 0)))
+    range_fits c.map.result (width d s) n (listed d s n 0) c.map.ensures.source c.map.ensures.closure (λ x r q k. search rules) (2 ^ 64) (omega (arith, widths_small n d s 0))
 
 pub returns : goal.returns
 returns c =
     let d = c.args.d.now in
     let s = slot_in c.args.slot in
     let n = c.args.slot.places in
-    sum_from_yields_List c.map.result c.sum.result c.sum.ensures.ran (YieldsList-from_map _ (width d s) (YieldsList-at c.map.ensures.source (YieldsList-from_range 0 n n refl (omega arith))) c.map.ensures.closure (λ x r q k. search rules))
-    ∙ listed d s n 0
+    range_total c.map.result (width d s) n (listed d s n 0) c.map.ensures.source c.map.ensures.closure (λ x r q k. search rules) c.sum.result c.sum.ensures.ran

@@ -1,8 +1,7 @@
 -- `file_length` meets its contract: the lengths of the records in their order.
 use Rattle.std.proofs.Common.{ℕ, zero, suc, ◌+◌, ◌^◌, ◌≡◌, refl, ap, ◌∙◌, sym, map, length, length-append, arith, rules}
 use Rattle.std.specs.List.{sum, range_with_len}
-use Rattle.std.proofs.lemmas.Iterator.{YieldsList-from_range, YieldsList-from_map}
-use Rattle.std.proofs.lemmas.Iterator.Consumers.{YieldsList-at, fits_from_yields_list, sum_from_yields_List}
+use Rattle.base.proofs.Ranges.{range_fits, range_total}
 use Rattle.std.proofs.lemmas.List.Sums.{sum_by-cons}
 use Rattle.rules.specs.District.{District}
 use Rattle.rules.specs.File.{record_bytes, records_bytes, encode_as}
@@ -30,13 +29,12 @@ pub sum-requires-clause-fits : goal.sum-requires-clause-fits
 sum-requires-clause-fits c =
     let d = c.args.d.now in
     let form = form_number c.args.form in
-    fits_from_yields_list c.map.result (2 ^ 64) (YieldsList-from_map _ (long form d) (YieldsList-at c.map.ensures.source (YieldsList-from_range 0 file_records file_records refl (omega arith))) c.map.ensures.closure (λ x r q k. search rules))
-    (rw (listed form d file_records 0) (omega (arith, length_records form d file_records 0 0, total_small form file_records d 0)))
+    range_fits c.map.result (long form d) file_records (listed form d file_records 0) c.map.ensures.source c.map.ensures.closure (λ x r q k. search rules) (2 ^ 64)
+    (omega (arith, length_records form d file_records 0 0, total_small form file_records d 0))
 
 pub returns : goal.returns
 unfolding encode_as
 returns c =
     let d = c.args.d.now in
     let form = form_number c.args.form in
-    sum_from_yields_List c.map.result c.sum.result c.sum.ensures.ran (YieldsList-from_map _ (long form d) (YieldsList-at c.map.ensures.source (YieldsList-from_range 0 file_records file_records refl (omega arith))) c.map.ensures.closure (λ x r q k. search rules))
-    ∙ listed form d file_records 0
+    range_total c.map.result (long form d) file_records (listed form d file_records 0) c.map.ensures.source c.map.ensures.closure (λ x r q k. search rules) c.sum.result c.sum.ensures.ran
