@@ -83,9 +83,9 @@ fn hundredths(field: &[u8]) -> Option<usize>
         return None;
     }
     let part = after_point(field);
-    let units = text::digits_after(0, before_point(field));
-    let digits = text::go_on(units, part);
-    text::go_on(digits, text::drop(b"00", part.len()))
+    let units = text::digits_after(0, before_point(field))?;
+    let digits = text::digits_after(units, part)?;
+    text::digits_after(digits, text::drop(b"00", part.len()))
 }
 
 #[tactic(auto, unfolding(rules::specs::Deck::units_in, base::specs::Text::held))]

@@ -2,7 +2,7 @@
 #![tactic(auto)]
 
 ghost use Rattle.std.specs.Prelude.{◌≡◌, [], ◌∷◌, length, take as ListN·take, drop as ListN·drop};
-ghost use Rattle.base.specs.Text.{up_to, on_from, skipped, value_from, going_on, held};
+ghost use Rattle.base.specs.Text.{up_to, on_from, skipped, value_from, held};
 
 // ---- parts
 
@@ -62,22 +62,9 @@ fn with_digit(value: usize, byte: u8) -> Option<usize>
     value.checked_mul(10)?.checked_add(usize::from(byte - b'0'))
 }
 
-// What digits stand for, after the value of those before them. `try_fold` would take the same step in a closure, and need the
-// loop's invariant for it.
+// What digits stand for, after the value of those before them.
 pub fn digits_after(before: usize, bytes: &[u8]) -> Option<usize>
     ensures { result ≡ held (value_from before bytes.now) }
 {
-    let mut value = before;
-    for byte in bytes {
-        value = with_digit(value, *byte)?;
-    }
-    Some(value)
-}
-
-// The number goes on with these digits. It is `going_on` of the definitions, of which a deck's hundredths are made: an
-// `and_then` at each call would spell it out there.
-pub fn go_on(number: Option<usize>, bytes: &[u8]) -> Option<usize>
-    ensures { result ≡ held (going_on number bytes.now) }
-{
-    digits_after(number?, bytes)
+    bytes.iter().try_fold(before, |n, b| with_digit(n, *b))
 }
