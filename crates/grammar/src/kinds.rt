@@ -22,7 +22,9 @@ pub enum Kind {
     End = 7,
 }
 
-// A record of a file: the file's form, its kind, how many numbers it may have, and which of its kind it is, from 0.
+// A record of a file: the file's form, its kind, how many numbers it may have, and which of its kind it is, from 0. Places and nth
+// stand beside the kind, as in the rules' `Slot`: a kind with its nth inside would have no number by a cast, and places as a
+// method would be one more match of the seven.
 #[derive(Clone, Copy)]
 pub struct Slot {
     pub form: Form,

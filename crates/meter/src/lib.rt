@@ -62,7 +62,8 @@ fn bits_of(s: Sent) -> u32
     }
 }
 
-// The whole 1024ths in x; 0 where x is not from 0 to below 512.
+// The whole 1024ths in x; 0 where x is not from 0 to below 512. Nobody is told by that 0, so it is no Option: `is_reading` tests x
+// before, the window's sum is from 0 to below 512, and of any other window `roughness` needs the bound alone.
 fn parts_in(x: f32) -> u64
     ensures parts { (a c : ℕ) → 0 < c → HasValue x false a c → a < 512 * c → result ≡ a * 1024 / c }
     ensures small { result < 524288 }
@@ -141,7 +142,7 @@ fn step(w: &mut Window, sent: Record, bits: u32) -> Answer
     }
 }
 
-// ---- the calls: functions over the window that is lent, as the rules state them and every layer above has them (office, unit,
+// ---- the calls: functions over the window that is lent, as the rules state them and every layer above has them (office,
 // station, desk), so not methods
 
 // The window before the first record. No Default: its two clauses have names, and its contract would be one predicate.

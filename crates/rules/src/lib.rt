@@ -114,7 +114,9 @@ pub enum Reason {
     NoGreaterTotal,
 }
 
-// A record from the survey van: an index or a mile marker, with the 32 bits of its float, or a lost sample.
+// A record from the survey van: an index or a mile marker, with the 32 bits of its float, or a lost sample. Index and marker stay
+// two variants of one shape: an index is added to the window, a marker empties it, and one variant with a flag would ask for the
+// flag at each match.
 #[derive(Clone, Copy)]
 pub enum Sent {
     Index(u32),
