@@ -1,7 +1,7 @@
 -- Laws of the best of 1 to n.
 use Prim.Native.Nat.{ℕ, zero, suc, ◌+◌, ◌≤◌, ◌<◌}
 use mathlib.Core.Path.{◌≡◌, refl, ap, sym, ◌∙◌}
-use mathlib.Core.Bool.{Bool, true, false, ◌&&◌, ◌||◌, true≢false}
+use mathlib.Core.Bool.{Bool, true, false, ◌&&◌, ◌||◌}
 use mathlib.Core.Logic.{◌⊎◌, inl, inr}
 use native.Mathlib.Nat.{eq-or-lt_of_le, le_refl}
 use native.Mathlib.Numerals.{add-one}
@@ -64,7 +64,7 @@ module _ (p : ℕ → Bool) (better : ℕ → ℕ → Bool) where
       go earlier true pn true e0 z = omega arith
       go earlier true pn false e0 true = omega arith
       go earlier true pn false e0 false = omega (arith, eqb-false (best n p better) 0 e0)
-      go earlier false pn y e0 z = up_to h (λ q. absurd (true≢false (sym e ∙ ap p q ∙ pn))) earlier
+      go earlier false pn y e0 z = up_to h (λ q. cc) earlier
 
 -- two searches in which the same numbers pass and compare alike
 pub best_cong :
@@ -112,7 +112,7 @@ module _ (p : ℕ → Bool) (f : ℕ → ℕ) where
   most_taken n k b earlier (inr lt) (inr g) = (omega arith, omega (arith, (earlier lt).1))
 
   most_kept : (n k b : ℕ) → p k ≡ true → (k < suc n → Most k b) → (k ≡ suc n) ⊎ (k < suc n) → (p (suc n) ≡ false) ⊎ ((1 ≤ b) × (f (suc n) ≤ f b)) → Most k b
-  most_kept n k b e earlier (inl q) (inl z) = absurd (true≢false (sym e ∙ ap p q ∙ z))
+  most_kept n k b e earlier (inl q) (inl z) = cc
   most_kept n k b e earlier (inl q) (inr w) = (w.0, rw q w.1)
   most_kept n k b e earlier (inr lt) w = earlier lt
 
@@ -154,7 +154,7 @@ module _ (p : ℕ → Bool) (f : ℕ → ℕ) where
         }
       where
         kept : (p (n + 1) ≡ false) ⊎ ((1 ≤ b) × (f (n + 1) ≤ f b)) → b ≡ n + 1
-        kept (inl z) = absurd (true≢false (sym e ∙ z))
+        kept (inl z) = cc
         kept (inr w) = absurd (omega (arith, leads.number))
 
     pub leads_end : {m : ℕ} → n ≡ m → b ≡ best m p (more_by p f)

@@ -5,6 +5,7 @@ use mathlib.Core.Bool.{Bool, true, false, ◌&&◌, ◌||◌}
 use native.Mathlib.Omega.{arith}
 use borrow.Author.Tests.{lt-ltb, le-ltb, le-leb, lt-leb, leb-true, leb-false, eq-eqb, ne_eqb}
 use lib.Dec.{leb, eqb}
+use Rattle.std.specs.Cmp.{both_ways}
 use Rattle.std.proofs.lemmas.Bool.{and_from, and_left, and_right, and_parts}
 use Rattle.base.specs.Choice.{pick}
 use Rattle.base.specs.Over.{between}
@@ -42,12 +43,8 @@ between_yes a b x l h = rw (le-leb a x l, le-leb x b h)
 
 -- two tests of which each holds where the other does
 pub leb_same : (a b c d : ℕ) → (a ≤ b → c ≤ d) → (c ≤ d → a ≤ b) → leb a b ≡ leb c d
-leb_same a b c d to from = known (leb a b) refl (leb c d) refl
-  where
-    known : (x : Bool) → leb a b ≡ x → (y : Bool) → leb c d ≡ y → leb a b ≡ leb c d
-    known true e y f = e ∙ sym (le-leb c d (to (leb-true a b e)))
-    known false e true f = le-leb a b (from (leb-true c d f)) ∙ sym f
-    known false e false f = e ∙ sym f
+leb_same a b c d to from =
+    both_ways (leb a b) (leb c d) (λ e. le-leb c d (to (leb-true a b e))) (λ e. le-leb a b (from (leb-true c d e)))
 
 -- finds the case of a choice between such tests
 pub ruleset cases = (refl, pick_yes, pick_no, and_from, and_left, and_right, le-leb, lt-leb, eq-eqb, ne_eqb, lt_eqb, gt_eqb, arith)

@@ -35,7 +35,7 @@ only_none false x e = refl
 
 pub only_some : {A : Type 0} (t : Bool) {x y : A} → only t x ≡ Some y → (t ≡ true) × (x ≡ y)
 only_some true e = (refl, cc)
-only_some false e = absurd (let z : ◌≡◌ {A = ℕ} 0 1 = cc in omega arith)
+only_some false e = absurd cc
 
 -- none where each is none
 pub first_none : {A : Type 0} (n : ℕ) (f : ℕ → Option A) → ((k : ℕ) → 1 ≤ k → k ≤ n → f k ≡ None) → first n f ≡ None
@@ -71,7 +71,7 @@ pub record Ended {A : Type 0} (n : ℕ) (f : ℕ → Option A) (a : A) : Type 0 
 
 pub first_ended : {A : Type 0} (n : ℕ) (f : ℕ → Option A) (a : A) → first n f ≡ Some a → Ended n f a
 unfolding first
-first_ended zero f a e = absurd (let z : ◌≡◌ {A = ℕ} 0 1 = cc in omega arith)
+first_ended zero f a e = absurd cc
 first_ended (suc n) f a e =
     ⊎_elim
     (λ here.
@@ -89,6 +89,6 @@ module _ {A : Type 0} (Q : A → Type 0) where
 
   pub first_some : (n : ℕ) (f : ℕ → Option A) → ((k : ℕ) → 1 ≤ k → k ≤ n → (a : A) → f k ≡ Some a → Q a) → (a : A) → first n f ≡ Some a → Q a
   unfolding first
-  first_some zero f each a e = absurd (let z : ◌≡◌ {A = ℕ} 0 1 = cc in omega arith)
+  first_some zero f each a e = absurd cc
   first_some (suc n) f each a e =
       or_else_some (first n f) (f (suc n)) (first_some n f (λ k l h. each k l (omega arith))) (each (suc n) (omega arith) (omega arith)) e

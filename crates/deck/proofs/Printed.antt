@@ -6,7 +6,7 @@ use native.Mathlib.Omega.{arith}
 use lib.ListN.{length, get_or, take, drop, length-append, drop_of_length-le}
 use Rattle.base.specs.Text.{text, most_digits, decimal}
 use Rattle.base.proofs.Listed.{listed_length, listed_entry}
-use Rattle.base.proofs.Same.{drop_next}
+use Rattle.std.proofs.lemmas.List.{drop_more}
 use Rattle.base.proofs.Text.{decimal_few}
 use Rattle.rules.specs.Deck.{per_card, counts_in, segment_in, numbers_on, deck_refusal, deck_bytes}
 use Rattle.rules.specs.District.{most_segments, segments_of}
@@ -26,7 +26,7 @@ use Rattle.deck.specs.Printed.{numbers_line, counts_line, segment_line, card_lin
 
 pub numbers_next : (ns : List ℕ) (k : ℕ) → k < length ns → numbers_line (drop k ns) ≡ named (text " ") (get_or ns k 0) ++ numbers_line (drop (k + 1) ns)
 unfolding numbers_line
-numbers_next ns k h = rw (drop_next ns k h)
+numbers_next ns k h = rw (drop_more ns k 0 h)
 
 pub numbers_end : (ns : List ℕ) (k : ℕ) → length ns ≤ k → numbers_line (drop k ns) ≡ text "\n"
 unfolding numbers_line

@@ -12,7 +12,8 @@ use lib.Seq.{get_or-set_same, get_or-set_other}
 use borrow.Author.Tests.{ltb-true, ltb-false, eqb-true, eqb-false, leb-true, lt-ltb}
 use Rattle.std.proofs.lemmas.Bool.{and_parts}
 use Rattle.base.proofs.Choice.{pick_all}
-use Rattle.base.specs.Bits.{bit_at, set_bit, clear_bit}
+use Rattle.std.specs.Int.{bit_at}
+use Rattle.base.specs.Bits.{set_bit, clear_bit}
 use Rattle.rules.specs.Answers.{no_such_segment, no_such_number, new_out_of_range, leader_not_below, unless, one_to}
 use Rattle.rules.specs.Calls.{bar_refusal, limit_refusal, rating_refusal, leader_refusal, edit_refusal, edited}
 use Rattle.rules.specs.District.{District, count_places, limit_place, greatest_at, greatest_place, strategies_at, bars_at, ratings_at, leader_at, per_segment, value_at, segment_place, bars_place, rating_place, leader_place, segments_of, strategies_of, distresses_of, resources_of, bars_of, greatest_of, with_limit, with_bar, without_bar, with_rating, with_leader}

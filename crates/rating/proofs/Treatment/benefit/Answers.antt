@@ -6,7 +6,8 @@ use lib.IntN.{pos, ◌*ℤ◌}
 use mir.Syntax.{w64}
 use mir.Val.{to_z, of_z}
 use mir.Facts.{to_z-of_z, to_z_pos}
-use Rattle.base.proofs.Integers.{told, sfits_abs}
+use Rattle.std.proofs.lemmas.Int.{fits_signed_from_abs}
+use Rattle.base.proofs.Integers.{told}
 use Rattle.rules.specs.District.{District}
 use Rattle.rules.specs.Rating.{area, effect, benefit}
 use Rattle.rating.proofs.Bounds.{area_le, benefit_abs}
@@ -30,12 +31,12 @@ product c =
     ∙ of-strategy _ _ _ c.args.self.now.strategy_in.0
 
 pub overflow_cast-result : goal.overflow_cast-result
-overflow_cast-result c = sfits_abs (omega (arith, small (goal.at.overflow_cast-result c).After-area))
+overflow_cast-result c = fits_signed_from_abs w64 _ (omega (arith, small (goal.at.overflow_cast-result c).After-area))
 
 pub overflow_mul-result : goal.overflow_mul-result
 overflow_mul-result c =
     let s = c.args.self.now in
-    rw (product (goal.at.overflow_mul-result c).After-effect) (sfits_abs (omega (arith, benefit_abs _ s.ranged.in_range s.segment s.strategy s.segment_in s.strategy_in)))
+    rw (product (goal.at.overflow_mul-result c).After-effect) (fits_signed_from_abs w64 _ (omega (arith, benefit_abs _ s.ranged.in_range s.segment s.strategy s.segment_in s.strategy_in)))
 
 pub returns : goal.returns
 returns c = to_z-of_z (overflow_mul-result c) ∙ product (goal.at.returns c).After-effect

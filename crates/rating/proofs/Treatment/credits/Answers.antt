@@ -6,7 +6,8 @@ use lib.IntN.{pos, ◌*ℤ◌}
 use mir.Syntax.{w64}
 use mir.Val.{to_z, of_z}
 use mir.Facts.{to_z-of_z, to_z_pos}
-use Rattle.base.proofs.Integers.{told, sfits_abs, sum_z_times}
+use Rattle.std.proofs.lemmas.Int.{fits_signed_from_abs}
+use Rattle.base.proofs.Integers.{told, sum_z_times}
 use Rattle.base.proofs.Sums.{sum_bound}
 use Rattle.rules.specs.District.{years_of}
 use Rattle.rules.specs.Rating.{gain, both_ends, credit, credits}
@@ -31,12 +32,12 @@ product c =
     ∙ sum_z_times _ (gain s.ranged.district.now s.segment s.strategy k) (both_ends s.ranged.district.now s.segment s.strategy k) (credit s.ranged.district.now s.segment s.strategy k) (λ t. refl)
 
 pub overflow_cast-result : goal.overflow_cast-result
-overflow_cast-result c = sfits_abs (omega (arith, total-le (goal.at.overflow_cast-result c).After-survivals))
+overflow_cast-result c = fits_signed_from_abs w64 _ (omega (arith, total-le (goal.at.overflow_cast-result c).After-survivals))
 
 pub overflow_mul-result : goal.overflow_mul-result
 overflow_mul-result c =
     let s = c.args.self.now in
-    rw (product (goal.at.overflow_mul-result c).After-survivals) (sfits_abs (omega (arith, credits_abs _ s.ranged.in_range s.segment s.strategy c.args.k s.segment_in s.strategy_in c.requires)))
+    rw (product (goal.at.overflow_mul-result c).After-survivals) (fits_signed_from_abs w64 _ (omega (arith, credits_abs _ s.ranged.in_range s.segment s.strategy c.args.k s.segment_in s.strategy_in c.requires)))
 
 pub returns : goal.returns
 returns c = to_z-of_z (overflow_mul-result c) ∙ product (goal.at.returns c).After-survivals

@@ -7,7 +7,8 @@ use lib.Signed.{quot_z}
 use mir.Syntax.{w64}
 use mir.Val.{to_z, of_z}
 use mir.Facts.{to_z-of_z}
-use Rattle.base.proofs.Integers.{told, sfits_quot, sum_z_fits}
+use Rattle.std.proofs.lemmas.Int.{ints, quot_fits}
+use Rattle.base.proofs.Integers.{told, sum_z_fits}
 use Rattle.rules.specs.Rating.{effect}
 use Rattle.rating.proofs.Bounds.{credits_abs}
 use Rattle.rating.proofs.Treatment.effect.Goals as goal
@@ -17,9 +18,10 @@ nonzero_div-result c =
     let s = c.args.self.now in
     let n = s.ranged.in_range.distresses in (
       lit< tt,
-      sfits_quot w64 (to_z w64 (of_z w64 c.total_credits.result)) 19_999
+      quot_fits w64 (to_z w64 (of_z w64 c.total_credits.result)) (pos 20_000)
           (rw (told w64 c.total_credits.type_inv c.total_credits.ensures)
-          (sum_z_fits w64 _ 1_000_000_000 _ (λ k l h. credits_abs _ s.ranged.in_range _ _ k s.segment_in s.strategy_in (l, omega arith)) (omega arith))),
+          (sum_z_fits w64 _ 1_000_000_000 _ (λ k l h. credits_abs _ s.ranged.in_range _ _ k s.segment_in s.strategy_in (l, omega arith)) (omega arith)))
+          (omega (arith, ints)),
     )
 
 pub returns : goal.returns

@@ -7,9 +7,9 @@ use mir.Syntax.{w64}
 use mir.Val.{to_z, of_z}
 use mir.Facts.{to_z_pos, to_z-of_z}
 use Rattle.std.specs.Int.{int_min}
-use Rattle.std.proofs.lemmas.Int.{ints}
+use Rattle.std.proofs.lemmas.Int.{ints, fits_signed_from_abs}
 use Rattle.base.specs.Over.{min_z, max_z}
-use Rattle.base.proofs.Integers.{abs_neg, told, sfits_abs, pos_minus}
+use Rattle.base.proofs.Integers.{abs_neg, told, pos_minus}
 use Rattle.rules.specs.District.{gain_of, greatest_of, rating_of}
 use Rattle.rules.specs.Rating.{capped_gain, gain}
 use Rattle.rating.proofs.Least.{least, greatest}
@@ -47,21 +47,21 @@ minus : (c : After-greatest_at) → pos 0 -ℤ to_z w64 c.segment_at-current.res
 minus c = +ℤ_idl _ ∙ ap neg_ℤ (to_z_pos w64 {n = c.segment_at-current.result} (omega (arith, current-small c)))
 
 pub overflow_cast-left : goal.overflow_cast-left
-overflow_cast-left c = sfits_abs (omega (arith, small (goal.at.overflow_cast-left c).After-greatest_at))
+overflow_cast-left c = fits_signed_from_abs w64 _ (omega (arith, small (goal.at.overflow_cast-left c).After-greatest_at))
 
 pub overflow_cast-lowest : goal.overflow_cast-lowest
-overflow_cast-lowest c = sfits_abs (omega (arith, current-small (goal.at.overflow_cast-lowest c).After-greatest_at))
+overflow_cast-lowest c = fits_signed_from_abs w64 _ (omega (arith, current-small (goal.at.overflow_cast-lowest c).After-greatest_at))
 
 pub overflow_sub-lowest : goal.overflow_sub-lowest
 overflow_sub-lowest c =
     let b = (goal.at.overflow_sub-lowest c).After-greatest_at in
-    rw (minus b) (sfits_abs (rw (abs_neg (pos c.segment_at-current.result)) (omega (arith, current-small b))))
+    rw (minus b) (fits_signed_from_abs w64 _ (rw (abs_neg (pos c.segment_at-current.result)) (omega (arith, current-small b))))
 
 lowest : (c : After-greatest_at) →
     let s = c.args.self.now in
     to_z w64 (of_z w64 (pos 0 -ℤ to_z w64 c.segment_at-current.result)) ≡ neg_ℤ (pos (rating_of s.ranged.district.now s.segment c.args.k))
 lowest c =
-    to_z-of_z {w = w64} (rw (minus c) (sfits_abs (rw (abs_neg (pos c.segment_at-current.result)) (omega (arith, current-small c)))))
+    to_z-of_z {w = w64} (rw (minus c) (fits_signed_from_abs w64 _ (rw (abs_neg (pos c.segment_at-current.result)) (omega (arith, current-small c)))))
     ∙ minus c
     ∙ ap (λ v. neg_ℤ (pos v)) (rating_is c.args.self.now.ranged.district.now c.args.self.now.segment c.args.k c.segment_at-current.ensures)
 

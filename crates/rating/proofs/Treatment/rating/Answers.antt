@@ -6,7 +6,7 @@ use lib.IntN.{pos, ◌+ℤ◌, ◌*ℤ◌}
 use mir.Syntax.{w64}
 use mir.Val.{to_z, of_z}
 use mir.Facts.{to_z-of_z, to_z_pos}
-use Rattle.base.proofs.Integers.{sfits_abs}
+use Rattle.std.proofs.lemmas.Int.{fits_signed_from_abs}
 use Rattle.rules.specs.Rating.{improvement, rating}
 use Rattle.laws.proofs.Survival.{survival_le}
 use Rattle.rating.proofs.Bounds.{current_le, improvement_abs, rating_abs}
@@ -32,7 +32,7 @@ product c =
 pub overflow_mul-result-2 : goal.overflow_mul-result-2
 overflow_mul-result-2 c =
     let s = c.args.self.now in
-    rw (product (goal.at.overflow_mul-result-2 c).After-survival) (sfits_abs (omega (arith, improvement_abs _ s.ranged.in_range s.segment s.strategy c.args.k c.args.t s.segment_in s.strategy_in c.requires.0)))
+    rw (product (goal.at.overflow_mul-result-2 c).After-survival) (fits_signed_from_abs w64 _ (omega (arith, improvement_abs _ s.ranged.in_range s.segment s.strategy c.args.k c.args.t s.segment_in s.strategy_in c.requires.0)))
 
 total : (c : After-survival) →
     let s = c.args.self.now in
@@ -47,15 +47,15 @@ pub overflow_mul-result : goal.overflow_mul-result
 overflow_mul-result c = omega (arith, current-le (goal.at.overflow_mul-result c).After-segment_at-current)
 
 pub overflow_cast-result : goal.overflow_cast-result
-overflow_cast-result c = sfits_abs (omega (arith, current-le (goal.at.overflow_cast-result c).After-segment_at-current))
+overflow_cast-result c = fits_signed_from_abs w64 _ (omega (arith, current-le (goal.at.overflow_cast-result c).After-segment_at-current))
 
 pub overflow_cast-result-2 : goal.overflow_cast-result-2
-overflow_cast-result-2 c = sfits_abs (omega (arith, left-le (goal.at.overflow_cast-result-2 c).After-survival))
+overflow_cast-result-2 c = fits_signed_from_abs w64 _ (omega (arith, left-le (goal.at.overflow_cast-result-2 c).After-survival))
 
 pub overflow_add-result : goal.overflow_add-result
 overflow_add-result c =
     let s = c.args.self.now in
-    rw (total (goal.at.overflow_add-result c).After-survival) (sfits_abs (omega (arith, rating_abs _ s.ranged.in_range s.segment s.strategy c.args.k c.args.t s.segment_in s.strategy_in c.requires.0)))
+    rw (total (goal.at.overflow_add-result c).After-survival) (fits_signed_from_abs w64 _ (omega (arith, rating_abs _ s.ranged.in_range s.segment s.strategy c.args.k c.args.t s.segment_in s.strategy_in c.requires.0)))
 
 pub returns : goal.returns
 returns c = to_z-of_z (overflow_add-result c) ∙ total (goal.at.returns c).After-survival
