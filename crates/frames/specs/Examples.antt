@@ -18,6 +18,11 @@ pub too_long : frames_in (0 ∷ 0 ∷ 0 ∷ 0 ∷ 1 ∷ 0 ∷ 1 ∷ 0 ∷ 7 ∷ 
 unfolding frames_from
 too_long = refl
 
+-- and where its length alone is read
+pub too_long_read : frames_in (0 ∷ 0 ∷ 0 ∷ 0 ∷ 1 ∷ 0 ∷ 1 ∷ 0 ∷ []) ≡ [] ∷ []
+unfolding frames_from
+too_long_read = refl
+
 -- each behind a colon
 pub behind_a_colon : printed (λ (frame : List ℕ). 58 ∷ frame) ((97 ∷ 98 ∷ []) ∷ [] ∷ (99 ∷ []) ∷ []) ≡ 58 ∷ 97 ∷ 98 ∷ 58 ∷ 58 ∷ 99 ∷ []
 unfolding printed

@@ -1,6 +1,6 @@
 -- Frames of bytes: a length in 4 bytes, low byte first, and that many bytes.
-use Rattle.std.specs.Prelude.{ℕ, zero, suc, ◌+◌, ◌<◌, ◌≤◌, ◌^◌, ◌≡◌, Bool, true, false, ◌&&◌, List, [], ◌∷◌, ◌++◌, Option, None, Some, IfSome, ⊤, leb, length, take, drop}
-use Rattle.std.specs.Io.KnownBytes.{Appends, IsAtEnd}
+use Rattle.std.specs.Prelude.{ℕ, zero, suc, ◌+◌, ◌<◌, ◌^◌, ◌≡◌, Bool, true, false, ◌&&◌, List, [], ◌∷◌, ◌++◌, Option, None, Some, IfSome, MatchOption, ⊤, leb, length, take, drop}
+use Rattle.std.specs.Io.KnownBytes.{Appends, Consumes}
 use Rattle.base.specs.Bytes.{number_of}
 use Rattle.base.specs.Choice.{pick}
 
@@ -42,11 +42,22 @@ abbrev pub Next : ℕ → Option (List ℕ) → Option (List ℕ) → List ℕ �
 Next most None new frame = ⊤
 Next most (Some bytes) new frame = (begins most bytes ≡ true) × (frame ≡ first_frame bytes) × (new ≡ Some (after_frame bytes))
 
--- if all that were left are read, then they did not begin with a frame; of a read that failed nothing else is known
-abbrev pub NoNext : ℕ → Option (List ℕ) → Option (List ℕ) → Type 0
-NoNext most old new = IfSome old (λ bytes. IsAtEnd new → begins most bytes ≡ false)
+-- those that are left do not begin with one
+abbrev pub NoNext : ℕ → Option (List ℕ) → Type 0
+NoNext most old = IfSome old (λ bytes. begins most bytes ≡ false)
 
--- what is printed for the first frames of those that are left, fewer than 2 ^ 64, and nothing else, goes behind what the
--- writer holds: for those that were read, which are all if nothing is left
-abbrev pub Answers : (List ℕ → List ℕ) → Option (List ℕ) → Option (List ℕ) → Option (List ℕ) → Option (List ℕ) → Type 0
-Answers print left rest old new = IfSome left (λ bytes. length bytes < 2 ^ 64 → (n : ℕ) × Appends old new (printed print (take n (frames_in bytes))) × (IsAtEnd rest → length (frames_in bytes) ≤ n))
+-- those that were read do not
+abbrev pub NotRead : ℕ → Option (List ℕ) → Option (List ℕ) → Type 0
+NotRead most old new = IfSome old (λ _. (read : List ℕ) × Consumes old new read × (begins most read ≡ false))
+
+-- what is printed for all frames of those that are left, fewer than 2 ^ 64, and nothing else, goes behind what the writer holds
+abbrev pub AllAnswered : (List ℕ → List ℕ) → Option (List ℕ) → Option (List ℕ) → Option (List ℕ) → Type 0
+AllAnswered print left old new = IfSome left (λ bytes. length bytes < 2 ^ 64 → Appends old new (printed print (frames_in bytes)))
+
+-- for the frames of those that were read
+abbrev pub ReadAnswered : (List ℕ → List ℕ) → Option (List ℕ) → Option (List ℕ) → Option (List ℕ) → Option (List ℕ) → Type 0
+ReadAnswered print left rest old new = IfSome left (λ _. (read : List ℕ) × Consumes left rest read × Appends old new (printed print (frames_in read)))
+
+-- for all, or where a read failed, with that error, for those that were read
+abbrev pub Answers : {E : Type 0} → (List ℕ → List ℕ) → Option E → Option (List ℕ) → Option (List ℕ) → Option (List ℕ) → Option (List ℕ) → Type 0
+Answers print failed left rest old new = MatchOption failed (AllAnswered print left old new) (λ _. ReadAnswered print left rest old new)

@@ -14,14 +14,14 @@ use std::io::{Read, Write};
 pub const MOST_READ: usize = 4096;
 
 // Reads until the space is full or the input ends, and returns how many bytes stand at its front. The first read that
-// fails ends it, with that error; if nothing is left of the input then, it had too few bytes to fill the space.
+// fails ends it, with that error; what was read before, too little to fill the space, stands at its front then too.
 #[tactic(auto, using(crate::proofs::Front::front))]
 pub fn read_full<R: Read>(input: &mut R, space: &mut [u8]) -> io::Result<usize>
     ensures bound { ReadsAtMost result space.new }
     ensures front { IfOk result (λ n. IfSome (R.remaining input.old) (λ bytes. take n space.new ≡ take (length space.old) bytes)) }
     ensures bytes { IfOk result (λ n. Consumes (R.remaining input.old) (R.remaining input.new) (take n space.new)) }
     ensures end { IfOk result (λ n. n < length space.old → IsAtEnd (R.remaining input.new)) }
-    ensures failed { IfErr result (λ _. IfSome (R.remaining input.old) (λ bytes. IsAtEnd (R.remaining input.new) → length bytes < length space.old)) }
+    ensures failed { IfErr result (λ _. (n : ℕ) × (n < length space.old) × Consumes (R.remaining input.old) (R.remaining input.new) (take n space.new)) }
 {
     let mut done: usize = 0;
     // Each read goes behind what those before it gave, and no one knows how many it takes. The library's `read_exact` says

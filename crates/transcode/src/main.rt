@@ -3,7 +3,7 @@
 // exported file. A frame that is cut short or longer than 65,536 ends the run.
 #![tactic(auto)]
 
-ghost use Rattle.std.specs.Prelude.{◌≡◌, ◌+◌, ◌≤◌, OnOk, length};
+ghost use Rattle.std.specs.Prelude.{◌≡◌, ◌+◌, ◌≤◌, IfOk, length};
 ghost use Rattle.base.specs.Text.{Put};
 ghost use Rattle.frames.specs.Frames.{Answers};
 ghost use Rattle.rules.specs.Answers.{refusal_number};
@@ -64,14 +64,15 @@ fn answer(frame: &[u8], out: &mut [u8]) -> usize
     }
 }
 
-// What is answered to each frame of the input goes to the output. A read that fails ends the run, as the input's end does.
+// What is answered to each frame of the input goes to the output, until a read fails, if one does.
 #[tactic(auto, using(base::proofs::Text::put_within))]
-fn run<R: Read, W: Write>(input: &mut R, output: &mut W) -> io::Result<()>
-    ensures { OnOk result (Answers transcoded (R.remaining input.old) (R.remaining input.new) (W.contents output.old) (W.contents output.new)) }
+fn run<R: Read, W: Write>(input: &mut R, output: &mut W) -> io::Result<Option<io::Error>>
+    ensures { IfOk result (λ failed. Answers transcoded failed (R.remaining input.old) (R.remaining input.new) (W.contents output.old) (W.contents output.new)) }
 {
     frames::answered::<LONGEST_FRAMED, _, _, _>(input, output, answer)
 }
 
 fn main(rt: HostRuntime) -> io::Result<()> {
-    run(&mut rt.stdin(), &mut rt.stdout())
+    run(&mut rt.stdin(), &mut rt.stdout())?;
+    Ok(())
 }

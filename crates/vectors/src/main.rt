@@ -4,7 +4,7 @@
 // A frame that is cut short or longer than 65,536 ends the run.
 #![tactic(auto)]
 
-ghost use Rattle.std.specs.Prelude.{◌≤◌, OnOk, length};
+ghost use Rattle.std.specs.Prelude.{◌≤◌, IfOk, length};
 ghost use Rattle.base.specs.Text.{Put};
 ghost use Rattle.frames.specs.Frames.{Answers};
 ghost use Rattle.listing.specs.Listing.{longest_listing};
@@ -30,12 +30,13 @@ fn answer(script: &[u8], out: &mut [u8]) -> usize
 // What is printed for each frame of the input goes to the output. One call, as transcode has it: its own is what a frame is
 // answered, and the room for it.
 #[tactic(auto, using(base::proofs::Text::put_within))]
-fn run<R: Read, W: Write>(input: &mut R, output: &mut W) -> io::Result<()>
-    ensures { OnOk result (Answers worked (R.remaining input.old) (R.remaining input.new) (W.contents output.old) (W.contents output.new)) }
+fn run<R: Read, W: Write>(input: &mut R, output: &mut W) -> io::Result<Option<io::Error>>
+    ensures { IfOk result (λ failed. Answers worked failed (R.remaining input.old) (R.remaining input.new) (W.contents output.old) (W.contents output.new)) }
 {
     frames::answered::<LONGEST_LISTING, _, _, _>(input, output, answer)
 }
 
 fn main(rt: HostRuntime) -> io::Result<()> {
-    run(&mut rt.stdin(), &mut rt.stdout())
+    run(&mut rt.stdin(), &mut rt.stdout())?;
+    Ok(())
 }
