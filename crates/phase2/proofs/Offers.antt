@@ -1,33 +1,33 @@
 -- Offers and pick-ups over arrays.
 use Prim.Native.Nat.{ℕ, zero, suc, ◌+◌, ◌≤◌, ◌<◌}
-use mathlib.Core.Path.{◌≡◌, refl, ap, sym, subst, ◌∙◌}
-use mathlib.Core.Bool.{Bool, true, false, ◌&&◌, and_assoc, true≢false}
+use mathlib.Core.Path.{◌≡◌, refl, ap, sym, ◌∙◌}
+use mathlib.Core.Bool.{Bool, true, false, ◌&&◌, and_assoc, and-false}
 use mathlib.Core.List.{List}
-use Rattle.std.specs.Prelude.{Option, None, Some, MatchOption}
+use Rattle.std.specs.Prelude.{Option, None, Some}
+use Rattle.std.specs.List.{reduce, filter_map, range_with_len}
 use native.Mathlib.Omega.{arith}
-use borrow.Author.Tests.{lt-ltb, ltb-true}
+use borrow.Author.Tests.{lt-ltb}
 use lib.Dec.{ltb, eqb}
-use Rattle.std.proofs.lemmas.Bool.{and_from, and_parts}
-use Rattle.base.proofs.Best.{best_le, Leads, leads_none, leads_taken, leads_kept, leads_end}
+use Rattle.base.specs.Choice.{pick}
+use Rattle.base.proofs.Best.{best_le}
 use Rattle.base.proofs.Runs.{Reached, reached_start, reached_next, reached_end}
 use Rattle.rules.specs.Table.{Table}
 use Rattle.rules.specs.Phases.{strategy_at, give, is_candidate, greater, within, led, fitting, offer, offer_benefit, vacant, greater_offer, best_offer, picked_up, pick_up, phase2}
-use Rattle.laws.proofs.PickUps.{offer_fits, vacancies, vacancies_le, pick_up_falls}
+use Rattle.laws.proofs.PickUps.{vacancies, vacancies_le, pick_up_falls}
 use Rattle.tables.specs.declared.Size.{Size}
 use Rattle.tables.specs.declared.view.TableView.{TableView}
 use Rattle.tables.specs.Arrays.{benefit_at, tables}
 use Rattle.tables.specs.Views.{table_in, leaders_in}
 use Rattle.rules.specs.District.{most_segments}
 use lib.ListN.{length}
-use Rattle.tables.proofs.Arrays.{benefit_nothing}
 use Rattle.phase1.specs.Reduce.{best_passing}
+use Rattle.phase1.proofs.Reduced.{reduced}
 use Rattle.phase2.specs.declared.Offer.{Offer}
-use Rattle.phase2.specs.Offers.{IsOffer, worth}
+use Rattle.phase2.specs.Offers.{offer_by, offer_at, offer_in, best_in}
 
--- the segment of an offer; without one 0
-abbrev segment_of : Option Offer → ℕ
-segment_of None = 0
-segment_of (Some o) = o.takes.0
+-- the better of two offers, the one before and the other
+abbrev pub better : Offer → Offer → Offer
+better x y = pick (ltb x.benefit y.benefit) y x
 
 module _ (z : Size) (b u l c : List ℕ) where
   abbrev t : Table
@@ -38,10 +38,6 @@ module _ (z : Size) (b u l c : List ℕ) where
   pub offer_is : (i : ℕ) → best_passing z.strategies (benefit_at b i) (λ j. within t (give c i j)) ≡ offer t c i
   unfolding offer fitting is_candidate greater
   offer_is i = refl
-
-  pub is_offer : (i j : ℕ) {value : ℕ} → j ≡ offer t c i → (j ≡ 0 → ⊥) → value ≡ benefit_at b i j → IsOffer t c i (record { takes = record { 0 = i; 1 = j }; benefit = value })
-  unfolding offer_benefit
-  is_offer i j is some worth = record { segment = refl; strategy = is; some = omega arith; benefit = worth ∙ ap (benefit_at b i) is }
 
   pub offer_le : (i : ℕ) → offer t c i ≤ z.strategies
   unfolding offer
@@ -58,63 +54,24 @@ module _ (z : Size) (b u l c : List ℕ) where
     unfolding vacant
     vacant_is i = sym (and_assoc (eqb (strategy_at c i) 0) (led leader (strategy_at c) i) (ltb 0 (offer t c i)))
 
-    -- an offer held is its segment's
-    abbrev Offered : Option Offer → Type 0
-    Offered None = Unit {0}
-    Offered (Some o) = (1 ≤ o.takes.0) × IsOffer t c o.takes.0 o
+    pub offer_taken : (i : ℕ) → free i ≡ false → None ≡ offer_at t leader c i
+    offer_taken i e = rw (vacant_is i, e)
 
-    abbrev pub Best : ℕ → Option Offer → Type 0
-    Best n best = Leads (vacant t leader c) (offer_benefit t c) n (segment_of best) (worth best) × Offered best
+    pub offer_none : (i : ℕ) → offer t c i ≡ 0 → None ≡ offer_at t leader c i
+    offer_none i e = rw (vacant_is i, e, and-false (free i))
 
-    pub best_none : Best 0 None
-    unfolding offer_benefit benefit_at
-    best_none = (
-      leads_none (vacant t leader c) (offer_benefit t c) refl
-          (λ k e. (offer_fits t c k (ltb-true 0 (offer t c k) (and_parts (free k) (ltb 0 (offer t c k)) (sym (vacant_is k) ∙ e)).1)).0),
-      tt,
-    )
-
-    -- what an offer for segment i is worth
-    worth_is : (i : ℕ) (r : Option Offer) → MatchOption r (offer t c i ≡ 0) (IsOffer t c i) → worth r ≡ offer_benefit t c i
+    pub offer_some : (i j : ℕ) {value : ℕ} → free i ≡ true → j ≡ offer t c i → (j ≡ 0 → ⊥) → value ≡ benefit_at b i j → Some (record { takes = record { 0 = i; 1 = j }; benefit = value }) ≡ offer_at t leader c i
     unfolding offer_benefit
-    worth_is i None e = sym (ap (benefit_at b i) e ∙ benefit_nothing b i)
-    worth_is i (Some o) is = is.benefit
+    offer_some i j e is some worth = rw (vacant_is i, e, lt-ltb 0 (offer t c i) (omega (arith, is)), worth, is)
 
-    module _ (n i m : ℕ) (best : Option Offer) (next : i ≡ n + 1) (up : m ≡ i) (held : Best n best) {ok : Bool} (tested : ok ≡ free i) where
-      pub best_taken : (r : Option Offer) → MatchOption r (offer t c i ≡ 0) (IsOffer t c i) → ok ≡ true → worth best < worth r → Best m r
-      best_taken None is e h = absurd (omega arith)
-      best_taken (Some o) is e h =
-          let passes = vacant_is i ∙ and_from (free i) (ltb 0 (offer t c i)) (sym tested ∙ e) (lt-ltb 0 (offer t c i) (omega (arith, is.strategy, is.some))) in
-          let seg : o.takes.0 ≡ n + 1 = is.segment ∙ next in
-          let worth₁ : o.benefit ≡ offer_benefit t c (n + 1) = rw next at is.benefit in (
-            rw (up, next, seg) (leads_taken (vacant t leader c) (offer_benefit t c) n (segment_of best) (worth best) held.0 worth₁ (rw next at passes) h),
-            (omega arith, subst (λ (k : ℕ). IsOffer t c k o) (sym is.segment) is),
-          )
+    -- ---- the offer to pick up
 
-      pub best_kept : (r : Option Offer) → MatchOption r (offer t c i ≡ 0) (IsOffer t c i) → worth r ≤ worth best → Best m best
-      best_kept r is h =
-          rw (up, next) (leads_kept (vacant t leader c) (offer_benefit t c) n (segment_of best) (worth best) held.0 (λ e. omega (arith, rw next at (worth_is i r is))), held.1)
+    abbrev pub offers : ℕ → List Offer
+    offers n = filter_map (λ k. offer_at t leader c (k + 1)) (range_with_len 0 n)
 
-      pub best_passed : ok ≡ false → Best m best
-      best_passed no-offer =
-          let none : free (n + 1) ≡ false = rw next at (sym tested ∙ no-offer) in
-          rw (up, next) (
-            leads_kept (vacant t leader c) (offer_benefit t c) n (segment_of best) (worth best) held.0
-                (λ e. absurd (true≢false (sym (and_parts (free (n + 1)) (ltb 0 (offer t c (n + 1))) (sym (vacant_is (n + 1)) ∙ e)).0 ∙ none))),
-            held.1,
-          )
-
-    best_end : {n top most : ℕ} → Leads (vacant t leader c) (offer_benefit t c) n top most → n ≡ z.segments → top ≡ best_offer t leader c
+    pub best_is : reduce better (offers z.segments) ≡ best_in t leader c
     unfolding best_offer greater_offer
-    best_end {n} {top} {most} leads e = leads_end (vacant t leader c) (offer_benefit t c) n top most leads e
-
-    -- what the search found
-    abbrev pub Found : Option Offer → Type 0
-    Found r = MatchOption r (best_offer t leader c ≡ 0) (λ o. (1 ≤ best_offer t leader c) × IsOffer t c (best_offer t leader c) o)
-
-    pub best_found : (n : ℕ) (best : Option Offer) → Best n best → n ≡ z.segments → Found best
-    best_found n None held e = sym (best_end held.0 e)
-    best_found n (Some o) held e = subst (λ (i : ℕ). (1 ≤ i) × IsOffer t c i o) (best_end held.0 e) held.1
+    best_is = reduced (vacant t leader c) (greater_offer t c) (offer_by t c) better (λ a b low less. refl) z.segments
 
     best_le_segments : best_offer t leader c ≤ z.segments
     unfolding best_offer
@@ -122,21 +79,32 @@ module _ (z : Size) (b u l c : List ℕ) where
 
     -- ---- a pick-up
 
-    pick_none : best_offer t leader c ≡ 0 → pick_up t leader c ≡ None
+    pick_none : None ≡ best_in t leader c → pick_up t leader c ≡ None
     unfolding pick_up picked_up
-    pick_none e = rw e
+    pick_none e = go (best_offer t leader c) e
+      where
+        go : (i : ℕ) → None ≡ offer_in t c i → picked_up t c i ≡ None
+        go zero e = refl
+        go (suc i) e = absurd cc
 
-    module _ {o : Offer} (found : Found (Some o)) where
+    module _ {o : Offer} (found : Some o ≡ best_in t leader c) where
+      abbrev Taken : ℕ → Type 0
+      Taken i = (1 ≤ i) × (o.takes.0 ≡ i) × (o.takes.1 ≡ offer t c i) × (picked_up t c i ≡ Some (give c o.takes.0 o.takes.1))
+
+      picks : Taken (best_offer t leader c)
+      unfolding picked_up
+      picks = go (best_offer t leader c) found
+        where
+          go : (i : ℕ) → Some o ≡ offer_in t c i → Taken i
+          go zero e = absurd cc
+          go (suc i) e = let same : o ≡ offer_by t c (suc i) = cc in rw same (omega arith, refl, refl, refl)
+
       pub pick_inside : (1 ≤ o.takes.0) × (o.takes.0 ≤ z.segments) × (o.takes.1 ≤ z.strategies)
-      pick_inside = (omega (arith, found.0, found.1.segment), omega (arith, found.1.segment, best_le_segments), omega (arith, found.1.strategy, offer_le (best_offer t leader c)))
+      pick_inside = (omega (arith, picks.0, picks.1), omega (arith, picks.1, best_le_segments), omega (arith, picks.2, offer_le (best_offer t leader c)))
 
       pick_some : pick_up t leader c ≡ Some (give c o.takes.0 o.takes.1)
-      unfolding pick_up picked_up
-      pick_some = rw (found.1.segment, found.1.strategy) (picked (best_offer t leader c) found.0)
-        where
-          picked : (i : ℕ) → 1 ≤ i → picked_up t c i ≡ Some (give c i (offer t c i))
-          picked zero h = absurd (omega arith)
-          picked (suc i) h = refl
+      unfolding pick_up
+      pick_some = picks.3
 
 -- after m pick-ups there are m segments less that have nothing
 pub record Picking (t : TableView) (start c : List ℕ) (m : ℕ) : Type 0 where
@@ -152,7 +120,7 @@ picking_start t start =
 
 -- what the search for an offer found in programme c
 abbrev pub FoundIn : TableView → List ℕ → Option Offer → Type 0
-FoundIn t c r = Found t.size t.benefits.entries.now t.uses.entries.now t.limits.entries.now c (leaders_in t) r
+FoundIn t c r = r ≡ best_in (table_in t) (leaders_in t) c
 
 module _ {t : TableView} {start c : List ℕ} {m : ℕ} (here : Picking t start c m) where
   pub picking_end : FoundIn t c None → (c ≡ (phase2 (table_in t) (leaders_in t) start).last) × (m ≡ (phase2 (table_in t) (leaders_in t) start).count)

@@ -1,16 +1,14 @@
 // Phase 2: segments with nothing are picked up, the greatest benefit that fits first, until none fits; none before its leader.
 #![tactic(auto)]
 
-ghost use Rattle.std.specs.Prelude.{◌≡◌, ◌&&◌, ◌≤◌, eqb, MatchOption};
+ghost use Rattle.std.specs.Prelude.{◌≡◌, ◌&&◌, ◌≤◌, eqb};
 ghost use Rattle.rules.specs.District.{most_segments};
-ghost use Rattle.rules.specs.Phases.{strategy_at, led, offer, best_offer, phase2};
-ghost use Rattle.tables.specs.Arrays.{leader_in};
+ghost use Rattle.rules.specs.Phases.{strategy_at, led, phase2};
 ghost use Rattle.tables.specs.Views.{table_in, leaders_in};
-ghost use Rattle.phase2.specs.Offers.{IsOffer, worth};
+ghost use Rattle.phase2.specs.Offers.{offer_at, best_in};
 
 use phase1::best_candidate;
-use rules::places::MOST_SEGMENTS;
-use tables::{LeaderList, Move, Planning};
+use tables::{Move, Planning};
 
 // What a segment could take, and its benefit.
 #[derive(Clone, Copy)]
@@ -19,18 +17,24 @@ struct Offer {
     benefit: u64,
 }
 
-// The benefit of an offer; without one 0.
-fn worth(offer: Option<Offer>) -> u64
-    ensures { result ≡ worth offer }
+// Segment i has nothing, and may have something. That it is the table's stays a clause, here and in offer_of: it is a number
+// of a range, and a type for it would have to carry the table.
+fn is_free(planning: &Planning<'_>, i: usize) -> bool
+    requires { (1 ≤ i) × (i ≤ most_segments) }
+    ensures { let c = planning.now.draft.choice in result ≡ (eqb (strategy_at c i) 0 && led (leaders_in planning.now.t) (strategy_at c) i) }
 {
-    offer.map_or(0, |o| o.benefit)
+    let choice = &planning.draft.choice;
+    choice[i - 1] == 0 && planning.t.leaders.is_led(choice, i)
 }
 
-// The best that segment i could take. That the segment is the table's stays a clause, as in phase 1.
+// The best that segment i could take, where it is free.
 fn offer_of(planning: &Planning<'_>, i: usize) -> Option<Offer>
     requires { (1 ≤ i) × (i ≤ planning.now.t.size.segments) }
-    ensures { let t = table_in planning.now.t in let c = planning.now.draft.choice in MatchOption result (offer t c i ≡ 0) (IsOffer t c i) }
+    ensures { result ≡ offer_at (table_in planning.now.t) (leaders_in planning.now.t) planning.now.draft.choice i }
 {
+    if !is_free(planning, i) {
+        return None;
+    }
     let t = planning.t;
     let j = best_candidate(t.size, t.benefits, i, |j, _| planning.fits(Move(i, j)));
     if j == 0 {
@@ -42,31 +46,13 @@ fn offer_of(planning: &Planning<'_>, i: usize) -> Option<Offer>
     })
 }
 
-// Segment i has nothing, and may have something.
-fn is_free(leaders: LeaderList<'_>, choice: &[usize; MOST_SEGMENTS], i: usize) -> bool
-    requires { (1 ≤ i) × (i ≤ most_segments) }
-    ensures { result ≡ (eqb (strategy_at choice.now i) 0 && led (leader_in leaders.entry.entries.now) (strategy_at choice.now) i) }
-{
-    choice[i - 1] == 0 && leaders.is_led(choice, i)
-}
-
-// The offer to pick up: of equals the one of the lowest segment. A loop, since max_by_key would take the last of equals, and
-// of min_by_key over Reverse, which takes the first, the library says which of equals by its turns alone, and these are the
-// loop's. To n + 1, since 1..=n has a second exit, where the proof stands once more.
+// The offer to pick up: of the greatest benefit, and of equals that of the lowest segment, which comes first.
 fn best_offer(planning: &Planning<'_>) -> Option<Offer>
-    ensures { let t = table_in planning.now.t in let c = planning.now.draft.choice in let i = best_offer t (leaders_in planning.now.t) c in MatchOption result (i ≡ 0) (λ o. (1 ≤ i) × IsOffer t c i o) }
+    ensures { result ≡ best_in (table_in planning.now.t) (leaders_in planning.now.t) planning.now.draft.choice }
 {
-    let mut best: Option<Offer> = None;
-    for i in 1..planning.t.size.segments + 1 {
-        if !is_free(planning.t.leaders, &planning.draft.choice, i) {
-            continue;
-        }
-        let offer = offer_of(planning, i);
-        if worth(best) < worth(offer) {
-            best = offer;
-        }
-    }
-    best
+    (0..planning.t.size.segments)
+        .filter_map(|i| offer_of(planning, i + 1))
+        .reduce(|best, o| if best.benefit < o.benefit { o } else { best })
 }
 
 // Phase 2. Returns how many segments were picked up.

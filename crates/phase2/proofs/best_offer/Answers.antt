@@ -1,25 +1,21 @@
--- `phase2::best_offer` meets its contract.
-use Prim.Native.Nat.{◌-◌}
-use native.Mathlib.Omega.{arith}
-use Rattle.phase2.proofs.Offers.{best_none, best_taken, best_kept, best_passed, best_found}
+-- `phase2::best_offer` meets its contract: the segments' offers, reduced to the better one.
+use Rattle.std.proofs.Common.{rules, tests, ◌≡◌, ◌+◌, ◌∙◌, arith}
+use Rattle.std.specs.List.{reduce}
+use Rattle.std.proofs.lemmas.Iterator.{YieldsList-from_range}
+use Rattle.std.proofs.lemmas.Iterator.Consumers.{YieldsList-from_filter_map}
+use Rattle.tables.specs.Views.{table_in, leaders_in}
+use Rattle.phase1.proofs.Reduced.{reduce_by_closure}
+use Rattle.phase2.specs.Offers.{offer_at}
+use Rattle.phase2.proofs.Offers.{better, offers, best_is}
 use Rattle.phase2.proofs.best_offer.Goals as goal
-use Rattle.phase2.proofs.best_offer.Goals.{then-worth, else-worth}
-
-pub loop-i-init : goal.loop-i-init
-loop-i-init c = best_none _ _ _ _ _ _
-
-pub loop-i-preserved-then-not-is_free : goal.loop-i-preserved-then-not-is_free
-loop-i-preserved-then-not-is_free c =
-    let l = c.loop-i in
-    best_passed _ _ _ _ _ _ (l.i - 1) l.i _ l.best (omega arith) (omega arith) l.invariant c.is_free.ensures c.if-not-is_free.true
-
-pub loop-i-preserved : goal.loop-i-preserved
-loop-i-preserved c =
-    let l = c.loop-i in
-    elim c.if-worth.branch [
-      | then-worth w ↦ rw w.best-is (best_taken _ _ _ _ _ _ (l.i - 1) l.i _ l.best (omega arith) (omega arith) l.invariant c.is_free.ensures _ c.offer_of-offer.ensures c.if-not-is_free.false (omega arith))
-      | else-worth w ↦ rw w.best-is (best_kept _ _ _ _ _ _ (l.i - 1) l.i _ l.best (omega arith) (omega arith) l.invariant c.is_free.ensures _ c.offer_of-offer.ensures (omega arith))
-    ]
 
 pub returns : goal.returns
-returns c = best_found _ _ _ _ _ _ (c.loop-i.i - 1) _ c.loop-i.invariant (omega arith)
+returns c =
+    let p = c.args.planning.now in
+    let t = p.t in
+    let n = t.size.segments in
+    let found : c.reduce.result ≡ reduce better (offers t.size t.benefits.entries.now t.uses.entries.now t.limits.entries.now p.draft.choice (leaders_in t) n) =
+    reduce_by_closure _ better (λ x y r q k. search (rules, tests)) c.filter_map.result c.reduce.result c.reduce.ensures.ran
+    (YieldsList-from_filter_map _ (λ k. offer_at (table_in t) (leaders_in t) p.draft.choice (k + 1)) (YieldsList-from_range 0 n n c.filter_map.ensures.source (omega arith)) c.filter_map.ensures.closure
+    (λ x r q k. search rules)) in
+    found ∙ best_is t.size t.benefits.entries.now t.uses.entries.now t.limits.entries.now p.draft.choice (leaders_in t)
