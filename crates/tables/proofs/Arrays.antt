@@ -3,12 +3,13 @@ use Prim.Native.Nat.{ℕ, zero, suc, ◌+◌, ◌-◌, ◌*◌, ◌^◌, ◌≤�
 use mathlib.Core.Path.{◌≡◌, refl, ◌∙◌}
 use mathlib.Core.Bool.{◌&&◌, and-false}
 use mathlib.Core.List.{List, map}
-use Rattle.std.specs.List.{sum as list_sum, range_with_len}
+use Rattle.std.specs.List.{sum as list_sum, sum_by, range_with_len}
 use Rattle.std.proofs.lemmas.List.FromFn.{sum_by-map-range_with_len_more}
+use Rattle.std.proofs.lemmas.List.Sums.{sum_by_more}
 use native.Mathlib.Omega.{arith}
 use native.Mathlib.Numerals.{add-one}
 use lib.Dec.{lit<}
-use lib.ListN.{get_or}
+use lib.ListN.{get_or, length, take}
 use Rattle.base.specs.Over.{sum, between}
 use Rattle.base.proofs.Choice.{pick_all, between_yes}
 use Rattle.base.proofs.Sums.{sum_bound}
@@ -84,3 +85,11 @@ unfolding sum
 range_sum zero f = refl
 range_sum (suc n) f =
     rw add-one at (sum_by-map-range_with_len_more (λ (x : ℕ). x) (λ (k : ℕ). f (k + 1)) 0 n n (omega arith)) ∙ rw (range_sum n f)
+
+-- the sum over the front of a list, where f k is what is taken of its k-th entry
+module _ {X : Type 0} (taken : X → ℕ) (xs : List X) (d : X) (f : ℕ → ℕ) where
+  pub front_sum : (n : ℕ) → n ≤ length xs → ((k : ℕ) → k < n → taken (get_or xs k d) ≡ f (k + 1)) → sum_by taken (take n xs) ≡ sum n f
+  unfolding sum
+  front_sum zero h each = refl
+  front_sum (suc n) h each =
+      rw add-one at (sum_by_more taken xs n d (omega arith)) ∙ rw (front_sum n (omega arith) (λ k l. each k (omega arith)), each n (omega arith), add-one)
