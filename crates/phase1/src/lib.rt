@@ -15,8 +15,11 @@ ghost use Rattle.phase1.specs.Views.{HeldIn};
 
 use rules::places::{MOST_RESOURCES, MOST_SEGMENTS};
 use shares::Summed;
-use tables::rows::entry;
-use tables::{BenefitTable, Draft, LeaderList, Move, Planning, Size, USE_ENTRIES, UsageTable};
+use std::array;
+use tables::{
+    BenefitTable, Draft, LeaderList, Move, Planning, Size, USE_ENTRIES, UsageTable, by_resource,
+    use_entry,
+};
 use weighed::Weighed;
 
 pub mod shares;
@@ -76,7 +79,7 @@ fn sum_in(z: Size, entries: &[u64; USE_ENTRIES], choice: &[usize; MOST_SEGMENTS]
     ensures { result ≡ sum z.segments (held_share entries.now choice.now r) }
 {
     (0..z.segments)
-        .map(|i| entries[MOST_RESOURCES * entry(i + 1, choice[i]) + (r - 1)])
+        .map(|i| entries[use_entry(i + 1, choice[i], r)])
         .sum()
 }
 
@@ -89,11 +92,7 @@ fn sums_of(
     requires { Summable z entries.now choice.now }
     ensures { ShareSums z entries.now choice.now result }
 {
-    let mut each = [0u64; MOST_RESOURCES];
-    for (r, sum) in each[..z.resources].iter_mut().enumerate() {
-        *sum = sum_in(z, entries, choice, r + 1);
-    }
-    each
+    by_resource(z.resources, |r| sum_in(z, entries, choice, r))
 }
 
 // Of the first segments those get nothing whose leaders have nothing, by rising number. Returns whether one of them had
@@ -182,13 +181,11 @@ pub fn reduce(planning: &mut Planning<'_>, shares: ShareTable<'_>) -> u64
 }
 
 // Each segment takes its top candidate.
-fn choose_tops(z: Size, benefits: BenefitTable<'_>, choice: &mut [usize; MOST_SEGMENTS])
+fn top_choice(z: Size, benefits: BenefitTable<'_>) -> [usize; MOST_SEGMENTS]
     requires { z.strategies ≤ most_strategies }
-    ensures { (u l : List ℕ) → choice.new ≡ bests (tables z benefits.entry.entries.now u l) }
+    ensures { (u l : List ℕ) → result ≡ bests (tables z benefits.entry.entries.now u l) }
 {
-    for (i, chosen) in choice.iter_mut().enumerate() {
-        *chosen = top_candidate(z, benefits, i + 1);
-    }
+    array::from_fn(|i| top_candidate(z, benefits, i + 1))
 }
 
 // Phase 1, the start: each segment takes its top candidate unless its leader has nothing, and the sums are made.
@@ -197,13 +194,13 @@ pub fn start(
     leaders: LeaderList<'_>,
     benefits: BenefitTable<'_>,
     uses: UsageTable<'_>,
-    draft: &mut Draft,
-)
+) -> Draft
     requires { Bounded z }
-    ensures running { Running z uses.entry.entries.now draft.new.choice draft.new.sums }
-    ensures by_index { (l : List ℕ) → draft.new.choice ≡ start (tables z benefits.entry.entries.now uses.entry.entries.now l) (leader_in leaders.entry.entries.now) }
+    ensures running { Running z uses.entry.entries.now result.choice result.sums }
+    ensures by_index { (l : List ℕ) → result.choice ≡ start (tables z benefits.entry.entries.now uses.entry.entries.now l) (leader_in leaders.entry.entries.now) }
 {
-    choose_tops(z, benefits, &mut draft.choice);
-    prune(z.segments, leaders, &mut draft.choice);
-    draft.sums = sums_of(z, uses.entries, &draft.choice);
+    let mut choice = top_choice(z, benefits);
+    prune(z.segments, leaders, &mut choice);
+    let sums = sums_of(z, uses.entries, &choice);
+    Draft { choice, sums }
 }

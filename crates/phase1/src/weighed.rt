@@ -9,7 +9,7 @@ ghost use Rattle.phase1.specs.Views.{SharesIn};
 
 use crate::shares::Summed;
 use rules::places::MOST_RESOURCES;
-use tables::{Planning, row_of};
+use tables::{Planning, by_resource, row_of};
 
 // A table and a programme in the making, weighed by shares.
 #[derive(Clone, Copy)]
@@ -49,14 +49,7 @@ impl Weighed<'_> {
     fn surpluses(&self) -> [u64; MOST_RESOURCES]
         ensures { Surpluses (table_in self.now.planning.now.t) self.now.planning.now.draft.choice result }
     {
-        let mut over = [0u64; MOST_RESOURCES];
-        for (r, beyond) in over[..self.planning.t.size.resources]
-            .iter_mut()
-            .enumerate()
-        {
-            *beyond = self.surplus(r + 1);
-        }
-        over
+        by_resource(self.planning.t.size.resources, |r| self.surplus(r))
     }
 
     // The pull of segment i: the shares of its strategy times the surpluses. These go along, as no field of the type: surplus, a
@@ -99,8 +92,8 @@ impl Weighed<'_> {
 }
 
 // A row of shares times the surpluses.
-fn pull_by(resources: usize, row: &[u64], over: &[u64; MOST_RESOURCES]) -> u64
-    requires resources_le_most_resources { (resources ≤ most_resources) × (length row.now ≡ most_resources) }
+fn pull_by(resources: usize, row: &[u64; MOST_RESOURCES], over: &[u64; MOST_RESOURCES]) -> u64
+    requires resources_le_most_resources { resources ≤ most_resources }
     requires by_index { ((r : ℕ) → 1 ≤ r → r ≤ resources → get_or row.now (r - 1) 0 ≤ 10_000) × ((r : ℕ) → 1 ≤ r → r ≤ resources → get_or over.now (r - 1) 0 ≤ 640_000) }
     ensures { result ≡ sum resources (row_pull row.now over.now) }
 {

@@ -13,9 +13,9 @@ ghost use Rattle.tables.specs.Views.{table_in, leaders_in};
 use fill::Arrays;
 use phase1::ShareTable;
 use rating::Ranged;
-use rules::places::{MOST_RESOURCES, MOST_SEGMENTS};
+use rules::places::MOST_SEGMENTS;
 use rules::{District, Programme};
-use tables::{BenefitTable, Draft, LeaderList, LimitList, Planning, TableView, UsageTable};
+use tables::{BenefitTable, LeaderList, LimitList, Planning, TableView, UsageTable};
 
 // The three phases over a table one after another, with its ceiling beside them.
 fn phases(t: TableView<'_>, shares: ShareTable<'_>, bound: u64) -> Programme
@@ -23,11 +23,7 @@ fn phases(t: TableView<'_>, shares: ShareTable<'_>, bound: u64) -> Programme
     requires bound { bound ≡ ceiling (table_in t) }
     ensures { result ≡ programme_of (table_in t.entry) (leaders_in t.entry) }
 {
-    let mut draft = Draft {
-        choice: [0; MOST_SEGMENTS],
-        sums: [0; MOST_RESOURCES],
-    };
-    phase1::start(t.size, t.leaders, t.benefits, t.uses, &mut draft);
+    let draft = phase1::start(t.size, t.leaders, t.benefits, t.uses);
     let mut planning = Planning { t, draft };
     let steps = phase1::reduce(&mut planning, shares);
     let pickups = phase2::pick_up(&mut planning);

@@ -91,10 +91,9 @@ impl<'a> UsageTable<'a> {
     }
 
     // The same of each resource.
-    pub(crate) fn row(self, i: usize, j: usize) -> &'a [u64]
+    pub(crate) fn row(self, i: usize, j: usize) -> &'a [u64; MOST_RESOURCES]
         requires { Cell i j }
-        ensures len { length result.now ≡ most_resources }
-        ensures uses { (r : ℕ) → 1 ≤ r → r ≤ most_resources → get_or result.now (r - 1) 0 ≡ usage_at self.entry.entries.now i j r }
+        ensures { (r : ℕ) → 1 ≤ r → r ≤ most_resources → get_or result.now (r - 1) 0 ≡ usage_at self.entry.entries.now i j r }
     {
         row_of(self.entries, i, j)
     }

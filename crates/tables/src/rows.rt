@@ -38,15 +38,13 @@ pub fn greatest(table: &[u64; ENTRIES], strategies: usize, i: usize) -> u64
         .unwrap_or(0)
 }
 
-// Of an array with a number of each resource for each strategy on each segment, those of strategy j on segment i. A
-// slice, with its length in a clause: the library gives a part as an array by an Option alone (`first_chunk`).
-pub fn row_of(table: &[u64; USE_ENTRIES], i: usize, j: usize) -> &[u64]
+// Of an array with a number of each resource for each strategy on each segment, those of strategy j on segment i.
+pub fn row_of(table: &[u64; USE_ENTRIES], i: usize, j: usize) -> &[u64; MOST_RESOURCES]
     requires { Cell i j }
-    ensures len { length result.now ≡ most_resources }
-    ensures numbers { (r : ℕ) → 1 ≤ r → r ≤ most_resources → get_or result.now (r - 1) 0 ≡ get_or table.now (use_entry i j r) 0 }
+    ensures { (r : ℕ) → 1 ≤ r → r ≤ most_resources → get_or result.now (r - 1) 0 ≡ get_or table.now (use_entry i j r) 0 }
 {
-    let at = use_entry(i, j, 1);
-    &table[at..at + MOST_RESOURCES]
+    let (rows, _) = table.as_chunks();
+    &rows[entry(i, j)]
 }
 
 // Each sum loses what `less` has in its place, and gains what `more` has. By the place: a zip of three would

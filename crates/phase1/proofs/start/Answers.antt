@@ -10,13 +10,13 @@ use Rattle.phase1.proofs.start.Goals.{After-prune}
 
 -- the programme that the pruning leaves
 chosen : (c : After-prune) → Chosen c.args.z c.prune.new.choice
-chosen c = pruned_chosen _ (bests_chosen _ [] [] (c.choose_tops.ensures [] [])) c.prune.ensures.choice_after
+chosen c = pruned_chosen _ (bests_chosen _ [] [] (c.top_choice-choice.ensures [] [])) c.prune.ensures.choice_after
 
-pub sums_of-draft-requires : goal.sums_of-draft-requires
-sums_of-draft-requires c = uses_summable c.requires c.args.uses.held (chosen (goal.at.sums_of-draft-requires c).After-prune)
+pub sums_of-sums-requires : goal.sums_of-sums-requires
+sums_of-sums-requires c = uses_summable c.requires c.args.uses.held (chosen (goal.at.sums_of-sums-requires c).After-prune)
 
 pub returns-clause-running : goal.returns-clause-running
-returns-clause-running c = uses_running c.requires c.args.uses.held (chosen (goal.at.returns-clause-running c).After-prune) (omega arith) c.sums_of-draft.ensures
+returns-clause-running c = uses_running c.requires c.args.uses.held (chosen (goal.at.returns-clause-running c).After-prune) (omega arith) c.sums_of-sums.ensures
 
 pub returns-clause-by_index : goal.returns-clause-by_index
-returns-clause-by_index c = λ l. start_is _ _ (c.choose_tops.ensures _ l) c.prune.ensures.choice_after
+returns-clause-by_index c = λ l. start_is _ _ (c.top_choice-choice.ensures _ l) c.prune.ensures.choice_after

@@ -16,7 +16,7 @@ sum-requires-clause-can c =
       serves_from_places (YieldsList-from_zip (YieldsList-from_slice (take a.resources a.row.now) (search rules)) (YieldsList-from_slice a.over.now (search rules)))
           (λ x q e. refl)
           (λ x k inside at.
-          let small = weight_small a.row.now a.over.now a.resources p.resources_le_most_resources.0 p.resources_le_most_resources.1 (omega arith) p.by_index.0 p.by_index.1 k (x.0.now, x.1.now) inside at in
+          let small = weight_small a.row.now a.over.now a.resources p.resources_le_most_resources (search rules) (omega arith) p.by_index.0 p.by_index.1 k (x.0.now, x.1.now) inside at in
           search rules),
     )
 
@@ -29,8 +29,8 @@ sum-requires-clause-fits c =
     (YieldsList-from_zip (YieldsList-from_slice (take a.resources a.row.now) (search rules)) (YieldsList-from_slice a.over.now (search rules))) c.map.ensures.closure (λ x r q k. search rules))
     (omega (
       arith,
-      weights_sum a.row.now a.over.now a.resources p.resources_le_most_resources.0 p.resources_le_most_resources.1 (omega arith),
-      pull_le a.row.now a.over.now a.resources p.resources_le_most_resources.0 p.by_index.0 p.by_index.1 a.resources (omega arith),
+      weights_sum a.row.now a.over.now a.resources p.resources_le_most_resources (search rules) (omega arith),
+      pull_le a.row.now a.over.now a.resources p.resources_le_most_resources p.by_index.0 p.by_index.1 a.resources (omega arith),
     ))
 
 pub returns : goal.returns
@@ -40,4 +40,4 @@ returns c =
     sum_from_yields_List c.map.result c.sum.result c.sum.ensures.ran
     (YieldsList-from_map _ (λ (q : ℕ × ℕ). q.0 * q.1)
     (YieldsList-from_zip (YieldsList-from_slice (take a.resources a.row.now) (search rules)) (YieldsList-from_slice a.over.now (search rules))) c.map.ensures.closure (λ x r q k. search rules))
-    ∙ weights_sum a.row.now a.over.now a.resources p.resources_le_most_resources.0 p.resources_le_most_resources.1 (omega arith)
+    ∙ weights_sum a.row.now a.over.now a.resources p.resources_le_most_resources (search rules) (omega arith)

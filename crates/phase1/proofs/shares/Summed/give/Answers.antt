@@ -6,9 +6,9 @@ use Rattle.phase1.proofs.shares.Summed.give.Goals as goal
 pub shift-requires : goal.shift-requires
 shift-requires c =
     let p = c.requires in
-    shiftable _ p.cells.0 _ _ _ (search rules) c.row_of-less.ensures.len c.row_of-more.ensures.len c.row_of-less.ensures.numbers c.row_of-more.ensures.numbers p.moves
+    shiftable _ p.cells.0 _ _ _ (search rules) (search rules) (search rules) c.row_of-less.ensures c.row_of-more.ensures p.moves
 
 pub returns-clause-sums : goal.returns-clause-sums
 returns-clause-sums c =
     let p = c.requires in
-    shifted_are _ p.cells.0 _ _ _ (search rules) c.row_of-less.ensures.len c.row_of-more.ensures.len c.row_of-less.ensures.numbers c.row_of-more.ensures.numbers c.shift.ensures
+    shifted_are _ p.cells.0 _ _ _ (search rules) (search rules) (search rules) c.row_of-less.ensures c.row_of-more.ensures c.shift.ensures

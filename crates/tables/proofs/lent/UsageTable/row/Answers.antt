@@ -3,5 +3,5 @@ use mathlib.Core.Path.{◌∙◌}
 use Rattle.tables.proofs.Arrays.{usage_at_lem}
 use Rattle.tables.proofs.lent.UsageTable.row.Goals as goal
 
-pub returns-clause-uses : goal.returns-clause-uses
-returns-clause-uses c = λ r low high. c.row_of.ensures.numbers r low high ∙ usage_at_lem c.args.self.held c.args.i c.args.j r c.requires low high
+pub returns : goal.returns
+returns c = λ r low high. c.row_of.ensures r low high ∙ usage_at_lem c.args.self.held c.args.i c.args.j r c.requires low high
