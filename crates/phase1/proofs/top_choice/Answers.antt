@@ -1,5 +1,5 @@
 -- `phase1::top_choice` meets its contract.
-use Rattle.std.proofs.Common.{rules, arith, ◌≡◌, ◌+◌, ◌-◌, List, ℕ}
+use Rattle.std.proofs.Common.{rules, arith, ◌≡◌, ◌+◌, ◌-◌}
 use Rattle.rules.specs.Phases.{top_candidate}
 use Rattle.tables.specs.Arrays.{tables}
 use Rattle.tables.proofs.Made.{made_at}
