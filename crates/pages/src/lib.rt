@@ -51,19 +51,19 @@ fn put_lines(out: &mut [u8], sheet: &Sheet) -> usize
 }
 
 // The page of a district and a programme to the front of the buffer, where the buffer has room for it.
-#[tactic(auto, using(grammar::proofs::InRanges::in_ranges, crate::proofs::Given::page_none, crate::proofs::Given::page_short))]
+#[tactic(auto, using(crate::proofs::Given::page_none, crate::proofs::Given::page_short))]
 pub fn page(d: &District, p: &Programme, buffer: &mut [u8]) -> Answer
     ensures { record { answer = answer_in result; buffer = buffer.new } ≡ exported (page_refusal d.now buffer.old) (Page·page d.now p.now) buffer.old }
 {
-    if !file::in_range(d) {
+    let Some(ranged) = Ranged::of(d) else {
         return Ok(0);
-    }
+    };
     let length = LINE_BYTES * (d[SEGMENT_COUNT] + OTHER_LINES);
     if buffer.len() < length {
         return Err(Refusal::NoRoomForPage);
     }
     let sheet = Sheet {
-        ranged: Ranged { district: d },
+        ranged,
         programme: p,
     };
     Ok(put_lines(buffer, &sheet))

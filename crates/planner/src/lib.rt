@@ -90,8 +90,8 @@ pub fn plan(d: &District) -> Programme
     ensures same { result ≡ plan_of d.now }
     ensures few { result.steps ≤ 704 }
 {
-    if file::in_range(d) {
-        return programme_of(Ranged { district: d });
+    match Ranged::of(d) {
+        None => no_programme(),
+        Some(ranged) => programme_of(ranged),
     }
-    no_programme()
 }

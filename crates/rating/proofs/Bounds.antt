@@ -13,9 +13,9 @@ use Rattle.base.specs.Over.{sum_z}
 use Rattle.base.proofs.Integers.{abs_add, abs_neg, abs_min, abs_max, abs_mul_le, abs_quot, pos_minus, sum_z_abs}
 use Rattle.laws.proofs.Survival.{survival_le}
 use Rattle.grammar.specs.Ranges.{Ranges}
-use Rattle.rules.specs.District.{District, most_strategies, gains_at, value_at, strategy_place, distresses_of, years_of, greatest_of, gain_of, pavement_of, rating_of}
+use Rattle.rules.specs.District.{District, most_strategies, gains_at, value_at, strategy_place, segments_of, distresses_of, years_of, greatest_of, gain_of, pavement_of, rating_of}
 use Rattle.rules.specs.Rating.{capped_gain, gain, survival, improvement, rating, both_ends, credit, credits, effect, area, benefit, usage, scaled_limit}
-use Rattle.rating.specs.Numbers.{Segment, SegmentOf, Pavement, Strategy, Distress, Resource}
+use Rattle.rating.specs.Numbers.{Segment, Pavement, Strategy, Distress, Resource}
 
 -- a byte whose signed number is small
 byte_small : (b : ℕ) → nat_abs (signed b) ≤ 50 → b ≤ 306
@@ -35,7 +35,7 @@ module _ (d : District) (ok : Ranges d) where
   unfolding gain_of
   byte_le j k p q = byte_small _ (ok.gain j k p.0 p.1 q.0 q.1)
 
-  pub pavement_in : (i : ℕ) → SegmentOf d i → Pavement (pavement_of d i)
+  pub pavement_in : (i : ℕ) → (1 ≤ i) × (i ≤ segments_of d) → Pavement (pavement_of d i)
   pavement_in i p = let n = ok.segments in (ok.some_type i p.0 p.1, ok.pavement i p.0 (omega arith))
 
   pub current_le : (i k : ℕ) → Segment i → Distress k → rating_of d i k ≤ 50

@@ -2,7 +2,7 @@
 use Prim.Native.Nat.{ℕ, zero, suc, ◌+◌, ◌-◌}
 use mathlib.Core.Path.{◌≡◌, refl, sym, ap, ◌∙◌}
 use mathlib.Core.Bool.{Bool, true, false, ◌&&◌, and-true, and_assoc}
-use mathlib.Core.List.{map}
+use mathlib.Core.List.{List, map}
 use native.Mathlib.Numerals.{add-one}
 use native.Mathlib.Omega.{arith}
 use denote.Param.Members.{Mut, Called}
@@ -10,11 +10,13 @@ use Rattle.std.proofs.iter.runs.Sources.{nat_range_inclusive_steps}
 use Rattle.std.proofs.lemmas.Iterator.{YieldsList, YieldsList-from_map, maps}
 use Rattle.std.proofs.lemmas.Iterator.Consumers.{YieldsList-at}
 use Rattle.std.proofs.lemmas.List.Sums.{sum_by-cons}
-use Rattle.std.specs.Iterator.{AlwaysYields}
-use Rattle.std.specs.List.{list_all, range_with_len, sum_by}
+use Rattle.std.specs.Iterator.{AlwaysYields, YieldsThen}
+use Rattle.std.specs.List.{FoldsTo, list_all, range_with_len, sum_by}
 use Rattle.std.specs.Range.{range_inclusive_start, range_inclusive_end, range_inclusive_exhausted, range_inclusive_len}
 use Rattle.std.specs.declared.ops.RangeInclusive.{RangeInclusive}
 use Rattle.std.specs.declared.iter.Map.{Map}
+use Rattle.std.proofs.lemmas.Iterator.Search.{all_from_yields_List}
+use Rattle.std.specs.Prelude.{Option, MatchOption}
 use Rattle.std.specs.Iterator.Adapters.{map_source, map_callee}
 use Rattle.base.specs.Over.{all, sum}
 use Rattle.base.proofs.Sums.{sum_none, sum_next}
@@ -73,6 +75,14 @@ from_front (suc n) m f =
 pub all_listed : (n : ℕ) (f : ℕ → Bool) → list_all f (range_with_len 1 n) ≡ all n f
 unfolding all
 all_listed n f = let e : 0 + n ≡ n = omega arith in rw e at (from_front n 0 f)
+
+module _ {s : RangeInclusive ℕ} {n : ℕ} (from : range_inclusive_start s ≡ 1) (to : range_inclusive_end s ≡ n) (whole : range_inclusive_exhausted s ≡ false) where
+  -- what `all` over the range says, where the closure gives each number's test
+  pub all_from_1 : {F : Type 0} {g : Mut F (ℕ × Unit {0}) Bool} {f : F} {u : RangeInclusive ℕ} (test : ℕ → Bool) (r : Bool)
+      → (xs : List ℕ) × (o : Option ℕ) × (j : F) × YieldsThen nat_range_inclusive_steps s xs o u × FoldsTo (λ p x q. Called g p (x, tt) true q) f xs j
+      × MatchOption o (r ≡ true) (λ x. (r ≡ false) × ((h : F) × Called g j (x, tt) false h))
+      → ((x : ℕ) (b : Bool) (q : F) → Called g f (x, tt) b q → (q ≡ f) × (b ≡ test x)) → r ≡ all n test
+  all_from_1 test r ran gives = all_from_yields_List test _ _ r ran (from_1 from to whole) gives ∙ all_listed n test
 
 -- ---- their sum
 

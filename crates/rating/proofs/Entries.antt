@@ -15,7 +15,7 @@ use Rattle.grammar.specs.Ranges.{Ranges}
 use Rattle.rules.specs.Rating.{area, benefit, usage, scaled_limit, candidate}
 use Rattle.rules.specs.Table.{has, candidate_benefit, usage_in, limit_in}
 use Rattle.rating.specs.Areas.{area_in}
-use Rattle.rating.specs.Numbers.{Segment, SegmentOf, Strategy, Resource}
+use Rattle.rating.specs.Numbers.{Segment, Strategy, Resource}
 use Rattle.rating.proofs.Bounds.{benefit_abs, usage_le, limit_le}
 
 -- of a strategy, which is not nothing
@@ -24,7 +24,7 @@ unfolding usage
 usage_of d i zero r h = elim h [ ]
 usage_of d i (suc j) r h = refl
 
-pub has_in : (d : District) (i j : ℕ) → has d i j ≡ true → SegmentOf d i × ((1 ≤ j) × (j ≤ strategies_of d))
+pub has_in : (d : District) (i j : ℕ) → has d i j ≡ true → ((1 ≤ i) × (i ≤ segments_of d)) × ((1 ≤ j) × (j ≤ strategies_of d))
 has_in d i j e =
     let t = and_parts (between 1 (segments_of d) i) (between 1 (strategies_of d) j) e in
     (between_in 1 (segments_of d) i t.0, between_in 1 (strategies_of d) j t.1)

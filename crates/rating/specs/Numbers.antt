@@ -1,13 +1,9 @@
 -- The numbers that a function may be handed.
 use Rattle.std.specs.Prelude.{ℕ, ◌≤◌}
-use Rattle.rules.specs.District.{District, most_segments, most_strategies, most_years, most_distresses, most_pavements, most_resources, segments_of}
+use Rattle.rules.specs.District.{most_segments, most_strategies, most_years, most_distresses, most_pavements, most_resources}
 
 abbrev pub Segment : ℕ → Type 0
 Segment i = (1 ≤ i) × (i ≤ most_segments)
-
--- one that the district has
-abbrev pub SegmentOf : District → ℕ → Type 0
-SegmentOf d i = (1 ≤ i) × (i ≤ segments_of d)
 
 abbrev pub Strategy : ℕ → Type 0
 Strategy j = (1 ≤ j) × (j ≤ most_strategies)

@@ -6,6 +6,7 @@ ghost use Rattle.base.specs.Choice.{pick};
 ghost use Rattle.base.specs.Over.{sum, sum_z};
 ghost use Rattle.grammar.specs.Ranges.{Ranges};
 ghost use Rattle.rules.specs.District.{most_years, per_strategy, per_pavement, per_segment, value_at, limit_place, greatest_place, strategy_place, pavement_place, segment_place, gain_of, pavement_of, years_of, distresses_of, segments_of, barred_in};
+ghost use Rattle.rules.specs.File.{in_range};
 ghost use Rattle.rules.specs.Rating.{gain, survival, both_ends, credits, rating, effect, area, benefit, usage, scaled_limit, reaches, minimum_reached, years_reached, minima_reached, first_rating, overall_reached, permitted, fits_alone, candidate};
 ghost use Rattle.rules.specs.Phases.{chosen_usage, used as Phases·used};
 ghost use Rattle.rules.specs.Table.{has, candidate_benefit, usage_in, limit_in, table_of};
@@ -106,7 +107,18 @@ pub struct Ranged<'a> {
     pub ghost in_range: { Ranges district.now },
 }
 
-impl Ranged<'_> {
+impl<'a> Ranged<'a> {
+    // None of a district whose numbers are not in them.
+    #[tactic(auto, using(grammar::proofs::InRanges::in_ranges))]
+    pub fn of(d: &'a District) -> Option<Ranged<'a>>
+        ensures { MatchOption result (in_range d.now ≡ false) (λ r. (r.district.now ≡ d.now) × (in_range d.now ≡ true)) }
+    {
+        if !file::in_range(d) {
+            return None;
+        }
+        Some(Ranged { district: d })
+    }
+
     pub fn scaled_limit(&self, r: usize) -> u64
         requires { Resource r }
         ensures { result ≡ scaled_limit self.now.district.now r }
@@ -319,7 +331,8 @@ impl<'a> Treatment<'a> {
             <= self.ranged.scaled_limit(r))
     }
 
-    // The benefit of a candidate; 0 for any other strategy. What is cheap to test is tested first.
+    // The benefit of a candidate; 0 for any other strategy, as the table has it: its one caller would take an Option apart. What is
+    // cheap to test is tested first.
     fn worth(&self) -> u64
         requires { self.now.segment ≤ segments_of self.now.ranged.district.now }
         ensures { result ≡ pick (candidate self.now.ranged.district.now self.now.segment self.now.strategy) (nat_abs (benefit self.now.ranged.district.now self.now.segment self.now.strategy)) 0 }

@@ -128,12 +128,12 @@ pub fn why(d: &District, c: &[usize; MOST_SEGMENTS], i: usize, j: usize) -> Resu
     ensures { answer_in result ≡ explained (bar_refusal d.now i j) (reason_for d.now c.now i j) }
 {
     edits::check(d, Edit::Bar(i, j))?;
-    if !file::in_range(d) {
+    let Some(ranged) = Ranged::of(d) else {
         return Ok(Reason::NoGreaterTotal);
-    }
+    };
     let question = Question {
         treatment: Treatment {
-            ranged: Ranged { district: d },
+            ranged,
             segment: i,
             strategy: j,
         },

@@ -1,10 +1,8 @@
 -- `rating::Treatment::minima_reached` meets its contract.
-use mathlib.Core.Path.{◌∙◌}
 use borrow.Author.Rules.{rules}
 use borrow.Author.Tests.{tests}
-use Rattle.std.proofs.lemmas.Iterator.Search.{all_from_yields_List}
 use Rattle.rules.specs.Rating.{years_reached, minima_reached}
-use Rattle.rating.proofs.Chains.{from_1, all_listed}
+use Rattle.rating.proofs.Chains.{all_from_1}
 use Rattle.rating.proofs.Treatment.minima_reached.Goals as goal
 
 pub returns : goal.returns
@@ -13,4 +11,4 @@ returns c =
     let s = c.args.self.now in
     let test = years_reached s.ranged.district.now s.segment s.strategy in
     let range = c.new.ensures in
-    all_from_yields_List test _ _ _ c.all.ensures.ran (from_1 range.start range.end range.exhausted) (λ x b q e. search (rules, tests)) ∙ all_listed _ test
+    all_from_1 range.start range.end range.exhausted test _ c.all.ensures.ran (λ x b q e. search (rules, tests))
