@@ -1,19 +1,18 @@
--- Chains over the numbers 1 to n: what `(1..=n)` yields, and what `all` and `sum` over it say.
-use Prim.Native.Nat.{ℕ, zero, suc, ◌+◌, ◌-◌}
+-- Chains over the numbers 1 to n: what `1..n + 1` yields, and what `all` and `sum` over it say.
+use Prim.Native.Nat.{ℕ, zero, suc, ◌+◌}
 use mathlib.Core.Path.{◌≡◌, refl, sym, ap, ◌∙◌}
 use mathlib.Core.Bool.{Bool, true, false, ◌&&◌, and-true, and_assoc}
 use mathlib.Core.List.{List, map}
 use native.Mathlib.Numerals.{add-one}
 use native.Mathlib.Omega.{arith}
 use denote.Param.Members.{Mut, Called}
-use Rattle.std.proofs.iter.runs.Sources.{nat_range_inclusive_steps}
-use Rattle.std.proofs.lemmas.Iterator.{YieldsList, YieldsList-from_map, maps}
+use Rattle.std.proofs.iter.Yields.{nat_range_steps}
+use Rattle.std.proofs.lemmas.Iterator.{YieldsList, YieldsList-from_range, YieldsList-from_map, maps}
 use Rattle.std.proofs.lemmas.Iterator.Consumers.{YieldsList-at}
 use Rattle.std.proofs.lemmas.List.Sums.{sum_by-cons}
-use Rattle.std.specs.Iterator.{AlwaysYields, YieldsThen}
+use Rattle.std.specs.Iterator.{YieldsThen}
 use Rattle.std.specs.List.{FoldsTo, list_all, range_with_len, sum_by}
-use Rattle.std.specs.Range.{range_inclusive_start, range_inclusive_end, range_inclusive_exhausted, range_inclusive_len}
-use Rattle.std.specs.declared.ops.RangeInclusive.{RangeInclusive}
+use Rattle.std.specs.declared.ops.Range.{Range}
 use Rattle.std.specs.declared.iter.Map.{Map}
 use Rattle.std.proofs.lemmas.Iterator.Search.{all_from_yields_List}
 use Rattle.std.specs.Prelude.{Option, MatchOption}
@@ -23,38 +22,13 @@ use Rattle.base.proofs.Sums.{sum_none, sum_next}
 
 -- ---- what the range yields
 
--- how many numbers it has left
-left : RangeInclusive ℕ → ℕ
-left s = range_inclusive_len (λ x y. y - x) (range_inclusive_start s) (range_inclusive_end s) (range_inclusive_exhausted s)
-
-spent : (s : RangeInclusive ℕ) → range_inclusive_exhausted s ≡ true → left s ≡ 0
-unfolding left
-spent s e = ap (range_inclusive_len (λ x y. y - x) (range_inclusive_start s) (range_inclusive_end s)) e
-
-going : (s : RangeInclusive ℕ) (n : ℕ) → left s ≡ suc n → range_inclusive_exhausted s ≡ false
-going s n l = by (range_inclusive_exhausted s) refl
-  where
-    by : (t : Bool) → range_inclusive_exhausted s ≡ t → range_inclusive_exhausted s ≡ false
-    by true e = absurd (omega (arith, spent s e))
-    by false e = e
-
-yields : (n a : ℕ) (s : RangeInclusive ℕ) → left s ≡ n → (range_inclusive_exhausted s ≡ false → range_inclusive_start s ≡ a) → AlwaysYields nat_range_inclusive_steps (λ x. x) s (range_with_len a n)
-unfolding left
-yields zero a s l here = λ x j p. absurd (omega (arith, p.1.1))
-yields (suc n) a s l here =
-    let first = here (going s n l) in (
-      (λ j p. absurd (omega (arith, p.1.0))),
-      λ x j p. (p.1.0 ∙ first, yields n (a + 1) j (omega (arith, p.1.1)) (λ e. p.1.2 e ∙ ap (λ (k : ℕ). k + 1) first)),
-    )
-
-module _ {s : RangeInclusive ℕ} {n : ℕ} (from : range_inclusive_start s ≡ 1) (to : range_inclusive_end s ≡ n) (whole : range_inclusive_exhausted s ≡ false) where
-  pub from_1 : YieldsList nat_range_inclusive_steps (λ x. x) s (range_with_len 1 n)
-  unfolding left
-  from_1 = record { runs = yields n 1 s (rw (whole, from, to) (omega arith)) (λ e. from) }
+module _ {s : Range ℕ} (n : ℕ) (is : s ≡ record { start = 1; end = n + 1 }) where
+  pub from_1 : YieldsList nat_range_steps (λ x. x) s (range_with_len 1 n)
+  from_1 = YieldsList-from_range 1 (n + 1) n is (omega arith)
 
   -- and what `map` over it does, where the closure gives h of each number
-  pub mapped_from_1 : {F R : Type 0} {chain : Map (RangeInclusive ℕ) F} {g : Mut F (ℕ × Unit {0}) R} (h : ℕ → R) {f : F} → map_source chain ≡ s → map_callee chain ≡ f
-      → ((k : ℕ) (r : R) (q : F) → Called g f (k, tt) r q → (q ≡ f) × (r ≡ h k)) → YieldsList (maps nat_range_inclusive_steps g) (λ r. r) chain (map h (range_with_len 1 n))
+  pub mapped_from_1 : {F R : Type 0} {chain : Map (Range ℕ) F} {g : Mut F (ℕ × Unit {0}) R} (h : ℕ → R) {f : F} → map_source chain ≡ s → map_callee chain ≡ f
+      → ((k : ℕ) (r : R) (q : F) → Called g f (k, tt) r q → (q ≡ f) × (r ≡ h k)) → YieldsList (maps nat_range_steps g) (λ r. r) chain (map h (range_with_len 1 n))
   mapped_from_1 {g = g} h source = YieldsList-from_map g h (YieldsList-at source from_1)
 
 -- ---- all of them pass
@@ -76,13 +50,12 @@ pub all_listed : (n : ℕ) (f : ℕ → Bool) → list_all f (range_with_len 1 n
 unfolding all
 all_listed n f = let e : 0 + n ≡ n = omega arith in rw e at (from_front n 0 f)
 
-module _ {s : RangeInclusive ℕ} {n : ℕ} (from : range_inclusive_start s ≡ 1) (to : range_inclusive_end s ≡ n) (whole : range_inclusive_exhausted s ≡ false) where
-  -- what `all` over the range says, where the closure gives each number's test
-  pub all_from_1 : {F : Type 0} {g : Mut F (ℕ × Unit {0}) Bool} {f : F} {u : RangeInclusive ℕ} (test : ℕ → Bool) (r : Bool)
-      → (xs : List ℕ) × (o : Option ℕ) × (j : F) × YieldsThen nat_range_inclusive_steps s xs o u × FoldsTo (λ p x q. Called g p (x, tt) true q) f xs j
-      × MatchOption o (r ≡ true) (λ x. (r ≡ false) × ((h : F) × Called g j (x, tt) false h))
-      → ((x : ℕ) (b : Bool) (q : F) → Called g f (x, tt) b q → (q ≡ f) × (b ≡ test x)) → r ≡ all n test
-  all_from_1 test r ran gives = all_from_yields_List test _ _ r ran (from_1 from to whole) gives ∙ all_listed n test
+-- what `all` over the range says, where the closure gives each number's test
+pub all_from_1 : {s : Range ℕ} (n : ℕ) → s ≡ record { start = 1; end = n + 1 } → {F : Type 0} {g : Mut F (ℕ × Unit {0}) Bool} {f : F} {u : Range ℕ} (test : ℕ → Bool) (r : Bool)
+    → (xs : List ℕ) × (o : Option ℕ) × (j : F) × YieldsThen nat_range_steps s xs o u × FoldsTo (λ p x q. Called g p (x, tt) true q) f xs j
+    × MatchOption o (r ≡ true) (λ x. (r ≡ false) × ((h : F) × Called g j (x, tt) false h))
+    → ((x : ℕ) (b : Bool) (q : F) → Called g f (x, tt) b q → (q ≡ f) × (b ≡ test x)) → r ≡ all n test
+all_from_1 n is test r ran gives = all_from_yields_List test _ _ r ran (from_1 n is) gives ∙ all_listed n test
 
 -- ---- their sum
 

@@ -5,7 +5,7 @@ ghost use Rattle.std.specs.Prelude.{◌≡◌, true, false, MatchOption, ℕ, �
 ghost use Rattle.base.specs.Choice.{pick};
 ghost use Rattle.base.specs.Over.{sum, sum_z};
 ghost use Rattle.grammar.specs.Ranges.{Ranges};
-ghost use Rattle.rules.specs.District.{most_years, per_strategy, per_pavement, per_segment, value_at, limit_place, greatest_place, strategy_place, pavement_place, segment_place, gain_of, pavement_of, years_of, distresses_of, segments_of, barred_in};
+ghost use Rattle.rules.specs.District.{most_years, per_strategy, per_pavement, per_segment, value_at, limit_place, greatest_place, strategy_place, pavement_place, segment_place, gain_of, pavement_of, years_of, distresses_of, segments_of, resources_of, barred_in};
 ghost use Rattle.rules.specs.File.{in_range};
 ghost use Rattle.rules.specs.Rating.{gain, survival, both_ends, credits, rating, effect, area, benefit, usage, scaled_limit, reaches, minimum_reached, years_reached, minima_reached, first_rating, overall_reached, permitted, fits_alone, candidate};
 ghost use Rattle.rules.specs.Phases.{chosen_usage, used as Phases·used};
@@ -15,6 +15,7 @@ ghost use Rattle.rating.specs.Numbers.{Segment, Strategy, Distress, Year, Paveme
 
 use rules::District;
 use rules::places::*;
+use std::ops::Range;
 
 // Segments, strategies, distress types, years and resources are numbers under a clause of specs/Numbers, and no types: ranges
 // count them and places are reckoned from them, so each call would wrap what a range gives, and each reader unwrap it.
@@ -119,6 +120,35 @@ impl<'a> Ranged<'a> {
         Some(Ranged { district: d })
     }
 
+    // ---- the numbers of what it has, from 1 on. Each range ends at the count and one: with `1..=n`, which tests twice at each step
+    // whether it ends, a plan takes 4 to 6 percent more instructions (4.59 million at 16 segments, where it takes 4.36).
+
+    pub fn segments(&self) -> Range<usize>
+        ensures { result ≡ record { start = 1; end = segments_of self.now.district.now + 1 } }
+    {
+        1..self.district[SEGMENT_COUNT] + 1
+    }
+
+    pub fn years(&self) -> Range<usize>
+        ensures { result ≡ record { start = 1; end = years_of self.now.district.now + 1 } }
+    {
+        1..self.district[YEAR_COUNT] + 1
+    }
+
+    pub fn distresses(&self) -> Range<usize>
+        ensures { result ≡ record { start = 1; end = distresses_of self.now.district.now + 1 } }
+    {
+        1..self.district[DISTRESS_COUNT] + 1
+    }
+
+    pub fn resources(&self) -> Range<usize>
+        ensures { result ≡ record { start = 1; end = resources_of self.now.district.now + 1 } }
+    {
+        1..self.district[RESOURCE_COUNT] + 1
+    }
+
+    // ---- limits
+
     pub fn scaled_limit(&self, r: usize) -> u64
         requires { Resource r }
         ensures { result ≡ scaled_limit self.now.district.now r }
@@ -195,7 +225,7 @@ impl<'a> Treatment<'a> {
     {
         let mut total: usize = 0;
         let mut start: usize = 1000000;
-        for t in 1..=self.ranged.district[YEAR_COUNT] {
+        for t in 1..self.ranged.district[YEAR_COUNT] + 1 {
             let end = self.survival(k, t);
             total += start + end;
             start = end;
@@ -215,9 +245,7 @@ impl<'a> Treatment<'a> {
     fn total_credits(&self) -> i64
         ensures { result ≡ sum_z (distresses_of self.now.ranged.district.now) (credits self.now.ranged.district.now self.now.segment self.now.strategy) }
     {
-        (1..=self.ranged.district[DISTRESS_COUNT])
-            .map(|k| self.credits(k))
-            .sum()
+        self.ranged.distresses().map(|k| self.credits(k)).sum()
     }
 
     // One division, toward zero, after the whole sum.
@@ -284,21 +312,22 @@ impl<'a> Treatment<'a> {
         ensures { result ≡ years_reached self.now.ranged.district.now self.now.segment self.now.strategy k }
     {
         let g = self.gain(k);
-        (1..=self.ranged.district[YEAR_COUNT]).all(|t| self.minimum_reached(k, t, g))
+        self.ranged.years().all(|t| self.minimum_reached(k, t, g))
     }
 
     fn minima_reached(&self) -> bool
         requires { self.now.segment ≤ segments_of self.now.ranged.district.now }
         ensures { result ≡ minima_reached self.now.ranged.district.now self.now.segment self.now.strategy }
     {
-        (1..=self.ranged.district[DISTRESS_COUNT]).all(|k| self.years_reached(k))
+        self.ranged.distresses().all(|k| self.years_reached(k))
     }
 
     // The ratings of year 1, summed.
     fn first_ratings(&self) -> i64
         ensures { result ≡ sum_z (distresses_of self.now.ranged.district.now) (first_rating self.now.ranged.district.now self.now.segment self.now.strategy) }
     {
-        (1..=self.ranged.district[DISTRESS_COUNT])
+        self.ranged
+            .distresses()
             .map(|k| self.rating(k, 1, self.gain(k)))
             .sum()
     }
@@ -327,8 +356,9 @@ impl<'a> Treatment<'a> {
     fn fits_alone(&self) -> bool
         ensures { result ≡ fits_alone self.now.ranged.district.now self.now.segment self.now.strategy }
     {
-        (1..=self.ranged.district[RESOURCE_COUNT]).all(|r| self.usage(r)
-            <= self.ranged.scaled_limit(r))
+        self.ranged
+            .resources()
+            .all(|r| self.usage(r) <= self.ranged.scaled_limit(r))
     }
 
     // The benefit of a candidate; 0 for any other strategy, as the table has it: its one caller would take an Option apart. What is
@@ -423,8 +453,6 @@ impl<'a> Ranged<'a> {
         requires { Resource r }
         ensures { result ≡ Phases·used (table_of self.now.district.now) c.now r }
     {
-        (1..=self.district[SEGMENT_COUNT])
-            .map(|i| self.chosen_usage(c, r, i))
-            .sum()
+        self.segments().map(|i| self.chosen_usage(c, r, i)).sum()
     }
 }

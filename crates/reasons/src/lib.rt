@@ -33,7 +33,7 @@ impl Question<'_, '_> {
         ensures { let t = self.now.treatment in result ≡ first (years_of t.ranged.district.now) (λ y. given t.ranged.district.now self.now.programme.now t.segment t.strategy (MinimumMissed k y)) }
     {
         let gain = self.treatment.gain(k);
-        (1..=self.treatment.ranged.district[YEAR_COUNT]).find_map(|t| {
+        self.treatment.ranged.years().find_map(|t| {
             let missed = !self.treatment.minimum_reached(k, t, gain);
             missed.then_some(Reason::MinimumMissed(k, t))
         })
@@ -43,7 +43,10 @@ impl Question<'_, '_> {
     fn missed_minimum(&self) -> Option<Reason>
         ensures { let t = self.now.treatment in result ≡ first (distresses_of t.ranged.district.now) (λ k. first (years_of t.ranged.district.now) (λ y. given t.ranged.district.now self.now.programme.now t.segment t.strategy (MinimumMissed k y))) }
     {
-        (1..=self.treatment.ranged.district[DISTRESS_COUNT]).find_map(|k| self.missed_year(k))
+        self.treatment
+            .ranged
+            .distresses()
+            .find_map(|k| self.missed_year(k))
     }
 
     // ---- over a limit
@@ -53,7 +56,7 @@ impl Question<'_, '_> {
         ensures { let t = self.now.treatment in result ≡ first (resources_of t.ranged.district.now) (λ r. given t.ranged.district.now self.now.programme.now t.segment t.strategy (OverAlone r)) }
     {
         let t = self.treatment;
-        (1..=t.ranged.district[RESOURCE_COUNT]).find_map(|r| {
+        t.ranged.resources().find_map(|r| {
             let over = t.ranged.scaled_limit(r) < t.usage(r);
             over.then_some(Reason::OverAlone(r))
         })
@@ -74,7 +77,7 @@ impl Question<'_, '_> {
     {
         let ranged = self.treatment.ranged;
         let asked = self.asked();
-        (1..=ranged.district[RESOURCE_COUNT]).find_map(|r| {
+        ranged.resources().find_map(|r| {
             let over = ranged.scaled_limit(r) < ranged.used(&asked, r);
             over.then_some(Reason::OverBeside(r))
         })

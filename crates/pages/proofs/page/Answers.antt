@@ -1,5 +1,4 @@
 -- `pages::page` meets its contract: where the buffer has room, the lines are the page.
-use mathlib.Core.Path.{sym, ◌∙◌}
 use Rattle.pages.proofs.Given.{page_fits}
 use Rattle.pages.proofs.page.Goals as goal
 

@@ -1,5 +1,4 @@
 -- `planner::plan` meets its contract.
-use mathlib.Core.Path.{sym, ◌∙◌}
 use Rattle.planner.proofs.Plans.{planned, unplanned}
 use Rattle.planner.proofs.plan.Goals as goal
 

@@ -16,10 +16,9 @@ sum-requires-clause-fits c =
     let d = c.args.self.now.district.now in
     let ok = c.args.self.now.in_range in
     let uses = chosen_usage (table_of d) c.args.c.now c.args.r in
-    let range = c.new.ensures in
     let few = ok.segments in
     fits_by_from_yields_list uses (range_with_len 1 (segments_of d)) c.map.result _
-    (mapped_from_1 range.start range.end range.exhausted uses c.map.ensures.source c.map.ensures.closure (λ x r q k. search rules))
+    (mapped_from_1 _ c.segments.ensures uses c.map.ensures.source c.map.ensures.closure (λ x r q k. search rules))
     (omega (arith, sum_listed (segments_of d) uses, sum_le d ok c.args.c.now c.args.r (segments_of d)))
 
 pub returns : goal.returns
@@ -27,7 +26,6 @@ unfolding used table_of
 returns c =
     let d = c.args.self.now.district.now in
     let uses = chosen_usage (table_of d) c.args.c.now c.args.r in
-    let range = c.new.ensures in
     sum_by_from_yields_List uses (range_with_len 1 (segments_of d)) c.map.result _ c.sum.ensures.ran
-    (mapped_from_1 range.start range.end range.exhausted uses c.map.ensures.source c.map.ensures.closure (λ x r q k. search rules))
+    (mapped_from_1 _ c.segments.ensures uses c.map.ensures.source c.map.ensures.closure (λ x r q k. search rules))
     ∙ sum_listed (segments_of d) uses

@@ -15,8 +15,7 @@ sum-requires-clause-fits c =
     let d = s.ranged.district.now in
     let few = s.ranged.in_range.distresses in
     let each = first_rating d s.segment s.strategy in
-    let range = c.new.ensures in
-    signed_fits c.map.result (distresses_of d) 100_000_000 each (mapped_from_1 range.start range.end range.exhausted each c.map.ensures.source c.map.ensures.closure (λ x r q k. search rules))
+    signed_fits c.map.result (distresses_of d) 100_000_000 each (mapped_from_1 _ c.distresses.ensures each c.map.ensures.source c.map.ensures.closure (λ x r q k. search rules))
     (λ k a b. rating_abs d s.ranged.in_range _ _ k 1 s.segment_in s.strategy_in (a, omega arith)) (omega arith)
 
 pub returns : goal.returns
@@ -26,6 +25,5 @@ returns c =
     let d = s.ranged.district.now in
     let few = s.ranged.in_range.distresses in
     let each = first_rating d s.segment s.strategy in
-    let range = c.new.ensures in
-    signed_sum c.map.result (distresses_of d) 100_000_000 each (mapped_from_1 range.start range.end range.exhausted each c.map.ensures.source c.map.ensures.closure (λ x r q k. search rules))
+    signed_sum c.map.result (distresses_of d) 100_000_000 each (mapped_from_1 _ c.distresses.ensures each c.map.ensures.source c.map.ensures.closure (λ x r q k. search rules))
     (λ k a b. rating_abs d s.ranged.in_range _ _ k 1 s.segment_in s.strategy_in (a, omega arith)) (omega arith) c.sum.result c.sum.ensures.ran

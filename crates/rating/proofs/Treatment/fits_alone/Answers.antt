@@ -10,5 +10,4 @@ unfolding fits_limit fits_alone
 returns c =
     let s = c.args.self.now in
     let test = fits_limit s.ranged.district.now s.segment s.strategy in
-    let range = c.new.ensures in
-    all_from_1 range.start range.end range.exhausted test _ c.all.ensures.ran (λ x b q e. search (rules, tests))
+    all_from_1 _ c.resources.ensures test _ c.all.ensures.ran (λ x b q e. search (rules, tests))

@@ -52,6 +52,5 @@ loop-t-preserved c =
     let here : c.loop-t.t + 1 - 1 ≡ c.loop-t.t = omega arith in
     (next (goal.at.loop-t-preserved c).After-survival-end, rw here c.survival-end.ensures)
 
--- the last year is passed, as there is one
-pub returns-2 : goal.returns-2
-returns-2 c = sum_end _ _ _ (next (goal.at.returns-2 c).After-survival-end) (omega arith) (omega arith)
+pub returns : goal.returns
+returns c = let l = c.loop-t in sum_end _ _ _ l.invariant.0 (omega (arith, l.auto.t-end (omega arith))) (omega arith)

@@ -10,5 +10,4 @@ unfolding years_reached
 returns c =
     let s = c.args.self.now in
     let test = minimum_reached s.ranged.district.now s.segment s.strategy c.args.k in
-    let range = c.new.ensures in
-    all_from_1 range.start range.end range.exhausted test _ c.all.ensures.ran (λ x b q e. search (rules, tests))
+    all_from_1 _ c.years.ensures test _ c.all.ensures.ran (λ x b q e. search (rules, tests))

@@ -13,8 +13,7 @@ unfolding holds fits_limit
 returns c =
     let t = c.args.self.now.treatment in
     let d = t.ranged.district.now in
-    let range = c.new.ensures in
     first_from_find_map _ _ _
     (λ r. given d c.args.self.now.programme.now t.segment t.strategy (OverAlone r))
     (λ x r q k. search (rules, tests, given_by))
-    (resources_of d) c.find_map.result c.find_map.ensures.ran c.find_map.ensures.runs (from_1 range.start range.end range.exhausted)
+    (resources_of d) c.find_map.result c.find_map.ensures.ran c.find_map.ensures.runs (from_1 _ c.resources.ensures)
