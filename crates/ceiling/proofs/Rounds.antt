@@ -19,7 +19,7 @@ use Rattle.base.proofs.Sums.{sum_cong, sum_zero, most_cong}
 use Rattle.rules.specs.District.{most_resources}
 use Rattle.rules.specs.Table.{Table}
 use Rattle.rules.specs.Ceiling.{price_at, down_share, cost_by, cost, net, margin, raised, lowered, ceiling_at, lowers, priced, priced_all, prices_after}
-use Rattle.laws.proofs.Give.{set_le}
+use Rattle.laws.proofs.Give.{set_all}
 use Rattle.tables.specs.Arrays.{entry, entry_at, entries}
 use Rattle.tables.specs.declared.Size.{Size}
 use Rattle.ceiling.specs.Prices.{priced_table, free, Prices, Costs, Headroom}
@@ -59,7 +59,7 @@ raisable_set : (m s k : ℕ) (p : List ℕ) (v : ℕ) → Raisable m s k p → v
 raisable_set m s k p v h l =
     record {
       places = length-set p k v ∙ h.places;
-      small = set_le p k v m l h.small;
+      small = set_all (λ _ x. x ≤ m) p k v l h.small;
       room = λ q le. rw (get_or-set_other p k q v 0 (λ e. omega arith)) (h.room q (omega arith));
     }
 

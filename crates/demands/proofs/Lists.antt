@@ -14,7 +14,7 @@ use Rattle.rules.specs.Answers.{accepting}
 use Rattle.rules.specs.Calls.{unit_of, fresh_unit, answered, load_of, alter_of, show_of}
 use Rattle.rules.specs.Lists.{Call, Load, Alter, ExportTo, PageTo, Show, AskWhy, refusal_of, altered, district_from, district_after, outcome_of, unit_from, unit_after}
 use Rattle.rules.specs.declared.Unit.{Unit}
-use Rattle.laws.specs.Tables.{LowerLeaders}
+use Rattle.laws.proofs.Leaders.{LowerLeaders}
 use Rattle.theorems.proofs.Programmes.{Begins}
 use Rattle.theorems.proofs.Promises.{ordinary}
 use Rattle.grammar.proofs.InRanges.{in_ranges}

@@ -13,7 +13,8 @@ use Rattle.base.specs.Bytes.{bytes_of, number_of}
 use Rattle.rules.specs.District.{District, value_at, district_places}
 use Rattle.rules.specs.File.{found, size, read_numbers, read_record, read_records, decode_as, decode, number_bytes, record_bytes, records_bytes, encode_as, form_of, encode, in_range}
 use Rattle.rules.specs.Format.{slot_of, present, field_at, inside, file_records, Slot}
-use Rattle.grammar.specs.Places.{Form, Suits, start_of, Ready, InRange}
+use Rattle.grammar.specs.Places.{Form, Suits, start_of, Ready}
+use Rattle.grammar.proofs.InRange.{InRange}
 use Rattle.grammar.proofs.Forms.{form_range, form_fits}
 use Rattle.grammar.proofs.Slots.{form_all, slot_all, start_next, ready}
 use Rattle.file.proofs.TwoForms.{form_of_lem, suits_own, form_encoded}

@@ -14,8 +14,8 @@ use Rattle.rules.specs.District.{District, greatest_of, leader_of, with_leader, 
 use Rattle.rules.specs.File.{widths, size, header_bytes, encode_as, leaderless, form_of, encode, numbers_in_range, records_in_range, in_range, longest_file}
 use Rattle.rules.specs.Format.{plain_form, leader_form, number, absent, ranged, slot_of, present, kind_field, field_at, file_records, most_counts, Slot}
 use Rattle.rules.specs.declared.Field.{Field}
-use Rattle.grammar.specs.Places.{Form, InRange}
-use Rattle.grammar.proofs.InRange.{in_range_lem}
+use Rattle.grammar.specs.Places.{Form}
+use Rattle.grammar.proofs.InRange.{InRange, in_range_lem}
 use Rattle.grammar.proofs.InRanges.{segments, strategies, years, distresses, pavements, resources}
 use Rattle.grammar.proofs.Slots.{form_all}
 use Rattle.file.proofs.Steps.{total, length_records}

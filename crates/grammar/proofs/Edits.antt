@@ -21,9 +21,9 @@ use Rattle.rules.specs.File.{in_range}
 use Rattle.rules.specs.Format.{leader_form, inside, slot, slot_of, first_segment_record, file_records, limit_field, rating_field, segment_field, field_at, Slot}
 use Rattle.rules.specs.declared.Edit.{Edit}
 use Rattle.rules.specs.declared.Edit.TheVariants.{Bar, Unbar, SetLimit, SetRating, SetLeader}
-use Rattle.grammar.specs.Places.{start_of, InRange}
+use Rattle.grammar.specs.Places.{start_of}
 use Rattle.grammar.proofs.Bounds.{inside_number, segment_rating}
-use Rattle.grammar.proofs.InRange.{in_range_lem, range_in}
+use Rattle.grammar.proofs.InRange.{InRange, in_range_lem, range_in}
 use Rattle.grammar.proofs.InRanges.{segments, bars_most, strategies, distresses, resources}
 use Rattle.grammar.proofs.Slots.{start_le, field_same, slot_segment, start_segment, ready}
 

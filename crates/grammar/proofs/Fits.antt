@@ -12,7 +12,8 @@ use Rattle.base.specs.Choice.{pick}
 use Rattle.rules.specs.District.{District, most_segments, most_distresses, ratings_at, leader_at, per_segment, value_at, strategies_of, pavements_of, segments_of, greatest_of}
 use Rattle.rules.specs.Format.{leader_form, number, absent, inside, slot, slot_of, file_records, count_field, limit_field, greatest_field, strategy_field, pavement_field, rating_field, segment_field, field_at, Slot}
 use Rattle.rules.specs.declared.Field.{Field}
-use Rattle.grammar.specs.Places.{start_of, InRange}
+use Rattle.grammar.specs.Places.{start_of}
+use Rattle.grammar.proofs.InRange.{InRange}
 use Rattle.grammar.proofs.Bounds.{between_number, inside_between, gain_byte}
 use Rattle.grammar.proofs.InRanges.{segments, pavements, greatest}
 use Rattle.grammar.proofs.Slots.{slot_all}

@@ -13,10 +13,10 @@ use Rattle.rules.specs.District.{District, most_segments, most_strategies, most_
 use Rattle.rules.specs.File.{leaderless, in_range}
 use Rattle.rules.specs.Format.{plain_form, leader_form, number, absent, inside, slot_of, first_strategy_record, first_pavement_record, first_segment_record, last_record, file_records, field_at, Slot}
 use Rattle.rules.specs.declared.Field.{Field}
-use Rattle.grammar.specs.Places.{Form, Suits, start_of, InRange}
+use Rattle.grammar.specs.Places.{Form, Suits, start_of}
 use Rattle.grammar.proofs.Bounds.{inside_number, absent_zero}
 use Rattle.grammar.proofs.Fits.{value_fits}
-use Rattle.grammar.proofs.InRange.{in_range_lem, range_in}
+use Rattle.grammar.proofs.InRange.{InRange, in_range_lem, range_in}
 use Rattle.grammar.proofs.InRanges.{segments}
 use Rattle.grammar.proofs.Slots.{form_all, places_same, slot_strategy, slot_pavement, slot_segment, start_segment}
 

@@ -1,4 +1,4 @@
--- The rules' test of a district's ranges says of every place what `InRange` says.
+-- A district in a form's ranges, place by place, which is what the rules' test of its ranges says.
 use Prim.Native.Nat.{ℕ, zero, suc, ◌+◌, ◌≤◌, ◌<◌}
 use mathlib.Core.Path.{◌≡◌, refl, sym, ap, subst, ◌∙◌}
 use mathlib.Core.Bool.{true}
@@ -14,8 +14,13 @@ use Rattle.base.proofs.Choice.{and_yes}
 use Rattle.rules.specs.District.{District, value_at, district_places}
 use Rattle.rules.specs.Format.{leader_form, slot_of, file_records, field_at, inside, Slot}
 use Rattle.rules.specs.File.{numbers_in_range, records_in_range, in_range}
-use Rattle.grammar.specs.Places.{start_of, InRange}
+use Rattle.grammar.specs.Places.{start_of}
 use Rattle.grammar.proofs.Slots.{start_next}
+
+-- each number is one that its field may hold
+pub record InRange (form : ℕ) (d : District) : Type 0 where
+  pub places : length d ≡ district_places
+  pub values : (n i : ℕ) → n < file_records → i < (slot_of form n).places → inside (field_at d (slot_of form n) i) (value_at d (start_of n + i)) ≡ true
 
 -- ---- of one record
 

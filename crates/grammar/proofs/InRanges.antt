@@ -15,10 +15,10 @@ use Rattle.rules.specs.District.{District, most_segments, most_strategies, most_
 use Rattle.rules.specs.Format.{leader_form, number, absent, inside, slot, first_strategy_record, first_pavement_record, first_segment_record, file_records, slot_of, present, limit_field, greatest_field, rows_field, strategy_field, pavement_field, segment_field, kind_field, field_at, Slot}
 use Rattle.rules.specs.File.{in_range}
 use Rattle.rules.specs.declared.Field.{Field}
-use Rattle.grammar.specs.Places.{start_of, InRange}
+use Rattle.grammar.specs.Places.{start_of}
 use Rattle.grammar.specs.Ranges.{Ranges}
 use Rattle.grammar.proofs.Slots.{slot_strategy, slot_pavement, slot_segment, start_strategy, start_pavement, start_segment}
-use Rattle.grammar.proofs.InRange.{in_range_lem}
+use Rattle.grammar.proofs.InRange.{InRange, in_range_lem}
 use Rattle.grammar.proofs.Bounds.{Between, between_pick, between_number, betweens, inside_between, absent_zero, gain_most, segment_rating, rating_between}
 
 abbrev segment_slot : ℕ → Slot

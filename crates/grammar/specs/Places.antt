@@ -1,8 +1,8 @@
--- Where the numbers of each record stand in a district, whatever the form of the file, and a district in a form's ranges, place by place.
-use Rattle.std.specs.Prelude.{ℕ, zero, suc, ◌+◌, ◌≤◌, ◌<◌, ◌≡◌, true, ◌⊎◌, length, take}
-use Rattle.rules.specs.District.{District, value_at, district_places}
+-- Where the numbers of each record stand in a district, whatever the form of the file.
+use Rattle.std.specs.Prelude.{ℕ, zero, suc, ◌+◌, ◌≤◌, ◌<◌, ◌≡◌, true, ◌⊎◌, take}
+use Rattle.rules.specs.District.{District, district_places}
 use Rattle.rules.specs.File.{leaderless}
-use Rattle.rules.specs.Format.{plain_form, leader_form, slot_of, file_records, most_places, present, field_at, inside, Slot}
+use Rattle.rules.specs.Format.{plain_form, leader_form, slot_of, most_places, present, field_at, Slot}
 
 -- there are two forms
 abbrev pub Form : ℕ → Type 0
@@ -23,8 +23,3 @@ pub record Ready (s : Slot) (place : ℕ) : Type 0 where
   pub few : s.places ≤ most_places
   pub here : (d : District) → present (take place d) s ≡ present d s
   pub field : (d : District) (n : ℕ) → n < s.places → field_at (take place d) s n ≡ field_at d s n
-
--- each number is one that its field may hold
-pub record InRange (form : ℕ) (d : District) : Type 0 where
-  pub places : length d ≡ district_places
-  pub values : (n i : ℕ) → n < file_records → i < (slot_of form n).places → inside (field_at d (slot_of form n) i) (value_at d (start_of n + i)) ≡ true

@@ -69,7 +69,7 @@ module _ (t : Table) (leader : ℕ → ℕ) (c : List ℕ) where
 
   pick_some : (x : Bool) (f : Option (List ℕ)) (e : List ℕ) → (x ≡ true → f ≡ Some e → Counted e) → pick x f None ≡ Some e → Counted e
   pick_some true f e h q = h refl q
-  pick_some false f e h q = absurd (let n : ◌≡◌ {A = ℕ} 0 1 = cc in omega arith)
+  pick_some false f e h q = cc
 
   pub change_some : (e : List ℕ) → change t leader c ≡ Some e → Counted e
   unfolding change first_single singles_of first_pair pairs_from pairs_of pairs_with

@@ -19,16 +19,17 @@ given c i j l h = get_or-set_same c (i - 1) j 0 (omega arith)
 pub kept : (c : List ℕ) (i j k : ℕ) → 1 ≤ i → 1 ≤ k → (k ≡ i → ⊥) → strategy_at (give c i j) k ≡ strategy_at c k
 kept c i j k l m ne = get_or-set_other c (i - 1) (k - 1) j 0 (λ e. ne (omega arith))
 
--- a bound on the strategy numbers stays
-pub set_le : (l : List ℕ) (n a s : ℕ) → a ≤ s → ((k : ℕ) → get_or l k 0 ≤ s) → (k : ℕ) → get_or (set l n a) k 0 ≤ s
-set_le [] n a s h before k = before k
-set_le (x ∷ l) zero a s h before zero = h
-set_le (x ∷ l) zero a s h before (suc k) = before (suc k)
-set_le (x ∷ l) (suc n) a s h before zero = before 0
-set_le (x ∷ l) (suc n) a s h before (suc k) = set_le l n a s h (λ m. before (suc m)) k
+-- what holds of each number at its place, and of the new one at its own, still holds
+pub set_all : (P : ℕ → ℕ → Type 0) (l : List ℕ) (n v : ℕ) → P n v → ((k : ℕ) → P k (get_or l k 0)) → (k : ℕ) → P k (get_or (set l n v) k 0)
+set_all P [] n v h before k = before k
+set_all P (x ∷ l) zero v h before zero = h
+set_all P (x ∷ l) zero v h before (suc k) = before (suc k)
+set_all P (x ∷ l) (suc n) v h before zero = before 0
+set_all P (x ∷ l) (suc n) v h before (suc k) = set_all (λ m. P (suc m)) l n v h (λ m. before (suc m)) k
 
+-- a bound on the strategy numbers stays
 pub give_numbers : (c : List ℕ) (i j s : ℕ) → j ≤ s → ((k : ℕ) → strategy_at c k ≤ s) → (k : ℕ) → strategy_at (give c i j) k ≤ s
-give_numbers c i j s h before k = set_le c (i - 1) j s h (λ m. rw (← add_sub m) (before (m + 1))) (k - 1)
+give_numbers c i j s h before k = set_all (λ _ x. x ≤ s) c (i - 1) j h (λ m. rw (← add_sub m) (before (m + 1))) (k - 1)
   where
     add_sub : (m : ℕ) → m + 1 - 1 ≡ m
     add_sub m = omega arith

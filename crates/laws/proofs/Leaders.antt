@@ -1,8 +1,8 @@
 -- Leaders: what pruning takes from a programme and leaves in it, and that leaders stay respected where something is given to a segment that may
 -- have it.
-use Prim.Native.Nat.{ℕ, zero, suc, ◌-◌, ◌≤◌}
-use mathlib.Core.Path.{◌≡◌, refl, ap, sym, ◌∙◌}
-use mathlib.Core.Bool.{Bool, true, false, ◌||◌}
+use Prim.Native.Nat.{ℕ, zero, suc, ◌-◌, ◌≤◌, ◌<◌}
+use mathlib.Core.Path.{◌≡◌, refl, sym, ◌∙◌}
+use mathlib.Core.Bool.{Bool, true, false, ◌||◌, or-true}
 use mathlib.Core.List.{List, [], ◌∷◌}
 use mathlib.Core.Logic.{◌⊎◌, inl, inr, ⊎_elim}
 use native.Mathlib.Omega.{arith}
@@ -10,12 +10,12 @@ use borrow.Author.Tests.{ltb-true, lt-ltb, eqb-true, eqb-false, eq-eqb}
 use lib.Dec.{ltb, eqb}
 use lib.ListN.{get_or, set, length}
 use Rattle.base.specs.Choice.{pick}
-use Rattle.std.proofs.lemmas.Bool.{or_cases}
+use Rattle.std.proofs.lemmas.Bool.{or_cases, or_right}
+use Rattle.std.proofs.lemmas.List.{set-get_or}
 use Rattle.base.proofs.Choice.{pick_all}
 use Rattle.base.proofs.All.{all_at, all_true}
 use Rattle.rules.specs.Table.{Table}
 use Rattle.rules.specs.Phases.{strategy_at, give, led, heeds, respects, pruned}
-use Rattle.laws.specs.Tables.{LowerLeaders}
 use Rattle.laws.proofs.Give.{given, kept}
 use Rattle.laws.proofs.Gives.{Gives, give_gives, gives_self, gives_then}
 
@@ -25,10 +25,9 @@ set_zero [] n = refl
 set_zero (x ∷ l) zero = refl
 set_zero (x ∷ l) (suc n) = set_zero l n
 
-set_same : (l : List ℕ) (n : ℕ) → get_or l n 0 ≡ 0 → set l n 0 ≡ l
-set_same [] n e = refl
-set_same (x ∷ l) zero e = ap (◌∷ l) (sym e)
-set_same (x ∷ l) (suc n) e = ap (x ∷◌) (set_same l n e)
+-- each of n segments has no leader, or one of a lower number
+abbrev pub LowerLeaders : (ℕ → ℕ) → ℕ → Type 0
+LowerLeaders leader n = (i : ℕ) → 1 ≤ i → i ≤ n → leader i < i
 
 module _ (leader : ℕ → ℕ) where
   -- ---- what decides of a segment
@@ -50,11 +49,7 @@ module _ (leader : ℕ → ℕ) where
   heeds_still c e k own his ok = go (eqb (leader k) 0) refl
     where
       go : (x : Bool) → eqb (leader k) 0 ≡ x → (eqb (e k) 0 || (eqb (leader k) 0 || ltb 0 (e (leader k)))) ≡ true
-      go true q = rw q (go_nobody (eqb (e k) 0))
-        where
-          go_nobody : (y : Bool) → (y || true) ≡ true
-          go_nobody true = refl
-          go_nobody false = refl
+      go true q = rw q (or-true (eqb (e k) 0))
       go false q = let some-leader = eqb-false (leader k) 0 q in rw (← own, ← his (omega arith)) ok
 
   pub heeds_nothing : (c : ℕ → ℕ) (k : ℕ) → c k ≡ 0 → heeds leader c k ≡ true
@@ -63,11 +58,7 @@ module _ (leader : ℕ → ℕ) where
 
   pub heeds_led : (c : ℕ → ℕ) (k : ℕ) → led leader c k ≡ true → heeds leader c k ≡ true
   unfolding heeds
-  heeds_led c k e = go (eqb (c k) 0)
-    where
-      go : (y : Bool) → (y || led leader c k) ≡ true
-      go true = refl
-      go false = e
+  heeds_led c k e = or_right (eqb (c k) 0) (led leader c k) e
 
   -- ---- pruning
 
@@ -106,11 +97,8 @@ module _ (leader : ℕ → ℕ) where
           → pick (led leader (strategy_at c) (suc n)) c (give c (suc n) 0) ≡ c
       go true q w = rw q
       go false q w =
-          let z : strategy_at c (suc n) ≡ 0 = ⊎_elim (λ e. eqb-true (strategy_at c (suc n)) 0 e) (λ e. absurd (let n : ◌≡◌ {A = Bool} true false = cc in clash n)) (or_cases (eqb (strategy_at c (suc n)) 0) (led leader (strategy_at c) (suc n)) w) in
-          rw (q, set_same c (suc n - 1) z)
-        where
-          clash : true ≡ false → ⊥
-          clash e = let z : ◌≡◌ {A = ℕ} 0 1 = cc in omega arith
+          let z : strategy_at c (suc n) ≡ 0 = ⊎_elim (λ e. eqb-true (strategy_at c (suc n)) 0 e) (λ e. absurd cc) (or_cases (eqb (strategy_at c (suc n)) 0) (led leader (strategy_at c) (suc n)) w) in
+          rw (q, rw z at (set-get_or c (suc n - 1) 0))
 
   pub pruned_heeds : (n : ℕ) (c : List ℕ) → LowerLeaders leader n → (k : ℕ) → 1 ≤ k → k ≤ n → heeds leader (strategy_at (pruned leader n c)) k ≡ true
   unfolding pruned

@@ -81,7 +81,7 @@ module _ (t : Table) (leader : ℕ → ℕ) where
   picked P c each e found = go (best_offer t leader c) refl found
     where
       go : (i : ℕ) → best_offer t leader c ≡ i → picked_up t c i ≡ Some e → P e
-      go zero is f = absurd (let z : ◌≡◌ {A = ℕ} 0 1 = cc in omega arith)
+      go zero is f = cc
       go (suc i) is f =
           let same : give c (suc i) (offer t c (suc i)) ≡ e = cc in
           subst P same (each (suc i) (offer t c (suc i)) (best_fits c (suc i) is (omega arith)))

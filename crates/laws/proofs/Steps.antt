@@ -14,12 +14,9 @@ use Rattle.base.proofs.Listed.{listed_at, listed_length}
 use Rattle.rules.specs.District.{most_segments}
 use Rattle.rules.specs.Table.{Table}
 use Rattle.rules.specs.Phases.{strategy_at, give, is_candidate, greater, top_candidate, bests, respects, pruned, start, within, pulls, lesser_ratio, weakest, comes_after, next_candidate, step_down, step}
-use Rattle.laws.specs.Tables.{LowerLeaders, Allowed, OfCandidates}
+use Rattle.laws.specs.Tables.{Allowed, OfCandidates}
 use Rattle.laws.proofs.Gives.{Gives, give_gives, gives_then, gives_candidates}
-use Rattle.laws.proofs.Leaders.{pruned_gives, pruned_respects}
-
-pub no_step : {d : List ℕ} → None ≡ Some d → ⊥
-no_step e = let z : ◌≡◌ {A = ℕ} 0 1 = cc in omega arith
+use Rattle.laws.proofs.Leaders.{LowerLeaders, pruned_gives, pruned_respects}
 
 module _ (t : Table) where
   pub candidate_worth : (i j : ℕ) → is_candidate t i j ≡ true → 1 ≤ t.benefit i j
@@ -101,7 +98,7 @@ module _ (t : Table) (leader : ℕ → ℕ) where
 
   pub step_gives : (c d : List ℕ) → step t leader c ≡ Some d → Gives t c d
   step_gives c d e =
-      step_cases c (λ x. x ≡ Some d → Gives t c d) (λ w n. absurd (no_step n)) (λ w z n. absurd (no_step n))
+      step_cases c (λ x. x ≡ Some d → Gives t c d) (λ w n. cc) (λ w z n. cc)
       (λ i w l h q. let is : stepped c i ≡ d = cc in subst (Gives t c) is (stepped_gives c i l h)) e
 
   pub step_allowed : (c d : List ℕ) → step t leader c ≡ Some d → OfCandidates t c → OfCandidates t d
@@ -109,5 +106,5 @@ module _ (t : Table) (leader : ℕ → ℕ) where
 
   pub step_respects : LowerLeaders leader t.segments → (c d : List ℕ) → step t leader c ≡ Some d → respects leader t.segments d ≡ true
   step_respects lower c d e =
-      step_cases c (λ x. x ≡ Some d → respects leader t.segments d ≡ true) (λ w n. absurd (no_step n)) (λ w z n. absurd (no_step n))
+      step_cases c (λ x. x ≡ Some d → respects leader t.segments d ≡ true) (λ w n. cc) (λ w z n. cc)
       (λ i w l h q. let is : stepped c i ≡ d = cc in rw (← is) (pruned_respects leader t.segments (moved c i) lower)) e

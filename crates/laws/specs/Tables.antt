@@ -1,5 +1,5 @@
 -- What the laws of the phases assume of a table and of a programme. Quantifiers stay within what the table has.
-use Rattle.std.specs.Prelude.{ℕ, ◌≤◌, ◌<◌, ◌≡◌, ◌⊎◌, List, length}
+use Rattle.std.specs.Prelude.{ℕ, ◌≤◌, ◌≡◌, ◌⊎◌, List, length}
 use Rattle.rules.specs.District.{most_segments}
 use Rattle.rules.specs.Table.{Table}
 use Rattle.rules.specs.Phases.{strategy_at}
@@ -12,10 +12,6 @@ pub record FitAlone (t : Table) : Type 0 where
   pub fits :
       (i j r : ℕ) → 1 ≤ i → i ≤ t.segments → 1 ≤ j → j ≤ t.strategies → 1 ≤ r → r ≤ t.resources
       → 1 ≤ t.benefit i j → t.usage i j r ≤ t.limit r
-
--- each of n segments has no leader, or one of a lower number
-abbrev pub LowerLeaders : (ℕ → ℕ) → ℕ → Type 0
-LowerLeaders leader n = (i : ℕ) → 1 ≤ i → i ≤ n → leader i < i
 
 -- on segment i strategy j is nothing, or a candidate
 abbrev pub Allowed : Table → ℕ → ℕ → Type 0

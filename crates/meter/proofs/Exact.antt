@@ -1,5 +1,5 @@
 -- Sums and differences of floats that are whole 1024ths are exact, below 2 ^ 24 of them.
-use Rattle.std.proofs.Common.{◌≡◌, ℕ, ◌+◌, ◌-◌, ◌*◌, ◌^◌, ◌<◌, ◌≤◌, true, false, sym, ap, ◌∙◌, subst, true≢false, lt_of_lt_of_le, mul_assoc, mul_comm, mul-pos, mul_right_comm, arith, pow_mono, shl_lt, le-ltb}
+use Rattle.std.proofs.Common.{◌≡◌, ℕ, ◌+◌, ◌-◌, ◌*◌, ◌^◌, ◌<◌, ◌≤◌, true, false, sym, ap, ◌∙◌, subst, lt_of_lt_of_le, mul_assoc, mul_comm, mul-pos, mul_right_comm, arith, pow_mono, shl_lt, le-ltb}
 use lib.Ieee.{Float, nan, inf, fin, binary32, up, down, round, sum, add, sub, neg}
 use lib.Ieee.Exact.{round_exact}
 use lib.Ieee.Scale.{round_same}
@@ -21,10 +21,10 @@ pub add_exact : (x y : Float) (k m : ℕ) → k + m < 2 ^ 24 → Counts x k → 
 unfolding add sum
 add_exact nan y k m h p q = elim p [ ]
 add_exact (inf _) y k m h p q = elim p [ ]
-add_exact (fin true a d) y k m h p q = absurd (true≢false p.0)
+add_exact (fin true a d) y k m h p q = cc
 add_exact (fin false a d) nan k m h p q = elim q [ ]
 add_exact (fin false a d) (inf _) k m h p q = elim q [ ]
-add_exact (fin false a d) (fin true b e) k m h p q = absurd (true≢false q.0)
+add_exact (fin false a d) (fin true b e) k m h p q = cc
 add_exact (fin false a d) (fin false b e) k m h p q =
     let l = scaled a (up d) (down d) (down e) k p.1 in
     let r = scaled b (up e) (down e) (down d) m q.1 in
@@ -42,10 +42,10 @@ pub sub_exact : (x y : Float) (k m : ℕ) → m ≤ k → k < 2 ^ 24 → Counts 
 unfolding sub add neg sum
 sub_exact nan y k m h l p q = elim p [ ]
 sub_exact (inf _) y k m h l p q = elim p [ ]
-sub_exact (fin true a d) y k m h l p q = absurd (true≢false p.0)
+sub_exact (fin true a d) y k m h l p q = cc
 sub_exact (fin false a d) nan k m h l p q = elim q [ ]
 sub_exact (fin false a d) (inf _) k m h l p q = elim q [ ]
-sub_exact (fin false a d) (fin true b e) k m h l p q = absurd (true≢false q.0)
+sub_exact (fin false a d) (fin true b e) k m h l p q = cc
 sub_exact (fin false a d) (fin false b e) k m h l p q =
     let x = a * up d * down e in
     let y = b * up e * down d in

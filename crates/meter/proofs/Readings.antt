@@ -1,5 +1,5 @@
 -- The tests that `meter::is_reading` makes decide what the rules call a reading.
-use Rattle.std.proofs.Common.{◌≡◌, ℕ, ◌*◌, ◌/◌, ◌%◌, ◌<◌, ◌≤◌, Bool, true, false, not, ◌&&◌, ◌||◌, T, eqb, ltb, pos, sym, refl, ap, ◌∙◌, inl, inr, true≢false, div-lt_iff_lt-mul, lt_of_mul-lt-mul_right, mul-lt-mul_of_pos_right, div-add-mod', arith, pow_pos, ltb-false, ltb-true, le-ltb, lt-ltb, eq-eqb, eqb-true}
+use Rattle.std.proofs.Common.{◌≡◌, ℕ, ◌*◌, ◌/◌, ◌%◌, ◌<◌, ◌≤◌, Bool, true, false, not, ◌&&◌, ◌||◌, T, eqb, ltb, pos, sym, refl, ap, ◌∙◌, inl, inr, div-lt_iff_lt-mul, lt_of_mul-lt-mul_right, mul-lt-mul_of_pos_right, div-add-mod', arith, pow_pos, ltb-false, ltb-true, le-ltb, lt-ltb, eq-eqb, eqb-true}
 use mathlib.Core.Bool.{and-true, or-true}
 use native.Mathlib.Nat.{zero-mod, zero-div}
 use lib.Ieee.Nearest.{div_same}
@@ -10,10 +10,11 @@ use lib.Ieee.Back.{round_whole}
 use lib.Ieee.Positive.{num, den, positive, den_pos, positive-finite, value→cross}
 use borrow.Author.Tests.{eqb-false}
 use Rattle.base.specs.Choice.{pick}
+use Rattle.std.specs.Cmp.{both_ways}
 use Rattle.std.proofs.lemmas.Bool.{and_parts, and_right, and_left}
 use Rattle.rules.specs.Meter.{is_negative, size_of, part1024, is_reading, reading_of}
 use Rattle.meter.specs.Window.{0f, unsigned, Counts}
-use Rattle.meter.proofs.Values.{same_test, lt_values, eq_values, eq_zero, rescaled}
+use Rattle.meter.proofs.Values.{lt_values, eq_values, eq_zero, rescaled}
 use Rattle.meter.proofs.Whole.{1024f, bounded, times_exact}
 use Rattle.meter.proofs.Bits.{Reads, bits_read}
 
@@ -36,7 +37,7 @@ plain_sign : (x : Float) (s : Bool) (a c : ℕ) → lt 0f x ≡ true → HasValu
 unfolding lt
 plain_sign nan s a c h v = elim v [ ]
 plain_sign (inf _) s a c h v = elim v [ ]
-plain_sign (fin true m e) s a c h v = absurd (true≢false (sym h))
+plain_sign (fin true m e) s a c h v = cc
 plain_sign (fin false m e) s a c h v = sym v.0
 
 -- ---- the rule, with any part for 1/1024
@@ -62,7 +63,7 @@ no_rest : (part a n : ℕ) → n ≡ a / part → eqb (n * part) (a * 1) ≡ eqb
 no_rest part a n e =
     let d = div-add-mod' a part in
     let q = ap (λ (z : ℕ). z * part) e in
-    same_test (eqb (n * part) (a * 1)) (eqb (a % part) 0) (λ h. eq-eqb (a % part) 0 (let z = eqb-true (n * part) (a * 1) h in omega arith))
+    both_ways (eqb (n * part) (a * 1)) (eqb (a % part) 0) (λ h. eq-eqb (a % part) 0 (let z = eqb-true (n * part) (a * 1) h in omega arith))
     (λ h. eq-eqb (n * part) (a * 1) (let z = eqb-true (a % part) 0 h in omega arith))
 
 -- ---- each outcome of the code's tests
@@ -72,7 +73,7 @@ module _ (part : ℕ) (P : 0 < part) (x : Float) (s : Bool) (a : ℕ) (r : Reads
   zero_is h = known r
     where
       known : Reads part x s a → true ≡ test part s a
-      known (inl n) = absurd (true≢false (sym h ∙ not_finite x n.0))
+      known (inl n) = cc (not_finite x n.0)
       known (inr v) = sym (test_zero part P s a (eqb-true a 0 (sym (eq_zero x s a (1024 * part) (omega arith) v) ∙ h)))
 
   low_is : eq x 0f ≡ false → lt 0f x ≡ false → false ≡ test part s a
@@ -130,7 +131,7 @@ module _ (part : ℕ) (P : 0 < part) (x : Float) (s : Bool) (a : ℕ) (r : Reads
 -- ---- and of a reading, the float that is kept
 
 not_signed : (s t : Bool) → (not s || t) ≡ true → t ≡ false → s ≡ false
-not_signed true t h e = absurd (true≢false (sym h ∙ e))
+not_signed true t h e = cc
 not_signed false t h e = refl
 
 module _ (part : ℕ) (P : 0 < part) (x : Float) (s : Bool) (a : ℕ) (r : Reads part x s a) (yes : test part s a ≡ true) where

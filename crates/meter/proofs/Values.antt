@@ -1,17 +1,12 @@
 -- Floats that are fractions compare as the fractions do.
-use Rattle.std.proofs.Common.{◌≡◌, ℕ, ◌*◌, ◌<◌, Bool, true, false, ◌&&◌, ◌||◌, eqb, ltb, sym, refl, ap, ◌∙◌, true≢false, lt_of_mul-lt-mul_right, mul-lt-mul_of_pos_right, mul-pos, arith, ltb-true, lt-ltb, eq-eqb, eqb-true}
+use Rattle.std.proofs.Common.{◌≡◌, ℕ, ◌*◌, ◌<◌, Bool, true, false, ◌&&◌, ◌||◌, eqb, ltb, sym, refl, ap, ◌∙◌, lt_of_mul-lt-mul_right, mul-lt-mul_of_pos_right, mul-pos, arith, ltb-true, lt-ltb, eq-eqb, eqb-true}
 use mathlib.Core.Bool.{beq, and-true}
 use native.Mathlib.Nat.{eq_of_mul-eq-mul_right}
 use lib.Ieee.{Float, nan, inf, fin, up, down, lt, eq}
 use lib.Ieee.Exact.{HasValue}
 use lib.Ieee.Fits.{down_pos}
+use Rattle.std.specs.Cmp.{both_ways}
 use Rattle.meter.specs.Window.{0f}
-
--- two tests of which each holds where the other does
-pub same_test : (s t : Bool) → (s ≡ true → t ≡ true) → (t ≡ true → s ≡ true) → s ≡ t
-same_test true t to from = sym (to refl)
-same_test false true to from = from refl
-same_test false false to from = refl
 
 -- x / q to a / p and y / q to b / p
 lt_scaled : (x y a b p q : ℕ) → 0 < p → x * p ≡ a * q → y * p ≡ b * q → x < y → a < b
@@ -23,12 +18,12 @@ eq_scaled x y a b p q Q e f h = eq_of_mul-eq-mul_right q Q a b (sym e ∙ ap (λ
 module _ (x y a b p q : ℕ) (P : 0 < p) (Q : 0 < q) (e : x * p ≡ a * q) (f : y * p ≡ b * q) where
   ltb_scaled : ltb x y ≡ ltb a b
   ltb_scaled =
-      same_test (ltb x y) (ltb a b) (λ h. lt-ltb a b (lt_scaled x y a b p q P e f (ltb-true x y h)))
+      both_ways (ltb x y) (ltb a b) (λ h. lt-ltb a b (lt_scaled x y a b p q P e f (ltb-true x y h)))
       (λ h. lt-ltb x y (lt_scaled a b x y q p Q (sym e) (sym f) (ltb-true a b h)))
 
   eqb_scaled : eqb x y ≡ eqb a b
   eqb_scaled =
-      same_test (eqb x y) (eqb a b) (λ h. eq-eqb a b (eq_scaled x y a b p q Q e f (eqb-true x y h)))
+      both_ways (eqb x y) (eqb a b) (λ h. eq-eqb a b (eq_scaled x y a b p q Q e f (eqb-true x y h)))
       (λ h. eq-eqb x y (eq_scaled a b x y q p P (sym e) (sym f) (eqb-true a b h)))
 
 -- m × u / v is a / c, over the common denominator of both sides
@@ -43,10 +38,10 @@ module _ (a c b d : ℕ) (C : 0 < c) (D : 0 < d) where
   unfolding lt
   lt_values nan y v w = elim v [ ]
   lt_values (inf _) y v w = elim v [ ]
-  lt_values (fin true m e) y v w = absurd (true≢false v.0)
+  lt_values (fin true m e) y v w = cc
   lt_values (fin false m e) nan v w = elim w [ ]
   lt_values (fin false m e) (inf _) v w = elim w [ ]
-  lt_values (fin false m e) (fin true n g) v w = absurd (true≢false w.0)
+  lt_values (fin false m e) (fin true n g) v w = cc
   lt_values (fin false m e) (fin false n g) v w =
       ltb_scaled (m * up e * down g) (n * up g * down e) (a * d) (b * c) (c * d) (down e * down g) (mul-pos C D)
       (mul-pos (down_pos e) (down_pos g)) (over m (up e) (down e) a c (down g) d v.1) (over' n (up g) (down g) b d (down e) c w.1)
@@ -55,10 +50,10 @@ module _ (a c b d : ℕ) (C : 0 < c) (D : 0 < d) where
   unfolding eq
   eq_values nan y v w = elim v [ ]
   eq_values (inf _) y v w = elim v [ ]
-  eq_values (fin true m e) y v w = absurd (true≢false v.0)
+  eq_values (fin true m e) y v w = cc
   eq_values (fin false m e) nan v w = elim w [ ]
   eq_values (fin false m e) (inf _) v w = elim w [ ]
-  eq_values (fin false m e) (fin true n g) v w = absurd (true≢false w.0)
+  eq_values (fin false m e) (fin true n g) v w = cc
   eq_values (fin false m e) (fin false n g) v w =
       and-true (eqb (m * up e * down g) (n * up g * down e))
       ∙ eqb_scaled (m * up e * down g) (n * up g * down e) (a * d) (b * c) (c * d) (down e * down g) (mul-pos C D)

@@ -1,5 +1,5 @@
 -- How many whole 1024ths are in a float above 0 and below 512: 1024 times it is exact, and the cut is the quotient.
-use Rattle.std.proofs.Common.{◌≡◌, ℕ, zero, suc, ◌+◌, ◌-◌, ◌*◌, ◌/◌, ◌%◌, ◌^◌, ◌<◌, ◌≤◌, Bool, true, false, ◌&&◌, T, eqb, ltb, leb, ℤ, pos, negsuc, sym, refl, ap, ◌∙◌, subst, true≢false, lt_of_lt_of_le, mul_assoc, div-lt_iff_lt-mul, lt_of_not-le, mul-one, not-le_of_lt, arith, ltb→lt, lt→ltb, leb→le, pow_pos, pow_mono, pow-add, shl_lt, ltb-false, ltb-true, lt-ltb}
+use Rattle.std.proofs.Common.{◌≡◌, ℕ, zero, suc, ◌+◌, ◌-◌, ◌*◌, ◌/◌, ◌%◌, ◌^◌, ◌<◌, ◌≤◌, true, false, ◌&&◌, T, eqb, ltb, leb, ℤ, pos, negsuc, sym, refl, ap, ◌∙◌, subst, lt_of_lt_of_le, mul_assoc, div-lt_iff_lt-mul, lt_of_not-le, mul-one, not-le_of_lt, arith, ltb→lt, lt→ltb, leb→le, pow_pos, pow_mono, pow-add, shl_lt, ltb-false, ltb-true, lt-ltb}
 use native.Mathlib.Nat.{zero-div}
 use lib.Pow.{pow-lt}
 use lib.Ieee.{Float, nan, inf, fin, binary32, up, down, round, mul, lt, fits, to_unsigned}
@@ -7,6 +7,7 @@ use lib.Ieee.Exact.{HasValue, round_exact}
 use lib.Ieee.Nearest.{div_same}
 use lib.Ieee.Fits.{down_pos, and_l, and_r}
 use lib.Ieee.Positive.{num, den, positive, den_pos, first_pos, value→cross}
+use Rattle.std.proofs.lemmas.Float.{T_from_true}
 use Rattle.meter.specs.Window.{0f}
 use Rattle.meter.proofs.Values.{lt_values}
 
@@ -16,22 +17,16 @@ abbrev pub 512f : Float
 abbrev pub 1024f : Float
 1024f = fin false 1 (pos 10)
 
-is_true : {b : Bool} → b ≡ true → T b
-is_true e = subst T (sym e) tt
-
-no : false ≡ true → ⊥
-no e = true≢false (sym e)
-
 -- ---- above 0 and below a whole number
 
 pub bounded : (x y : Float) (n : ℕ) → HasValue y false n 1 → lt 0f x ≡ true → lt x y ≡ true → T (positive x) × (num x < n * den x)
 unfolding lt
-bounded nan y n v h k = absurd (no h)
-bounded (inf true) y n v h k = absurd (no h)
+bounded nan y n v h k = cc
+bounded (inf true) y n v h k = cc
 bounded (inf false) nan n v h k = elim v [ ]
 bounded (inf false) (inf _) n v h k = elim v [ ]
-bounded (inf false) (fin t i g) n v h k = absurd (no k)
-bounded (fin true m e) y n v h k = absurd (no h)
+bounded (inf false) (fin t i g) n v h k = cc
+bounded (fin true m e) y n v h k = cc
 bounded (fin false m e) y n v h k =
     let p = ltb-true (0 * 1 * down e) (m * up e * 1) h in
     let l = sym (lt_values (m * up e) (down e) n 1 (down_pos e) (omega arith) (fin false m e) y (refl, refl) v) ∙ k in
@@ -74,7 +69,7 @@ times_exact nan f p h = absurd p
 times_exact (inf s) f p h = absurd p
 times_exact (fin true m e) f p h = absurd p
 times_exact (fin false m e) f p h =
-    let w = digits m e (ltb→lt 0 m p) (is_true f) in rw mul-one (times_round m e w.0 w.1 h)
+    let w = digits m e (ltb→lt 0 m p) (T_from_true _ f) in rw mul-one (times_round m e w.0 w.1 h)
 
 -- ---- the cut of a / c, below 2 ^ 19
 
@@ -83,7 +78,7 @@ module _ (a c : ℕ) (C : 0 < c) (small : a < 524288 * c) where
   unfolding lt
   cut_low nan v = elim v [ ]
   cut_low (inf _) v = elim v [ ]
-  cut_low (fin true m e) v = absurd (true≢false v.0)
+  cut_low (fin true m e) v = cc
   cut_low (fin false m e) v = lt-ltb 0 (1 * 1 * down e + m * up e * 1) (let q = down_pos e in omega arith)
 
   cut_high : (y : Float) → HasValue y false a c → lt y (fin false 1 (pos 64)) ≡ true
@@ -97,7 +92,7 @@ module _ (a c : ℕ) (C : 0 < c) (small : a < 524288 * c) where
   unfolding to_unsigned
   cut_is nan v = elim v [ ]
   cut_is (inf _) v = elim v [ ]
-  cut_is (fin true m e) v = absurd (true≢false v.0)
+  cut_is (fin true m e) v = cc
   cut_is (fin false m e) v =
       let q : m * up e / down e ≡ a / c = div_same (m * up e) (down e) a c (down_pos e) C v.1 in
       let s = cut_few in
@@ -116,10 +111,10 @@ module _ (x : Float) (f : fits binary32 x ≡ true) (lo : lt 0f x ≡ true) (hi 
   exact = times_exact x f range.0 range.1
 
   pub call_low : T (lt (fin true 1 (pos 0)) (mul binary32 x 1024f))
-  call_low = is_true (cut_low (num x * 1024) (den x) (den_pos x) small (mul binary32 x 1024f) exact)
+  call_low = T_from_true _ (cut_low (num x * 1024) (den x) (den_pos x) small (mul binary32 x 1024f) exact)
 
   pub call_high : T (lt (mul binary32 x 1024f) (fin false 1 (pos 64)))
-  call_high = is_true (cut_high (num x * 1024) (den x) (den_pos x) small (mul binary32 x 1024f) exact)
+  call_high = T_from_true _ (cut_high (num x * 1024) (den x) (den_pos x) small (mul binary32 x 1024f) exact)
 
   cut : to_unsigned 64 (mul binary32 x 1024f) ≡ num x * 1024 / den x
   cut = cut_is (num x * 1024) (den x) (den_pos x) small (mul binary32 x 1024f) exact

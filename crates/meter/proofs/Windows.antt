@@ -1,5 +1,5 @@
 -- A window goes on holding what was heard, with every record.
-use Rattle.std.proofs.Common.{◌≡◌, ℕ, zero, suc, ◌+◌, ◌-◌, ◌*◌, ◌%◌, ◌<◌, ◌≤◌, min, true, false, List, [], ◌∷◌, length, get_or, take, set, replicate, sym, refl, ◌∙◌, subst, mod-lt, arith, length-set, length-take, get_or-set_other, get_or-set_same}
+use Rattle.std.proofs.Common.{◌≡◌, ℕ, zero, suc, ◌+◌, ◌-◌, ◌*◌, ◌%◌, ◌<◌, ◌≤◌, min, true, false, List, [], ◌∷◌, length, get_or, take, set, replicate, refl, ◌∙◌, subst, mod-lt, arith, length-set, length-take, get_or-set_other, get_or-set_same}
 use lib.ListN.{length-replicate, get_or-replicate}
 use lib.Ieee.{Float, nan, binary32, add, sub, of_bits}
 use Rattle.rules.specs.Answers.{no_reading, answer_of, accepting, Accepted, Refused}
@@ -113,9 +113,9 @@ unfolding hearing answer_of accepting
 taken_follows w v bits e f =
     record {
       answer = rw e;
-      refused = λ n g. absurd (let z = sym e ∙ g in omega arith);
-      lost = λ g. absurd (let z : ◌≡◌ {A = ℕ} 0 1 = cc in omega arith);
-      marked = λ b g. absurd (let z : ◌≡◌ {A = ℕ} 0 1 = cc in omega arith);
+      refused = λ n g. cc;
+      lost = λ g. cc;
+      marked = λ b g. cc;
       holds = λ h H. rw e (f h H);
     }
 
@@ -126,7 +126,7 @@ refused_follows w bits e =
       answer = rw e;
       refused = λ n g. refl;
       lost = λ g. refl;
-      marked = λ b g. absurd (let z : ◌≡◌ {A = ℕ} 0 1 = cc in omega arith);
+      marked = λ b g. cc;
       holds = λ h H. rw e H;
     }
 
@@ -141,7 +141,7 @@ marked_follows w v bits f =
     record {
       answer = refl;
       refused = λ n g. absurd (omega (arith, g));
-      lost = λ g. absurd (let z : ◌≡◌ {A = ℕ} 0 1 = cc in omega arith);
+      lost = λ g. cc;
       marked = λ b g. let z : bits ≡ b = cc in rw (← z) (f (record { readings = []; marker = 0 }));
       holds = λ h H. f h;
     }
@@ -151,26 +151,26 @@ pub index_of : (w : Window) (x : Float) (r : Stepped) → ((bits : ℕ) → x �
     → (s : Sent) → Record-as-Index x ≡ record_of s → Follows w s r
 unfolding record_of
 index_of w x r f (Index bits) e = f bits (cc)
-index_of w x r f (Marker bits) e = absurd (let z : ◌≡◌ {A = ℕ} 0 1 = cc in omega arith)
-index_of w x r f Lost e = absurd (let z : ◌≡◌ {A = ℕ} 0 1 = cc in omega arith)
+index_of w x r f (Marker bits) e = cc
+index_of w x r f Lost e = cc
 
 pub marker_of : (w v : Window) (x : Float) (bits : ℕ) → ((h : Heard) → x ≡ of_bits binary32 bits → Holds v (heard_with h (Marker bits)))
     → (s : Sent) → Record-as-Marker x ≡ record_of s → bits ≡ bits_of s → Follows w s (record { answer = Accepted 0; window = v })
 unfolding record_of bits_of sent_refusal
-marker_of w v x bits f (Index b) e g = absurd (let z : ◌≡◌ {A = ℕ} 0 1 = cc in omega arith)
+marker_of w v x bits f (Index b) e g = cc
 marker_of w v x bits f (Marker b) e g = rw (← g) (marked_follows w v bits (λ h. f h (cc)))
-marker_of w v x bits f Lost e g = absurd (let z : ◌≡◌ {A = ℕ} 0 1 = cc in omega arith)
+marker_of w v x bits f Lost e g = cc
 
 pub lost_of : (w : Window) (s : Sent) → Record-as-Lost ≡ record_of s → Follows w s (record { answer = Accepted 0; window = w })
 unfolding record_of heard_with sent_refusal hearing answer_of accepting
-lost_of w (Index b) e = absurd (let z : ◌≡◌ {A = ℕ} 0 1 = cc in omega arith)
-lost_of w (Marker b) e = absurd (let z : ◌≡◌ {A = ℕ} 0 1 = cc in omega arith)
+lost_of w (Index b) e = cc
+lost_of w (Marker b) e = cc
 lost_of w Lost e =
     record {
       answer = refl;
       refused = λ n g. refl;
       lost = λ g. refl;
-      marked = λ b g. absurd (let z : ◌≡◌ {A = ℕ} 0 1 = cc in omega arith);
+      marked = λ b g. cc;
       holds = λ h H. H;
     }
 

@@ -15,7 +15,7 @@ use Rattle.base.proofs.All.{all_true, all_fails}
 use Rattle.rules.specs.District.{most_resources}
 use Rattle.rules.specs.Table.{Table}
 use Rattle.rules.specs.Phases.{strategy_at, give, chosen_usage, used, holds, within, respects, another, pair, pairs_of}
-use Rattle.laws.proofs.Give.{kept, used_give}
+use Rattle.laws.proofs.Give.{set_all, kept, used_give}
 use Rattle.tables.specs.declared.Size.{Size}
 use Rattle.tables.specs.Arrays.{usage_at, limit_at, tables, Limits}
 use Rattle.tables.specs.Moves.{room_for}
@@ -49,19 +49,12 @@ use Rattle.phase3.proofs.ChangeSearch.{with_may_count, high_two, not_second, ove
 pub lower_same : (row : Row) → Lower row row
 lower_same row = record { places = refl; strategies = λ _ e. e; down = λ r. omega arith }
 
-set_down : (row : List ℕ) (r v : ℕ) → v ≤ get_or row r 0 → (q : ℕ) → get_or (set row r v) q 0 ≤ get_or row q 0
-set_down [] r v h q = omega arith
-set_down (x ∷ row) zero v h zero = h
-set_down (x ∷ row) zero v h (suc q) = omega arith
-set_down (x ∷ row) (suc r) v h zero = omega arith
-set_down (x ∷ row) (suc r) v h (suc q) = set_down row r v h q
-
 lower_lowered : (row : Row) (r v : ℕ) → Lower row (lowered row r v)
 lower_lowered row r v =
     record {
       places = length-set row.excesses (r - 1) (min v (numbers row r));
       strategies = λ _ e. e;
-      down = λ q. set_down row.excesses (r - 1) (min v (numbers row r)) (omega arith) (q - 1);
+      down = λ q. set_all (λ p x. x ≤ get_or row.excesses p 0) row.excesses (r - 1) (min v (numbers row r)) (omega arith) (λ p. omega arith) (q - 1);
     }
 
 -- the strategies go

@@ -10,8 +10,8 @@ use Rattle.base.specs.Choice.{pick}
 use Rattle.rules.specs.District.{District, most_strategies, most_pavements, most_segments, most_resources, most_distresses, count_places, greatest_at, strategies_at, per_strategy, pavements_at, per_pavement, segments_at, per_segment, value_at, resources_of, is_shared, shared_tables}
 use Rattle.rules.specs.File.{in_range}
 use Rattle.rules.specs.Format.{leader_form, number, absent, inside, ranged, slot, slot_of, first_strategy_record, first_pavement_record, first_segment_record, last_record, file_records, field_at, Slot}
-use Rattle.grammar.specs.Places.{start_of, InRange}
-use Rattle.grammar.proofs.InRange.{in_range_lem, range_in}
+use Rattle.grammar.specs.Places.{start_of}
+use Rattle.grammar.proofs.InRange.{InRange, in_range_lem, range_in}
 use Rattle.grammar.proofs.Slots.{slot_strategy, slot_pavement, slot_segment, start_strategy, start_pavement, start_segment}
 use Rattle.shared.proofs.Tables.{shared_value, own_value, tables_length, limits_own, segments_own}
 

@@ -1,12 +1,13 @@
 -- The best candidate of a segment of the district is the one of its table.
 use Prim.Native.Nat.{ℕ, ◌≤◌}
 use mathlib.Core.Path.{◌≡◌, refl, sym, ◌∙◌}
-use mathlib.Core.Bool.{Bool, true, false, ◌&&◌, true≢false}
-use borrow.Author.Tests.{lt-ltb, ltb-true}
-use lib.IntN.{ℤ, pos, negsuc, nat_abs}
+use mathlib.Core.Bool.{Bool, true, false, ◌&&◌}
+use borrow.Author.Tests.{lt-ltb}
+use lib.IntN.{pos}
 use lib.Signed.{lt_z}
 use Rattle.std.proofs.lemmas.Bool.{and_parts}
 use Rattle.base.proofs.Best.{best_cong}
+use Rattle.base.proofs.Integers.{positive_is}
 use Rattle.rules.specs.District.{District, segments_of, strategies_of}
 use Rattle.rules.specs.Rating.{benefit, permitted, fits_alone, candidate}
 use Rattle.rules.specs.Table.{candidate_benefit, table_of}
@@ -24,11 +25,7 @@ module _ (d : District) (i : ℕ) (l : 1 ≤ i) (h : i ≤ segments_of d) where
 
   pub worth : (j : ℕ) → 1 ≤ j → j ≤ strategies_of d → candidate d i j ≡ true → 1 ≤ candidate_benefit d i j
   unfolding candidate_benefit
-  worth j lj hj e = rw (has_both d i j l h lj hj, e) (above (benefit d i j) (positive j e))
-    where
-      above : (z : ℤ) → lt_z (pos 0) z ≡ true → 1 ≤ nat_abs z
-      above (pos n) e = ltb-true 0 n e
-      above (negsuc n) e = absurd (true≢false (sym e))
+  worth j lj hj e = rw (has_both d i j l h lj hj, e) (positive_is (benefit d i j) (positive j e)).1
 
   -- the same strategies are candidates,
   candidate_is : (j : ℕ) → 1 ≤ j → j ≤ strategies_of d → is_candidate (table_of d) i j ≡ candidate d i j

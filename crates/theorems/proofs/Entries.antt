@@ -1,14 +1,15 @@
 -- What the entries of a district's table are.
 use Prim.Native.Nat.{ℕ, zero, suc, ◌≤◌, ◌<◌}
-use mathlib.Core.Path.{◌≡◌, refl, sym}
-use mathlib.Core.Bool.{Bool, true, false, ◌&&◌, true≢false}
+use mathlib.Core.Path.{◌≡◌, refl}
+use mathlib.Core.Bool.{Bool, true, false, ◌&&◌}
 use native.Mathlib.Omega.{arith}
 use borrow.Author.Tests.{leb-true, le-leb, lt-leb}
-use lib.IntN.{ℤ, pos, negsuc, nat_abs}
+use lib.IntN.{pos, nat_abs}
 use lib.Signed.{lt_z}
 use Rattle.base.specs.Choice.{pick}
 use Rattle.std.proofs.lemmas.Bool.{and_parts}
 use Rattle.base.proofs.Choice.{between_yes}
+use Rattle.base.proofs.Integers.{positive_is}
 use Rattle.base.proofs.All.{all_at}
 use Rattle.rules.specs.District.{District, most_segments, segments_of, strategies_of, resources_of}
 use Rattle.rules.specs.Rating.{benefit, usage, scaled_limit, permitted, fits_limit, fits_alone, candidate}
@@ -66,11 +67,7 @@ module _ (d : District) where
     pub candidate_benefit_lem : benefit d i j ≡ pos (candidate_benefit d i j)
     unfolding candidate_benefit
     candidate_benefit_lem =
-        rw (is_candidate_lem.0, is_candidate_lem.1) (above (benefit d i j) (and_parts (lt_z (pos 0) (benefit d i j)) (fits_alone d i j) parts.1).0)
-      where
-        above : (z : ℤ) → lt_z (pos 0) z ≡ true → z ≡ pos (nat_abs z)
-        above (pos n) e = refl
-        above (negsuc n) e = absurd (true≢false (sym e))
+        rw (is_candidate_lem.0, is_candidate_lem.1) (positive_is (benefit d i j) (and_parts (lt_z (pos 0) (benefit d i j)) (fits_alone d i j) parts.1).0).0
 
   -- ---- what the laws of the phases assume
   pub table_fit : segments_of d ≤ most_segments → FitAlone (table_of d)

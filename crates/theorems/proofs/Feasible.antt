@@ -18,7 +18,8 @@ use Rattle.rules.specs.Rating.{benefit, usage, scaled_limit, permitted, fits_lim
 use Rattle.rules.specs.Table.{candidate_benefit, table_of}
 use Rattle.rules.specs.Phases.{heeds}
 use Rattle.rules.specs.Demands.{permitted_at, all_permitted, Feasible, leaders_respected, leader_worth, leaders_worth, Rival as DistrictRival}
-use Rattle.laws.specs.Tables.{LowerLeaders, Allowed}
+use Rattle.laws.specs.Tables.{Allowed}
+use Rattle.laws.proofs.Leaders.{LowerLeaders}
 use Rattle.theorems.specs.Rivals.{total_by, Rival, Heeding}
 use Rattle.theorems.proofs.SignedSums.{sum_z_le}
 use Rattle.theorems.proofs.Covers.{covers}

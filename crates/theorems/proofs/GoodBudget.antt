@@ -18,9 +18,9 @@ use Rattle.rules.specs.Phases.{strategy_at, total, within, bests, heeds, start, 
 use Rattle.rules.specs.Plan.{reduced, improved, programme_from, programme_of}
 use Rattle.rules.specs.Demands.{leaders_respected, Sound, Shown}
 use Rattle.rules.specs.declared.Programme.{Programme}
-use Rattle.laws.specs.Tables.{FitAlone, LowerLeaders}
+use Rattle.laws.specs.Tables.{FitAlone}
 use Rattle.laws.proofs.Gives.{candidates_numbers}
-use Rattle.laws.proofs.Leaders.{heeds_still, pruned_same}
+use Rattle.laws.proofs.Leaders.{LowerLeaders, heeds_still, pruned_same}
 use Rattle.laws.proofs.Steps.{bests_at, bests_allowed, step_within}
 use Rattle.theorems.specs.GoodBudget.{best_candidate, AtCeiling, Optimal}
 use Rattle.theorems.proofs.Entries.{table_fit}

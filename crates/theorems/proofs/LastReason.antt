@@ -2,17 +2,18 @@
 -- rival, of permitted strategies, within the limits, respecting leaders and one segment away, and so has no greater total.
 use Prim.Native.Nat.{ℕ, ◌≤◌}
 use mathlib.Core.Path.{◌≡◌, refl, sym}
-use mathlib.Core.Bool.{Bool, true, false, not, ◌&&◌, true≢false}
+use mathlib.Core.Bool.{Bool, true, false, not, ◌&&◌}
 use mathlib.Core.List.{List}
 use Rattle.std.specs.Prelude.{None}
 use native.Mathlib.Omega.{arith}
-use borrow.Author.Tests.{le-leb, leb-false, lt-ltb, ltb-false, ne_eqb, eqb-true, eqb-false, not-false}
-use lib.Dec.{T, eqb}
-use lib.IntN.{ℤ, pos, negsuc}
+use borrow.Author.Tests.{le-leb, ltb-false, ne_eqb, eqb-true, eqb-false, not-false}
+use lib.Dec.{eqb}
+use lib.Ieee.Bits.{is_true}
 use lib.ListN.{length}
-use lib.Signed.{le_z, lt_z}
+use lib.Signed.{le_z}
 use Rattle.std.proofs.lemmas.Bool.{and_from}
 use Rattle.base.proofs.Choice.{between_yes}
+use Rattle.base.proofs.Integers.{above_zero}
 use Rattle.base.proofs.All.{all_true, all_at}
 use Rattle.rules.specs.District.{District, segments_of, strategies_of, years_of, distresses_of, resources_of, barred_in, leader_of}
 use Rattle.rules.specs.Rating.{benefit, scaled_limit, minimum_reached, years_reached, minima_reached, overall_reached, permitted, total_of}
@@ -30,14 +31,6 @@ use Rattle.theorems.proofs.Entries.{limit_is}
 use Rattle.theorems.proofs.Totals.{within_is}
 use Rattle.theorems.proofs.Feasible.{numbers}
 use Rattle.theorems.proofs.Reasons.{number, none_holds, explained_last}
-
-above : (z : ℤ) → le_z z (pos 0) ≡ false → lt_z (pos 0) z ≡ true
-above (pos n) e = lt-ltb 0 n (leb-false n 0 e)
-above (negsuc n) e = absurd (true≢false e)
-
-T_true : (t : Bool) → T t → t ≡ true
-T_true true h = refl
-T_true false h = absurd h
 
 module _
     (d : District) (p : Programme) (i j : ℕ) (sound : Sound d p) (worth : leaders_worth d (strategy_at p.strategies) ≡ true)
@@ -102,7 +95,7 @@ module _
       known m true e y f was = rw e
       known m false e true f was =
           rw (eqb-true (leader_of d m) i f, ne_eqb i 0 (λ z. omega arith), given p.strategies i j l (omega arith), ne_eqb j 0 (λ z. omega arith))
-          (above (benefit d i j) (free NoBenefit refl (omega arith)))
+          (above_zero (benefit d i j) (free NoBenefit refl (omega arith))).0
       known m false e false f was =
           let some-leader = eqb-false (leader_of d m) 0 e in
           rw (kept p.strategies i j (leader_of d m) l (omega arith) (eqb-false (leader_of d m) i f)) was
@@ -117,7 +110,7 @@ module _
   unfolding holds
   last_holds =
       and_from (within (table_of d) rival) (le_z (total_of d (strategy_at rival)) (total_of d (strategy_at p.strategies))) rival_within
-      (T_true _ (sound.neighbours (strategy_at rival) rival_rival i i rival_apart).le)
+      (is_true _ (sound.neighbours (strategy_at rival) rival_rival i i rival_apart).le)
 
   pub last_explained : Explained d p.strategies i j NoGreaterTotal
   last_explained = explained_last d p.strategies i j none_found last_holds

@@ -1,8 +1,8 @@
 -- Phase 1 ends because every limit holds, after at most segments × strategies steps, with a candidate or nothing on each segment, and with
 -- leaders respected. Of the table it takes that candidates fit alone, and of leaders that their numbers are lower.
 use Prim.Native.Nat.{ℕ, zero, suc, ◌*◌, ◌≤◌, ◌<◌}
-use mathlib.Core.Path.{◌≡◌, refl, sym, subst, ◌∙◌}
-use mathlib.Core.Bool.{Bool, true, false, ◌&&◌, ◌||◌, false≢true}
+use mathlib.Core.Path.{◌≡◌, refl, subst, ◌∙◌}
+use mathlib.Core.Bool.{Bool, true, false, ◌&&◌, ◌||◌}
 use mathlib.Core.List.{List}
 use mathlib.Core.Logic.{inl, inr, ⊎_elim}
 use Rattle.std.specs.Prelude.{None, Some}
@@ -19,11 +19,11 @@ use Rattle.base.proofs.Runs.{run_ends, run_count}
 use Rattle.rules.specs.District.{most_segments}
 use Rattle.rules.specs.Table.{Table}
 use Rattle.rules.specs.Phases.{strategy_at, is_candidate, greater, chosen_usage, used, holds, within, chosen_share, surplus, pull_by, pull, pulls, lesser_ratio, weakest, comes_after, next_candidate, top_candidate, bests, respects, pruned, start, step, phase1}
-use Rattle.laws.specs.Tables.{FitAlone, LowerLeaders, Allowed, OfCandidates}
+use Rattle.laws.specs.Tables.{FitAlone, Allowed, OfCandidates}
 use Rattle.laws.proofs.Give.{sum_give}
 use Rattle.laws.proofs.Gives.{Gives, gives_candidates, PastNothing, gives_past}
-use Rattle.laws.proofs.Leaders.{pruned_drops, pruned_gives}
-use Rattle.laws.proofs.Steps.{top_allowed, bests_at, bests_allowed, start_allowed, start_respects, step_cases, step_gives, step_allowed, step_respects, moved, stepped, no_step}
+use Rattle.laws.proofs.Leaders.{LowerLeaders, pruned_drops, pruned_gives}
+use Rattle.laws.proofs.Steps.{top_allowed, bests_at, bests_allowed, start_allowed, start_respects, step_cases, step_gives, step_allowed, step_respects, moved, stepped}
 use Rattle.theorems.proofs.Searches.{run_gives, run_leads}
 use Rattle.laws.proofs.Shares.{share_covers, share_none, chosen_fits}
 
@@ -100,9 +100,9 @@ one_if_lt false y h e = rw e (omega arith)
 split : {P : Type 0} (x y z w : Bool) → (x && (y || (z && w))) ≡ true → (x ≡ true → y ≡ true → P) → (x ≡ true → z ≡ true → w ≡ true → P) → P
 split true true z w e f g = f refl refl
 split true false true true e f g = g refl refl refl
-split true false true false e f g = absurd (false≢true e)
-split true false false w e f g = absurd (false≢true e)
-split false y z w e f g = absurd (false≢true e)
+split true false true false e f g = cc
+split true false false w e f g = cc
+split false y z w e f g = cc
 
 module _ (t : Table) (i : ℕ) where
   after_cases : {P : Type 0} (a k : ℕ) → comes_after t i a k ≡ true → (1 ≤ t.benefit i k → t.benefit i k < t.benefit i a → P)
@@ -197,7 +197,7 @@ module _ (t : Table) (leader : ℕ → ℕ) (fit : FitAlone t) where
   pub step_falls : (c d : List ℕ) → step t leader c ≡ Some d → OfCandidates t c → potential t d < potential t c
   unfolding potential
   step_falls c d e o =
-      step_cases t leader c (λ x. x ≡ Some d → potential t d < potential t c) (λ w n. absurd (no_step n)) (λ w z n. absurd (no_step n))
+      step_cases t leader c (λ x. x ≡ Some d → potential t d < potential t c) (λ w n. cc) (λ w z n. cc)
       (λ i w l h q.
       let is : stepped t leader c i ≡ d = cc in
       let pulling : 1 ≤ pull t c i = rw w at (weakest_pulls c (omega arith)) in
@@ -218,7 +218,7 @@ module _ (t : Table) (leader : ℕ → ℕ) (fit : FitAlone t) where
   stopped : (c : List ℕ) → OfCandidates t c → step t leader c ≡ None → within t c ≡ true
   stopped c o =
       step_cases t leader c (λ x. x ≡ None → within t c ≡ true) (λ w n. w) (λ w z n. nobody_within t fit c o z)
-      (λ i w l h n. absurd (no_step (sym n)))
+      (λ i w l h n. cc)
 
   -- each segment has a candidate or nothing at the end,
   phase1_gives : Gives t (start t leader) (phase1 t leader (start t leader)).last

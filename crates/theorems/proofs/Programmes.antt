@@ -10,7 +10,8 @@ use Rattle.rules.specs.Table.{Table}
 use Rattle.rules.specs.Phases.{total, within, respects}
 use Rattle.rules.specs.Plan.{reduced, filled, improved}
 use Rattle.rules.specs.Demands.{Finished}
-use Rattle.laws.specs.Tables.{FitAlone, LowerLeaders, OfCandidates}
+use Rattle.laws.specs.Tables.{FitAlone, OfCandidates}
+use Rattle.laws.proofs.Leaders.{LowerLeaders}
 use Rattle.laws.proofs.Gives.{PastNothing, gives_candidates, candidates_numbers, gives_past}
 use Rattle.laws.proofs.PickUps.{Room}
 use Rattle.theorems.proofs.Phase1.{phase1_allowed, phase1_within, phase1_few, phase1_respects, phase1_past}

@@ -8,6 +8,7 @@ use native.Mathlib.Nat.{mul-le-mul}
 use native.Mathlib.Omega.{arith}
 use lib.IntN.{pos}
 use lib.Signed.{◌≤ℤ◌}
+use Rattle.std.proofs.lemmas.Int.{ints}
 use Rattle.base.specs.Search.{Run}
 use Rattle.rules.specs.District.{District, most_segments, most_strategies, segments_of, strategies_of, leader_of}
 use Rattle.rules.specs.Rating.{total_of}
@@ -16,9 +17,9 @@ use Rattle.rules.specs.Phases.{strategy_at, chosen_benefit, total, respects}
 use Rattle.rules.specs.Ceiling.{ceiling}
 use Rattle.rules.specs.Plan.{reduced, improved, programme_from, programme_of}
 use Rattle.rules.specs.Demands.{Finished, Feasible, leaders_respected, leaders_worth, Rival, Apart, strategy_in, Sound, Shown}
-use Rattle.laws.specs.Tables.{FitAlone, LowerLeaders, OfCandidates}
+use Rattle.laws.specs.Tables.{FitAlone, OfCandidates}
+use Rattle.laws.proofs.Leaders.{LowerLeaders}
 use Rattle.laws.proofs.Gives.{candidates_numbers}
-use Rattle.theorems.proofs.SignedSums.{below}
 use Rattle.theorems.proofs.Entries.{past_is, table_fit}
 use Rattle.theorems.proofs.Totals.{total_is, permitted_is, worth_is, within_is}
 use Rattle.theorems.proofs.Feasible.{feasible_rival, feasible_total, rival_heeding}
@@ -52,7 +53,7 @@ module _ (d : District) (few : segments_of d ≤ most_segments) (begun : Run (Li
       }
 
   ceiling_covers : (c : ℕ → ℕ) → Feasible d c → total_of d c ≤ℤ pos (ceiling (table_of d))
-  ceiling_covers c rival = below (total_of d c) (feasible_total d c rival) (ceiling_bounds (table_of d) fit c (feasible_rival d c rival))
+  ceiling_covers c rival = omega (arith, ints, feasible_total d c rival, ceiling_bounds (table_of d) fit c (feasible_rival d c rival))
 
   module _ (lower : LowerLeaders (leader_of d) (segments_of d)) where
     leaders : leaders_respected d (strategy_in (programme_from (table_of d) (leader_of d) begun)) ≡ true
@@ -69,10 +70,10 @@ module _ (d : District) (few : segments_of d ≤ most_segments) (begun : Run (Li
         → total_of d c ≤ℤ total_of d (strategy_in (programme_from (table_of d) (leader_of d) begun))
     unfolding programme_from table_of
     neighbours c rival i k apart =
-        rw total_shown
-        (below (total_of d c) (feasible_total d c rival.feasible)
-        (neighbour (table_of d) fit (leader_of d) lower (improved (table_of d) (leader_of d) begun).last candidates finished.changes c
-        (feasible_rival d c rival.feasible) (rival_heeding d lower c rival) i k apart.elsewhere))
+        let less =
+        neighbour (table_of d) fit (leader_of d) lower (improved (table_of d) (leader_of d) begun).last candidates finished.changes c
+        (feasible_rival d c rival.feasible) (rival_heeding d lower c rival) i k apart.elsewhere in
+        rw total_shown (omega (arith, ints, feasible_total d c rival.feasible))
 
     pub sound : Sound d (programme_from (table_of d) (leader_of d) begun)
     unfolding programme_from

@@ -1,7 +1,7 @@
 -- The search for a reason, in its eight parts: what it finds holds, and nothing before that does; where it finds nothing, none of the eight holds.
 use Prim.Native.Nat.{ℕ, zero, suc, ◌+◌, ◌-◌, ◌≤◌, ◌<◌}
 use mathlib.Core.Path.{◌≡◌, refl, sym, ap, subst, ◌∙◌}
-use mathlib.Core.Bool.{true, false, ◌&&◌, false≢true}
+use mathlib.Core.Bool.{true, false, ◌&&◌}
 use mathlib.Core.List.{List, [], ◌∷◌}
 use mathlib.Core.Logic.{⊎_elim}
 use Rattle.std.specs.Prelude.{Option, None, Some}
@@ -60,7 +60,7 @@ before_cases x y xs ys b less same =
 
 not_ended : {P : Type 0} (ys : List ℕ) → before [] ys ≡ true → P
 unfolding before
-not_ended ys b = absurd (false≢true b)
+not_ended ys b = cc
 
 after : {P : Type 0} (n : ℕ) (xs : List ℕ) (r : Reason) → before (n ∷ xs) (told r) ≡ true → (n < number r → P)
     → (n ≡ number r → before xs (values r) ≡ true → P) → P
@@ -120,7 +120,7 @@ module _ (d : District) (c : List ℕ) (i j : ℕ) where
   AllFind n (o ∷ os) = Finds n o × AllFind (suc n) os
 
   all_find : (n : ℕ) (os : List (Option Reason)) → AllFind n os → (m : ℕ) → Finds (n + m) (get_or os m None)
-  all_find n [] ok m r e = absurd (let z : ◌≡◌ {A = ℕ} 0 1 = cc in omega arith)
+  all_find n [] ok m r e = cc
   all_find n (o ∷ os) ok zero r e = let same : n ≡ n + 0 = omega arith in subst (λ (x : ℕ). Found x r) same (ok.0 r e)
   all_find n (o ∷ os) ok (suc m) r e =
       let same : suc n + m ≡ n + suc m = omega arith in subst (λ (x : ℕ). Found x r) same (all_find (suc n) os ok.1 m r e)

@@ -15,9 +15,9 @@ use Rattle.base.proofs.Sums.{sum_le, sum_cong}
 use Rattle.base.proofs.All.{all_true}
 use Rattle.rules.specs.Table.{Table}
 use Rattle.rules.specs.Phases.{strategy_at, give, chosen_benefit, total, chosen_usage, used, holds, within, heeds, respects, change}
-use Rattle.laws.specs.Tables.{FitAlone, LowerLeaders, Allowed, OfCandidates}
+use Rattle.laws.specs.Tables.{FitAlone, Allowed, OfCandidates}
 use Rattle.laws.proofs.Give.{given, kept}
-use Rattle.laws.proofs.Leaders.{heeds_nothing, heeds_still}
+use Rattle.laws.proofs.Leaders.{LowerLeaders, heeds_nothing, heeds_still}
 use Rattle.theorems.specs.Rivals.{total_by, used_by, Rival, Heeding}
 use Rattle.theorems.proofs.Cleaned.{cleaned, by_test, cleaned_benefit, cleaned_usage, cleaned_allowed, cleaned_same}
 use Rattle.theorems.proofs.Neighbours.{pair_le}

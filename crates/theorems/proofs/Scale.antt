@@ -1,44 +1,31 @@
 -- Ratings stay on their scale: a gain takes no more than the current rating and adds no more than is left up to the greatest, and a survival is
 -- at most the whole.
-use Prim.Native.Nat.{ℕ, zero, suc, ◌+◌, ◌-◌, ◌*◌, ◌≤◌, zero-le}
-use mathlib.Core.Path.{◌≡◌}
+use Prim.Native.Nat.{ℕ, suc, ◌-◌, ◌*◌, ◌≤◌}
 use native.Mathlib.Nat.{mul-le-mul}
 use native.Mathlib.Omega.{arith}
-use lib.Dec.{leb→le, le→leb}
 use lib.IntN.{ℤ, pos, negsuc, neg_ℤ, ◌+ℤ◌, ◌-ℤ◌, ◌*ℤ◌}
-use lib.Signed.{◌≤ℤ◌, le_z_yes}
+use lib.Signed.{◌≤ℤ◌}
+use Rattle.std.proofs.lemmas.Int.{ints}
 use Rattle.base.proofs.Integers.{pos_minus, min_le, max_ge, max_le}
 use Rattle.rules.specs.District.{District, segments_of, distresses_of, greatest_of, gain_of, rating_of}
 use Rattle.rules.specs.Rating.{capped_gain, gain, survival, improvement, rating}
 use Rattle.laws.proofs.Survival.{survival_le}
 use Rattle.theorems.specs.Scale.{OnScale}
 
-pos_le : (m n : ℕ) → m ≤ n → pos m ≤ℤ pos n
-pos_le m n h = le_z_yes (le→leb m n h)
-
--- a loss of at most c
-loss_le : (c n : ℕ) → neg_ℤ (pos c) ≤ℤ negsuc n → suc n ≤ c
-loss_le zero n h = absurd h.le
-loss_le (suc m) n h = omega (arith, leb→le n m h.le)
-
--- c points less what survives of a loss of n + 1, a part s of a million
-lost : (c s n : ℕ) → suc n ≤ c → s ≤ 1_000_000 → pos (1_000_000 * c) +ℤ negsuc n *ℤ pos s ≡ pos (1_000_000 * c - suc n * s)
-lost c s n h p = let q : suc n * s ≤ c * 1_000_000 = mul-le-mul h p in pos_minus (1_000_000 * c) (suc n * s) (omega arith)
-
+-- c points and what survives of a gain g, a part s of a million
 above : (c s : ℕ) (g : ℤ) → neg_ℤ (pos c) ≤ℤ g → s ≤ 1_000_000 → pos 0 ≤ℤ (pos (1_000_000 * c) +ℤ g *ℤ pos s)
-above c s (pos n) h p = pos_le 0 (1_000_000 * c + n * s) zero-le
-above c s (negsuc n) h p = rw (lost c s n (loss_le c n h) p) (pos_le 0 (1_000_000 * c - suc n * s) zero-le)
+above c s (pos n) h p = omega (arith, ints)
+above c s (negsuc n) h p =
+    let l : suc n ≤ c = omega (arith, ints) in
+    let q : suc n * s ≤ c * 1_000_000 = mul-le-mul l p in
+    omega (arith, ints)
 
 below : (c s b : ℕ) (g : ℤ) → c ≤ b → neg_ℤ (pos c) ≤ℤ g → g ≤ℤ pos (b - c) → s ≤ 1_000_000 → (pos (1_000_000 * c) +ℤ g *ℤ pos s) ≤ℤ pos (1_000_000 * b)
 below c s b (pos n) h l u p =
-    let q : n * s ≤ (b - c) * 1_000_000 = mul-le-mul (leb→le n (b - c) u.le) p in
-    pos_le (1_000_000 * c + n * s) (1_000_000 * b) (omega arith)
-below c s b (negsuc n) h l u p = rw (lost c s n (loss_le c n l) p) (pos_le (1_000_000 * c - suc n * s) (1_000_000 * b) (omega arith))
-
--- what is below 0, or is 0, is at most what is not below 0
-loss_below : (c n : ℕ) → neg_ℤ (pos c) ≤ℤ pos n
-loss_below zero n = pos_le 0 n zero-le
-loss_below (suc c) n = le_z_yes tt
+    let m : n ≤ b - c = omega (arith, ints) in
+    let q : n * s ≤ (b - c) * 1_000_000 = mul-le-mul m p in
+    omega (arith, ints)
+below c s b (negsuc n) h l u p = omega (arith, ints)
 
 module _ (d : District) (i j k : ℕ) where
   gain_ge : neg_ℤ (pos (rating_of d i k)) ≤ℤ gain d i j k
@@ -48,7 +35,7 @@ module _ (d : District) (i j k : ℕ) where
   gain_le : rating_of d i k ≤ greatest_of d k → gain d i j k ≤ℤ pos (greatest_of d k - rating_of d i k)
   unfolding gain capped_gain
   gain_le h =
-      max_le (neg_ℤ (pos (rating_of d i k))) (capped_gain d i j k) (pos (greatest_of d k - rating_of d i k)) (loss_below (rating_of d i k) _)
+      max_le (neg_ℤ (pos (rating_of d i k))) (capped_gain d i j k) (pos (greatest_of d k - rating_of d i k)) (omega (arith, ints))
       (rw (← pos_minus (greatest_of d k) (rating_of d i k) h) (min_le (gain_of d j k) (pos (greatest_of d k) -ℤ pos (rating_of d i k))))
 
 -- Of the file's ranges it takes one, that no current rating is above the greatest, and for the scale's upper end alone.

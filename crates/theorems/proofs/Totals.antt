@@ -18,7 +18,8 @@ use Rattle.rules.specs.Rating.{benefit, permitted, usage_by, within_limit, withi
 use Rattle.rules.specs.Table.{candidate_benefit, table_of}
 use Rattle.rules.specs.Phases.{strategy_at, chosen_usage, used, holds, within}
 use Rattle.rules.specs.Demands.{permitted_at, all_permitted, leader_worth, leaders_worth}
-use Rattle.laws.specs.Tables.{LowerLeaders, Allowed}
+use Rattle.laws.specs.Tables.{Allowed}
+use Rattle.laws.proofs.Leaders.{LowerLeaders}
 use Rattle.theorems.specs.Rivals.{total_by, used_by}
 use Rattle.theorems.proofs.SignedSums.{sum_z_pos}
 use Rattle.theorems.proofs.Entries.{usage_is, limit_is, nothing_is, candidate_permitted, candidate_benefit_lem}
