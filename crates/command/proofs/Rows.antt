@@ -54,7 +54,7 @@ few_taken Name.Step = omega arith
 
 first_at : (ns : List Name) (i : ℕ) (n : Name) (v : ℕ → ℕ) → slice_get ns i ≡ Some n → first_made (drop i (map row_of ns)) v ≡ made n v
 unfolding first_made
-first_at [] i n v e = absurd (let z : ◌≡◌ {A = ℕ} 0 1 = cc in omega arith)
+first_at [] i n v e = cc
 first_at (m ∷ ns) zero n v e = let z : m ≡ n = cc in rw (row_name m, z)
 first_at (m ∷ ns) (suc i) n v e = first_at ns i n v e
 
@@ -62,7 +62,7 @@ none_at : (ns : List Name) (i : ℕ) (v : ℕ → ℕ) → slice_get ns i ≡ No
 unfolding first_made
 none_at [] zero v e = refl
 none_at [] (suc i) v e = refl
-none_at (m ∷ ns) zero v e = absurd (let z : ◌≡◌ {A = ℕ} 0 1 = cc in omega arith)
+none_at (m ∷ ns) zero v e = cc
 none_at (m ∷ ns) (suc i) v e = none_at ns i v e
 
 pub numbered_at : (i : ℕ) (n : Name) (v : ℕ → ℕ) → slice_get names i ≡ Some n → numbered i v ≡ made n v

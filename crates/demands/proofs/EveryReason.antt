@@ -4,7 +4,6 @@ use Prim.Native.Nat.{ℕ, zero, suc}
 use mathlib.Core.Path.{◌≡◌, sym}
 use mathlib.Core.Bool.{Bool, true, false}
 use Rattle.std.specs.Prelude.{Option, None, Some}
-use native.Mathlib.Omega.{arith}
 use Rattle.base.specs.Choice.{pick}
 use Rattle.rules.specs.File.{in_range}
 use Rattle.rules.specs.Reasons.{or_last, hindrance, reason_for}
@@ -29,7 +28,7 @@ module _ (u : Unit) (i j : ℕ) where
 named : (n : ℕ) (q r : Reason) → explained n q ≡ Accepted r → q ≡ r
 unfolding explained answer_of
 named zero q r e = cc
-named (suc n) q r e = absurd (let z : ◌≡◌ {A = ℕ} 0 1 = cc in omega arith)
+named (suc n) q r e = cc
 
 -- which found it, unless it is the last
 searched : (t : Bool) (o : Option Reason) (r : Reason) → or_last (pick t o None) ≡ r → ¬ (r ≡ NoGreaterTotal) → o ≡ Some r

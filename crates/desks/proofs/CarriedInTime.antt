@@ -1,16 +1,13 @@
 -- An edit that arrives is carried out in time, after those that it finds in its queue.
-use Prim.Native.Nat.{ℕ, zero, suc, ◌+◌, ◌*◌, ◌≤◌, ◌<◌}
-use mathlib.Core.Path.{◌≡◌, refl, sym, ap, ◌∙◌}
-use mathlib.Core.Bool.{Bool, true, false, ◌&&◌}
-use mathlib.Core.List.{List, [], ◌∷◌, ◌++◌}
+use Prim.Native.Nat.{ℕ, zero, suc, ◌+◌}
+use mathlib.Core.Path.{◌≡◌, refl, ap, ◌∙◌}
+use mathlib.Core.List.{[], ◌∷◌, ◌++◌}
 use native.Mathlib.Omega.{arith}
 use borrow.Author.Tests.{eq-eqb}
-use lib.Dec.{eqb}
 use lib.ListN.{length, take, length-append}
 use lib.Seq.{take_all}
-use Rattle.base.specs.Choice.{pick}
 use Rattle.rules.specs.Answers.{answer_of, Accepted}
-use Rattle.rules.specs.Desks.{console_number, Queues, queue_of, arrival_refusal, arrival_of, Desk, Arrive, desk_by, accepted_by, steps_in}
+use Rattle.rules.specs.Desks.{console_number, queue_of, arrival_refusal, arrival_of, Desk, Arrive, desk_by, accepted_by}
 use Rattle.rules.specs.DeskDemands.{CarriedInTime}
 use Rattle.rules.specs.declared.Console.{Console}
 use Rattle.rules.specs.declared.Waiting.{Waiting}
@@ -20,7 +17,7 @@ use Rattle.desks.proofs.NobodyStarves.{nobody_starves}
 none_refused : (n : ℕ) → answer_of {A = ℕ} n 0 ≡ Accepted 0 → n ≡ 0
 unfolding answer_of
 none_refused zero e = refl
-none_refused (suc n) e = absurd (let z : ◌≡◌ {A = ℕ} 0 1 = cc in omega arith)
+none_refused (suc n) e = cc
 
 module _ (d : Desk) (c : Console) (w : Waiting) (ok : (arrival_of d.queues (console_number c) w).answer ≡ Accepted 0) where
   none_against : arrival_refusal d.queues (console_number c) w ≡ 0

@@ -3,7 +3,7 @@ use Prim.Native.Nat.{ℕ, zero, suc, ◌+◌, ◌<◌}
 use mathlib.Core.Path.{◌≡◌, refl, sym, ap, ◌∙◌}
 use mathlib.Core.Bool.{Bool, true, false}
 use mathlib.Core.List.{List}
-use Rattle.std.specs.Prelude.{Option, None, Some}
+use Rattle.std.specs.Prelude.{None, Some}
 use native.Mathlib.Nat.{zero-add, suc-add}
 use native.Mathlib.Omega.{arith}
 use borrow.Author.Tests.{eqb-true, ne_eqb}
@@ -32,7 +32,7 @@ named_number n c e = go (eqb n 1) refl (eqb n 2) refl (eqb n 3) refl (eqb n 4) r
     go false p true q u r v s e = let i : Two ≡ c = cc in rw (← i) (eqb-true n 2 q)
     go false p false q true r v s e = let i : Three ≡ c = cc in rw (← i) (eqb-true n 3 r)
     go false p false q false r true s e = let i : Four ≡ c = cc in rw (← i) (eqb-true n 4 s)
-    go false p false q false r false s e = absurd (let z : ◌≡◌ {A = ℕ} 0 1 = cc in omega arith)
+    go false p false q false r false s e = cc
 
 pub nowhere_named : (n : ℕ) → ((c : Console) → ¬ (n ≡ console_number c)) → console_of n ≡ None
 nowhere_named n h = rw (ne_eqb n 1 (h One), ne_eqb n 2 (h Two), ne_eqb n 3 (h Three), ne_eqb n 4 (h Four))

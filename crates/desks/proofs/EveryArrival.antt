@@ -1,18 +1,18 @@
 -- Each arrival is settled; and what an arrival makes of the queues.
-use Prim.Native.Nat.{ℕ, zero, suc, ◌≤◌, ◌<◌}
+use Prim.Native.Nat.{ℕ, zero, suc}
 use mathlib.Core.Path.{◌≡◌, refl, sym, ap, ◌∙◌}
-use mathlib.Core.Bool.{Bool, true, false, ◌&&◌, and-false, true≢false}
-use mathlib.Core.List.{List, [], ◌∷◌, ◌++◌, append-nil}
+use mathlib.Core.Bool.{Bool, true, false, ◌&&◌, and-false}
+use mathlib.Core.List.{[], ◌∷◌, ◌++◌, append-nil}
 use Rattle.std.specs.Prelude.{Option, None, Some}
 use borrow.Author.Tests.{lt-ltb, le-ltb, ne_eqb, eqb-true, eqb-false}
 use lib.Dec.{ltb, eqb}
 use lib.ListN.{length}
 use Rattle.base.specs.Choice.{pick}
-use Rattle.rules.specs.Answers.{no_such_office, no_such_console, queue_full, unless, answer_of, accepting, Accepted}
+use Rattle.rules.specs.Answers.{queue_full, unless, answer_of, accepting}
 use Rattle.rules.specs.Offices.{Held}
-use Rattle.rules.specs.Stations.{Both, office_of, office_number}
-use Rattle.rules.specs.Desks.{console_number, console_of, Queues, queue_of, with_queue, most_waiting, refusal_at, refusal_behind, arrival_refusal, queued_at, arrival_by, arrival_of, Arrival, Desk, accepted_by, Arrive}
-use Rattle.rules.specs.DeskDemands.{not_queued, ArrivalSettled, EveryArrival}
+use Rattle.rules.specs.Stations.{Both, office_of}
+use Rattle.rules.specs.Desks.{console_number, console_of, Queues, queue_of, with_queue, most_waiting, refusal_at, refusal_behind, arrival_refusal, queued_at, arrival_by, arrival_of, Arrival, accepted_by, Arrive}
+use Rattle.rules.specs.DeskDemands.{ArrivalSettled}
 use Rattle.rules.specs.declared.Console.{Console}
 use Rattle.rules.specs.declared.Waiting.{Waiting}
 use Rattle.stations.proofs.Calls.{number_named as office_named}

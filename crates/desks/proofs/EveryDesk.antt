@@ -6,7 +6,7 @@ use Rattle.rules.specs.Calls.{unit_of}
 use Rattle.rules.specs.Stations.{other, own, fresh_both, station_after}
 use Rattle.rules.specs.StationDemands.{got_by}
 use Rattle.rules.specs.Desks.{fresh_desk, Event, desk_after, gathered, calls_in}
-use Rattle.rules.specs.DeskDemands.{gives, given_to, desk_district, DeskClaim, EveryDesk}
+use Rattle.rules.specs.DeskDemands.{gives, given_to, desk_district, DeskClaim}
 use Rattle.rules.specs.declared.Unit.{Unit}
 use Rattle.stations.proofs.EveryStation.{every_station}
 use Rattle.stations.proofs.LeavingOut.{leaving_out}

@@ -7,10 +7,9 @@ use Rattle.rules.specs.Lists.{Alter, lent_to, outcome_of}
 use Rattle.rules.specs.Offices.{Held, Plan, lent_bytes, office_outcome}
 use Rattle.rules.specs.Stations.{Both, own, other, office_of, StationCall, call_of, refusal_beside, concluded, outcome_for, station_outcome, station_from}
 use Rattle.rules.specs.StationDemands.{nothing_more, unit_tells, office_tells, told_to, gets, got_from}
-use Rattle.rules.specs.Desks.{Taken, taken, Desk, carrying, step_with, step_of, Event, Arrive, Step, Ask, desk_by, answer_to, desk_from, gathered, call_for, calls_at, calls_from}
-use Rattle.rules.specs.DeskDemands.{Given, step_gives, gives, all_given, given_to, AsCalls, EveryRun}
+use Rattle.rules.specs.Desks.{Taken, taken, Desk, step_with, step_of, Event, Arrive, Step, Ask, desk_by, answer_to, desk_from, gathered, call_for, calls_at, calls_from}
+use Rattle.rules.specs.DeskDemands.{Given, step_gives, gives, all_given, given_to, EveryRun}
 use Rattle.rules.specs.declared.Edit.{Edit}
-use Rattle.rules.specs.declared.Waiting.{Waiting}
 use Rattle.rules.specs.declared.Which.{Which}
 
 -- ---- lists of calls, one after the other

@@ -1,10 +1,8 @@
 -- Each step is settled.
-use Prim.Native.Nat.{ℕ, ◌<◌}
 use mathlib.Core.Path.{◌≡◌, refl, sym, ap, ◌∙◌}
-use mathlib.Core.List.{List, [], ◌∷◌}
+use mathlib.Core.List.{List}
 use Rattle.std.specs.Prelude.{Option, None, Some}
 use borrow.Author.Tests.{eq-eqb, ne_eqb}
-use Rattle.base.specs.Choice.{pick}
 use Rattle.rules.specs.Desks.{console_number, Desk, Taken, taken, step_with, step_of, call_for, calls_at, taken_for, carried_by, Step}
 use Rattle.rules.specs.DeskDemands.{Idles, Carries, EveryStep}
 use Rattle.rules.specs.declared.Console.{Console}

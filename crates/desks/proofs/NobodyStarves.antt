@@ -13,11 +13,10 @@ use lib.Dec.{eqb, ltb}
 use lib.ListN.{length, take, length-append}
 use lib.Seq.{take-append-le}
 use Rattle.base.specs.Choice.{pick}
-use Rattle.rules.specs.Desks.{console_number, next_to, Queues, queue_of, Taken, taken, Desk, step_with, step_of, Event, Arrive, Step, Ask, desk_by, desk_from, gathered, accepted_by, taken_for, carried_by, carried_from, accepted_from, steps_in}
+use Rattle.rules.specs.Desks.{console_number, next_to, Queues, queue_of, Taken, taken, Desk, step_with, step_of, Event, Arrive, Step, Ask, desk_by, gathered, accepted_by, taken_for, carried_by, carried_from, steps_in}
 use Rattle.rules.specs.DeskDemands.{further, NobodyStarves}
 use Rattle.rules.specs.declared.Console.{Console}
 use Rattle.rules.specs.declared.Console.TheVariants.{One, Two, Three, Four}
-use Rattle.rules.specs.declared.Waiting.{Waiting}
 use Rattle.desks.proofs.Consoles.{same_console, further_further, way_to}
 use Rattle.desks.proofs.Taken.{TakenFrom, taken_from, taken_some}
 use Rattle.desks.proofs.EveryArrival.{turn_arrived}

@@ -1,5 +1,4 @@
 -- Each accepted edit is carried out once, and in the order of its queue.
-use Prim.Native.Nat.{ℕ}
 use mathlib.Core.Path.{◌≡◌, refl, sym, ap, ◌∙◌}
 use mathlib.Core.Bool.{Bool, true, false}
 use mathlib.Core.List.{List, [], ◌∷◌, ◌++◌, append-nil, append_assoc}
@@ -7,7 +6,7 @@ use Rattle.std.specs.Prelude.{Option, None, Some}
 use borrow.Author.Tests.{eqb-true, eqb-false}
 use lib.Dec.{eqb}
 use Rattle.base.specs.Choice.{pick}
-use Rattle.rules.specs.Desks.{console_number, next_to, Queues, queue_of, with_queue, with_turn, Taken, taken, Desk, step_with, step_of, Event, Arrive, Step, Ask, desk_by, desk_from, gathered, accepted_by, taken_for, carried_by}
+use Rattle.rules.specs.Desks.{console_number, Queues, queue_of, Taken, taken, Desk, step_with, step_of, Event, Arrive, Step, Ask, desk_by, desk_from, gathered, accepted_by, taken_for, carried_by}
 use Rattle.rules.specs.DeskDemands.{OnceInOrder}
 use Rattle.rules.specs.declared.Console.{Console}
 use Rattle.rules.specs.declared.Waiting.{Waiting}

@@ -1,6 +1,6 @@
 -- Which edit a step takes: the oldest of the first console, from the turn on, that has one.
-use Prim.Native.Nat.{ℕ, suc, ◌+◌, ◌-◌, ◌≤◌, ◌<◌}
-use mathlib.Core.Path.{◌≡◌, refl, sym, ap, subst, ◌∙◌}
+use Prim.Native.Nat.{ℕ, ◌+◌, ◌-◌, ◌<◌}
+use mathlib.Core.Path.{◌≡◌, refl, sym, ap, ◌∙◌}
 use mathlib.Core.List.{List, [], ◌∷◌}
 use Rattle.std.specs.Prelude.{Option, None, Some}
 use native.Mathlib.Omega.{arith}
@@ -69,7 +69,7 @@ record Oldest (q : Queues) (c : Console) (ws : List Waiting) (t : Taken) : Type 
   queues : t.queues ≡ with_turn (next_to c) (with_queue c rest q)
 
 oldest_some : (q : Queues) (c : Console) (ws : List Waiting) (t : Taken) → oldest_of c ws q ≡ Some t → Oldest q c ws t
-oldest_some q c [] t e = absurd (let z : ◌≡◌ {A = ℕ} 0 1 = cc in omega arith)
+oldest_some q c [] t e = cc
 oldest_some q c (w ∷ ws) t e =
     let same : taken_of q c w ws ≡ t = cc in
     record {
@@ -81,7 +81,7 @@ oldest_some q c (w ∷ ws) t e =
 
 oldest_none : (q : Queues) (c : Console) (ws : List Waiting) → oldest_of c ws q ≡ None → ws ≡ []
 oldest_none q c [] e = refl
-oldest_none q c (w ∷ ws) e = absurd (let z : ◌≡◌ {A = ℕ} 0 1 = cc in omega arith)
+oldest_none q c (w ∷ ws) e = cc
 
 pub taken_from : (q : Queues) (t : Taken) → taken q ≡ Some t → TakenFrom q t
 taken_from q t e =

@@ -62,10 +62,6 @@ module _ (q : Queues) (n : length q.waiting ≡ 4) (x : Console) (p : ℕ) (at :
 
 -- ---- arrivals
 
--- an answer with a value is no refusal
-accepted_not : {A : Type 0} {n m : ℕ} → Accepted n ≡ Refused m → A
-accepted_not e = let z : ◌≡◌ {A = ℕ} 0 1 = cc in absurd (omega arith)
-
 -- no console has the number
 pub nowhere : (q : Queues) (w : Waiting) → Admits q None w (record { answer = Refused no_such_console; queues = q })
 unfolding answer_of accepting
@@ -91,7 +87,7 @@ module _ (q : Queues) (w : Waiting) (n : length q.waiting ≡ 4) (x : Console) (
             ap (λ (y : Desks.Queues). record { answer = Accepted 0; queues = y })
             (with_is q n x p at new q.turn ∙ same_turn x new.items (queues_in q) ∙ ap (λ (ws : List Waiting). with_queue x ws (queues_in q)) (rw held at e))
             ∙ rw (lt-ltb (length (queue_of x (queues_in q))) most_waiting (omega (arith, ap length held)));
-        refused = λ m not. accepted_not not;
+        refused = λ m not. cc;
       }
 
   -- there is none
@@ -136,7 +132,7 @@ taken_is q c e =
     ∙ rw (or_none (oldest_at q (next_to (next_to (next_to q.turn)))))
 
 first_of : (ws vs : List Waiting) (w : Waiting) → Some w ≡ slice_get ws 0 → vs ≡ remove ws 0 → ws ≡ w ∷ vs
-first_of [] vs w e f = absurd (let z : ◌≡◌ {A = ℕ} 0 1 = cc in omega arith)
+first_of [] vs w e f = cc
 first_of (x ∷ xs) vs w e f = let z : w ≡ x = cc in rw (z, f)
 
 -- its oldest edit is taken; d is what the code reads at the console's place

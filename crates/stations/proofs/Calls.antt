@@ -4,7 +4,6 @@ use mathlib.Core.Path.{◌≡◌, refl, ap, ◌∙◌}
 use mathlib.Core.Bool.{Bool, true, false, not, ◌&&◌, and-false}
 use mathlib.Core.List.{[], ◌∷◌}
 use Rattle.std.specs.Prelude.{None, Some}
-use native.Mathlib.Omega.{arith}
 use borrow.Author.Tests.{eqb-true}
 use lib.Dec.{leb, eqb}
 use Rattle.base.proofs.Choice.{pick_all}
@@ -68,7 +67,7 @@ module _ (o p : Held) (c : OfficeCall) where
   not_in_use_lem e = go (office_refusal o c) (brings_tables o.unit.district c && leb 1 (segments_of p.unit.district)) e
     where
       go : (n : ℕ) (t : Bool) → eqb (or_later n (unless (not t) tables_in_use 0)) tables_in_use ≡ false → or_later n (unless (not t) tables_in_use 0) ≡ n
-      go zero true e = absurd (let z : ◌≡◌ {A = Bool} true false = e in let y : ◌≡◌ {A = ℕ} 0 1 = cc in omega arith)
+      go zero true e = cc
       go zero false e = refl
       go (suc n) t e = refl
 

@@ -2,7 +2,7 @@
 -- the other's calls: office v's part is the same in both, and in the second the other never has segments.
 use Prim.Native.Nat.{ℕ, zero, suc}
 use mathlib.Core.Path.{◌≡◌, refl, sym, ap, ap₂, ◌∙◌}
-use mathlib.Core.Bool.{Bool, true, false, not, ◌&&◌, true≢false}
+use mathlib.Core.Bool.{Bool, true, false, not, ◌&&◌}
 use mathlib.Core.List.{List, [], ◌∷◌}
 use Rattle.std.specs.Prelude.{None, Some}
 use borrow.Author.Tests.{not-true}
@@ -136,7 +136,7 @@ module _ (v : Which) (b e : Both Held) (alike : Alike v b e) (c : StationCall) w
       go : (s : Bool) → made_by (other v) c ≡ s → (t : Bool) → made_by v c ≡ t
           → got_from v e (pick s (without (other v) cs) (c ∷ without (other v) cs))
           ≡ pick t (gets b c ∷ got_from v (next b c) cs) (got_from v (next b c) cs)
-      go true p true q = absurd (true≢false (sym p ∙ one_office v c.office q))
+      go true p true q = cc (one_office v c.office q)
       go true p false q = later e (others_alike p leaves)
       go false p true q = rw q (ap₂ ◌∷◌ (sym (gets_same v b e alike c q free)) (later (next e c) (next_alike v b e alike c q free)))
       go false p false q = rw q (later (next e c) (nobody_alike (neither v c.office q p)))

@@ -1,7 +1,7 @@
 -- A district without segments has the programme with nothing in it, so an office that gets new tables need not be planned.
 use Prim.Native.Nat.{ℕ, zero, suc, ◌+◌, ◌-◌, ◌*◌, ◌^◌}
-use mathlib.Core.Path.{◌≡◌, refl, sym, ap, ◌∙◌}
-use mathlib.Core.Bool.{false, and-false, true≢false}
+use mathlib.Core.Path.{◌≡◌, refl, ap, ◌∙◌}
+use mathlib.Core.Bool.{false, and-false}
 use mathlib.Core.List.{List, ◌∷◌}
 use Rattle.std.specs.Prelude.{Option}
 use native.Mathlib.Nat.{zero-mul}
@@ -49,7 +49,7 @@ module _ (t : Table) (leader : ℕ → ℕ) (empty : t.segments ≡ 0) (None : (
 
   top_none : (i : ℕ) → top_candidate t i ≡ 0
   unfolding top_candidate is_candidate
-  top_none i = best_ind _ _ (λ b. b ≡ 0) t.strategies refl (λ k l h e. absurd (true≢false (sym e ∙ rw (None i k))))
+  top_none i = best_ind _ _ (λ b. b ≡ 0) t.strategies refl (λ k l h e. cc (None i k))
 
   bests_none : bests t ≡ nothing
   unfolding bests
