@@ -49,7 +49,7 @@ fn set_value(d: &mut District, at: usize, value: usize)
     }
 }
 
-// ---- refusals, in the order of their tests
+// ---- a test that refuses
 
 fn refuse_unless(test: bool, refusal: Refusal) -> Result<(), Refusal>
     ensures { result ≡ pick test (Ok tt) (Err refusal) }
@@ -198,6 +198,7 @@ pub fn edit(d: &mut District, e: Edit)
 pub fn fresh_district() -> District
     ensures { result ≡ fresh_district }
 {
+    // Each count by its name: `d[STRATEGY_COUNT..COUNT_PLACES].fill(1)` was tried, and that the array is the rules' did not close.
     let mut d = [0usize; DISTRICT_PLACES];
     d[STRATEGY_COUNT] = 1;
     d[YEAR_COUNT] = 1;
