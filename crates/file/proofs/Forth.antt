@@ -32,23 +32,12 @@ use Rattle.file.proofs.Steps.{widths_none, widths_take, header_there, header_non
 
 -- ---- what is found was not refused
 
-never : (k : ℕ) (vs rest : List ℕ) → refused k ≡ found vs rest → ⊥
-never k vs rest e = let z : ◌≡◌ {A = ℕ} 0 1 = cc in omega arith
-
-found_values : (vs rest us bs : List ℕ) → found vs rest ≡ found us bs → vs ≡ us
-found_values vs rest us bs e = cc
-
-found_rest : (vs rest us bs : List ℕ) → found vs rest ≡ found us bs → rest ≡ bs
-found_rest vs rest us bs e = cc
-
--- a test with a refusal on one side went to the other
-past : (b : Bool) (k : ℕ) (y : Read) (vs rest : List ℕ) → pick b (refused k) y ≡ found vs rest → (b ≡ false) × (y ≡ found vs rest)
-past true k y vs rest e = absurd (never k vs rest e)
-past false k y vs rest e = (refl, e)
-
-passed : (b : Bool) (x : Read) (k : ℕ) (vs rest : List ℕ) → pick b x (refused k) ≡ found vs rest → (b ≡ true) × (x ≡ found vs rest)
-passed true x k vs rest e = (refl, e)
-passed false x k vs rest e = absurd (never k vs rest e)
+-- a test with a refusal on the side other than `side` went to `side`
+passed : (side b : Bool) (k : ℕ) (y : Read) (vs rest : List ℕ) → pick b (pick side y (refused k)) (pick side (refused k) y) ≡ found vs rest → (b ≡ side) × (y ≡ found vs rest)
+passed true true k y vs rest e = (refl, e)
+passed true false k y vs rest e = absurd cc
+passed false true k y vs rest e = absurd cc
+passed false false k y vs rest e = (refl, e)
 
 -- ---- a record's numbers
 
@@ -91,11 +80,11 @@ module _ (u : District) (s : Slot) where
   numbers_forth : (m n : ℕ) (vs bs all rest : List ℕ) → widths m u s n ≤ length bs → read_numbers m u s n vs bs ≡ found all rest → Took u s m n vs bs all rest
   unfolding value_bytes read_numbers
   numbers_forth zero n vs bs all rest l e =
-      record { ws = []; all_is = sym (found_values vs bs all rest e) ∙ sym (append-nil vs); count = refl; bytes = λ h. found_rest vs bs all rest e; good = λ i q. absurd (omega arith) }
+      record { ws = []; all_is = let v : vs ≡ all = cc in sym v ∙ sym (append-nil vs); count = refl; bytes = λ h. cc; good = λ i q. absurd (omega arith) }
   numbers_forth (suc m) n vs bs all rest l e =
       let f = field_at u s n in
       let x = value f bs in
-      let t = passed (inside f x) (read_numbers m u s (n + 1) (vs ++ x ∷ []) (drop f.width bs)) 4 all rest e in
+      let t = passed true (inside f x) 4 _ all rest e in
       took_more m n vs bs all rest (omega arith) t.0
       (numbers_forth m (n + 1) (vs ++ x ∷ []) (drop f.width bs) all rest (simp length-drop (omega arith)) t.1)
 
@@ -124,10 +113,10 @@ module _ (u : District) (s : Slot) (bs vs rest : List ℕ) where
   unfolding read_record
   tests t e =
       let e₀ = pick_yes (present u s) _ _ (read_numbers s.places u s 0 [] bs) t refl ∙ e in
-      let e₁ = past (ltb (length bs) 4) 1 _ vs rest e₀ in
-      let e₂ = passed (eqb (number_of (take 2 (drop 2 bs))) s.kind) _ 2 vs rest e₁.1 in
-      let e₃ = passed (eqb (number_of (take 2 bs)) (size u s)) _ 3 vs rest e₂.1 in
-      let e₄ = past (ltb (length bs - 4) (size u s)) 1 _ vs rest e₃.1 in
+      let e₁ = passed false (ltb (length bs) 4) 1 _ vs rest e₀ in
+      let e₂ = passed true (eqb (number_of (take 2 (drop 2 bs))) s.kind) 2 _ vs rest e₁.1 in
+      let e₃ = passed true (eqb (number_of (take 2 bs)) (size u s)) 3 _ vs rest e₂.1 in
+      let e₄ = passed false (ltb (length bs - 4) (size u s)) 1 _ vs rest e₃.1 in
       (eqb-true _ _ e₂.0, eqb-true _ _ e₃.0, ltb-false _ _ e₄.0, ltb-false _ _ e₁.0, e₄.1)
 
   -- the first four bytes are the header
@@ -227,13 +216,13 @@ module _ (form : ℕ) (f : Form form) where
   records_forth d zero n u [] rest e l q =
       let z : n ≡ file_records = omega arith in
       let a : length u ≡ district_places = rw z at l in
-      let v : u ≡ d = found_values u [] d rest q in
-      record { none = sym (found_rest u [] d rest q); front = rw z (take_all district_places d (omega (arith, ap length v)) ∙ sym v); all_of = omega (arith, ap length v); bytes = λ h. refl; good = λ q i x y w. absurd (omega arith) }
-  records_forth d zero n u (b ∷ bs) rest e l q = absurd (never 5 d rest q)
+      let v : u ≡ d = cc in
+      record { none = cc; front = rw z (take_all district_places d (omega (arith, ap length v)) ∙ sym v); all_of = omega (arith, ap length v); bytes = λ h. refl; good = λ q i x y w. absurd (omega arith) }
+  records_forth d zero n u (b ∷ bs) rest e l q = absurd cc
   records_forth d (suc m) n u bs rest e l q = go (read_record u (slot_of form n) bs) refl (λ vs cs. records_forth d m (n + 1) (u ++ vs) cs rest (omega arith))
     where
       go : (o : Read) → read_record u (slot_of form n) bs ≡ o → ((vs cs : List ℕ) → length (u ++ vs) ≡ start_of (n + 1) → read_records form m (n + 1) (u ++ vs) cs ≡ found d rest → TookAll form d m (n + 1) (u ++ vs) cs rest) → TookAll form d (suc m) n u bs rest
-      go (refused k) t ih = absurd (never k d rest (sym (records_refused form m n u bs k t) ∙ q))
+      go (refused k) t ih = absurd (cc (sym (records_refused form m n u bs k t) ∙ q))
       go (found vs cs) t ih =
           let k = record_forth u (slot_of form n) bs vs cs t in
           let c : length (u ++ vs) ≡ start_of (n + 1) = omega (arith, length-append u vs, start_next form n, k.count) in

@@ -1,18 +1,13 @@
 // Whole numbers of up to four bytes, low byte first.
-ghost use Rattle.std.specs.Prelude.{◌++◌, ◌≡◌, ◌+◌, ◌≤◌, length, take, drop};
+ghost use Rattle.std.specs.Prelude.{◌++◌, ◌≡◌, ◌+◌, ◌≤◌, length, drop};
 ghost use Rattle.base.specs.Bytes.{bytes_of, number_of};
 
-// The number in the `width` bytes from `at`. A place and a width, since it is public as it is.
-pub fn number(file: &[u8], at: usize, width: usize) -> usize
-    requires { (width ≤ 4) × (at + width ≤ length file.now) }
-    ensures { result ≡ number_of (take width (drop at file.now)) }
+// The number that so many bytes say. Not by `from_le_bytes`: it takes eight, which would have to be filled first.
+pub fn number(bytes: &[u8]) -> usize
+    requires { length bytes.now ≤ 4 }
+    ensures { result ≡ number_of bytes.now }
 {
-    // `from_le_bytes` takes eight bytes, which would have to be filled first.
-    let mut value = 0;
-    for byte in file[at..at + width].iter().rev() {
-        value = value * 256 + usize::from(*byte);
-    }
-    value
+    bytes.iter().rev().fold(0, |n, b| n * 256 + usize::from(*b))
 }
 
 // The low `width` bytes of `value` go to the front of `out`.

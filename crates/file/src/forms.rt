@@ -16,7 +16,7 @@ pub fn form_in(file: &[u8]) -> Form
     if file.len() < 4 {
         return Form::Plain;
     }
-    if bytes::number(file, 2, 2) == Form::Leaders as usize {
+    if bytes::number(&file[2..4]) == Form::Leaders as usize {
         Form::Leaders
     } else {
         Form::Plain

@@ -30,7 +30,7 @@ pub fn load_as(form: Form, file: &[u8]) -> Result<District, Refusal>
     let mut d = [0usize; DISTRICT_PLACES];
     let mut rest = file;
     for n in 0..RECORDS {
-        rest = reading::read_record(&mut d, rest, records::nth(form, n))?;
+        rest = records::nth(form, n).read(&mut d, rest)?;
     }
     if !rest.is_empty() {
         return Err(Refusal::BytesFollow);

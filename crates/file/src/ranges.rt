@@ -10,18 +10,20 @@ use grammar::Form;
 use rules::District;
 use rules::records::RECORDS;
 
-// Whether each number of the record is in its range.
-fn numbers_in_range(d: &District, placed: Placed) -> bool
-    ensures { result ≡ numbers_in_range placed.slot.places d.now (slot_in placed.slot) 0 (drop placed.place d.now) }
-{
-    placed.numbers(d).iter().enumerate().all(|(i, number)| grammar::is_inside(
-        grammar::field_at(d, placed.slot, i),
-        *number,
-    ))
+impl Placed {
+    // Whether each number of the record is in its range.
+    fn is_in_range(self, d: &District) -> bool
+        ensures { result ≡ numbers_in_range self.slot.places d.now (slot_in self.slot) 0 (drop self.place d.now) }
+    {
+        self.numbers(d).iter().enumerate().all(|(i, number)| grammar::is_inside(
+            grammar::field_at(d, self.slot, i),
+            *number,
+        ))
+    }
 }
 
 pub fn records_in_range(d: &District) -> bool
     ensures { result ≡ records_in_range file_records d.now 0 d.now }
 {
-    (0..RECORDS).all(|n| numbers_in_range(d, records::nth(Form::Leaders, n)))
+    (0..RECORDS).all(|n| records::nth(Form::Leaders, n).is_in_range(d))
 }

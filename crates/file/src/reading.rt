@@ -21,51 +21,50 @@ pub fn payload(d: &District, slot: Slot) -> usize
         .sum()
 }
 
-// The numbers of the record, to their places of the district.
-fn read_numbers<'a>(d: &mut District, file: &'a [u8], placed: Placed) -> Result<&'a [u8], Refusal>
-    requires { size (take placed.place d.old) (slot_in placed.slot) ≤ length file.now }
-    ensures { let read = read_numbers placed.slot.places (take placed.place d.old) (slot_in placed.slot) 0 [] file.now in MatchResult result (λ rest. Finds read placed.place placed.slot.places d.old d.new rest.now) (λ refusal. read ≡ refused (refusal_number refusal)) }
-{
-    let mut rest = file;
-    // No iterator over the district, which is read while it is written.
-    for i in 0..placed.slot.places {
-        let f = grammar::field_at(d, placed.slot, i);
-        let x = bytes::number(rest, 0, f.width);
-        if !grammar::is_inside(f, x) {
-            return Err(Refusal::OutOfRange);
+impl Placed {
+    // The numbers of the record, to their places of the district.
+    fn read_numbers<'a>(self, d: &mut District, file: &'a [u8]) -> Result<&'a [u8], Refusal>
+        requires { size (take self.place d.old) (slot_in self.slot) ≤ length file.now }
+        ensures { let read = read_numbers self.slot.places (take self.place d.old) (slot_in self.slot) 0 [] file.now in MatchResult result (λ rest. Finds read self.place self.slot.places d.old d.new rest.now) (λ refusal. read ≡ refused (refusal_number refusal)) }
+    {
+        let mut rest = file;
+        // No iterator over the district, which is read while it is written.
+        for i in 0..self.slot.places {
+            let f = grammar::field_at(d, self.slot, i);
+            let (number, next) = rest.split_at(f.width);
+            let x = bytes::number(number);
+            if !grammar::is_inside(f, x) {
+                return Err(Refusal::OutOfRange);
+            }
+            d[self.place + i] = x;
+            rest = next;
         }
-        d[placed.place + i] = x;
-        rest = rest.split_at(f.width).1;
+        Ok(rest)
     }
-    Ok(rest)
-}
 
-// The record that stands first, where the district has it.
-pub fn read_record<'a>(
-    d: &mut District,
-    file: &'a [u8],
-    placed: Placed,
-) -> Result<&'a [u8], Refusal>
-    ensures { let read = read_record (take placed.place d.old) (slot_in placed.slot) file.now in MatchResult result (λ rest. Finds read placed.place placed.slot.places d.old d.new rest.now) (λ refusal. read ≡ refused (refusal_number refusal)) }
-{
-    if !grammar::is_present(d, placed.slot) {
-        return read_numbers(d, file, placed);
+    // The record that stands first, where the district has it.
+    pub fn read<'a>(self, d: &mut District, file: &'a [u8]) -> Result<&'a [u8], Refusal>
+        ensures { let read = read_record (take self.place d.old) (slot_in self.slot) file.now in MatchResult result (λ rest. Finds read self.place self.slot.places d.old d.new rest.now) (λ refusal. read ≡ refused (refusal_number refusal)) }
+    {
+        if !grammar::is_present(d, self.slot) {
+            return self.read_numbers(d, file);
+        }
+        let Some((header, body)) = file.split_at_checked(4) else {
+            return Err(Refusal::CutShort);
+        };
+        let due = self.slot.kind_number();
+        let size = payload(d, self.slot);
+        let length = bytes::number(&header[..2]);
+        let kind = bytes::number(&header[2..]);
+        if kind != due {
+            return Err(Refusal::OtherKind);
+        }
+        if length != size {
+            return Err(Refusal::OtherLength);
+        }
+        if body.len() < size {
+            return Err(Refusal::CutShort);
+        }
+        self.read_numbers(d, body)
     }
-    let Some((header, body)) = file.split_at_checked(4) else {
-        return Err(Refusal::CutShort);
-    };
-    let due = placed.slot.kind_number();
-    let size = payload(d, placed.slot);
-    let length = bytes::number(header, 0, 2);
-    let kind = bytes::number(header, 2, 2);
-    if kind != due {
-        return Err(Refusal::OtherKind);
-    }
-    if length != size {
-        return Err(Refusal::OtherLength);
-    }
-    if body.len() < size {
-        return Err(Refusal::CutShort);
-    }
-    read_numbers(d, body, placed)
 }

@@ -11,7 +11,8 @@ use rules::District;
 use rules::places::*;
 use rules::records::*;
 
-// A record, and where its numbers start. What is read, written or tested of it stands with the readers, writers and tests.
+// A record, and where its numbers start. Its other methods, which read, write and test it, stand in `reading`, `writing` and
+// `ranges`.
 #[derive(Clone, Copy)]
 pub struct Placed {
     pub slot: Slot,

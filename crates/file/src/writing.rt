@@ -1,6 +1,7 @@
 // Writing a district's records. Each writer takes the tail of the buffer that follows what is written, and says how many
-// bytes it wrote. Its two clauses are those of base's `Put`.
+// bytes it wrote.
 ghost use Rattle.std.specs.Prelude.{◌++◌, ◌≡◌, ◌≤◌, length, drop};
+ghost use Rattle.base.specs.Text.{Put};
 ghost use Rattle.rules.specs.File.{header_bytes, number_bytes, record_bytes, encode_as};
 ghost use Rattle.grammar.specs.Slots.{form_number, slot_in};
 
@@ -10,62 +11,59 @@ use grammar::Form;
 use rules::District;
 use rules::records::RECORDS;
 
-// The length and the kind of the record, where the district has it.
-fn write_header(out: &mut [u8], d: &District, placed: Placed) -> usize
-    requires { length (header_bytes d.now (slot_in placed.slot)) ≤ length out.old }
-    ensures value { result ≡ length (header_bytes d.now (slot_in placed.slot)) }
-    ensures out_after { out.new ≡ header_bytes d.now (slot_in placed.slot) ++ drop (length (header_bytes d.now (slot_in placed.slot))) out.old }
-{
-    let slot = placed.slot;
-    if !grammar::is_present(d, slot) {
-        return 0;
+impl Placed {
+    // The length and the kind of the record, where the district has it.
+    fn write_header(self, out: &mut [u8], d: &District) -> usize
+        requires { length (header_bytes d.now (slot_in self.slot)) ≤ length out.old }
+        ensures { Put (header_bytes d.now (slot_in self.slot)) out.old out.new result }
+    {
+        let slot = self.slot;
+        if !grammar::is_present(d, slot) {
+            return 0;
+        }
+        bytes::put(out, 2, reading::payload(d, slot));
+        bytes::put(&mut out[2..], 2, slot.kind_number());
+        4
     }
-    bytes::put(out, 2, reading::payload(d, slot));
-    bytes::put(&mut out[2..], 2, slot.kind_number());
-    4
-}
 
-// The numbers of the record.
-fn write_numbers(out: &mut [u8], d: &District, placed: Placed) -> usize
-    requires { length (number_bytes placed.slot.places d.now (slot_in placed.slot) 0 placed.place) ≤ length out.old }
-    ensures value { result ≡ length (number_bytes placed.slot.places d.now (slot_in placed.slot) 0 placed.place) }
-    ensures out_after { out.new ≡ number_bytes placed.slot.places d.now (slot_in placed.slot) 0 placed.place ++ drop (length (number_bytes placed.slot.places d.now (slot_in placed.slot) 0 placed.place)) out.old }
-{
-    let mut at = 0;
-    for (i, value) in placed.numbers(d).iter().enumerate() {
-        let f = grammar::field_at(d, placed.slot, i);
-        bytes::put(&mut out[at..], f.width, *value);
-        at += f.width;
+    // The numbers of the record.
+    fn write_numbers(self, out: &mut [u8], d: &District) -> usize
+        requires { length (number_bytes self.slot.places d.now (slot_in self.slot) 0 self.place) ≤ length out.old }
+        ensures { Put (number_bytes self.slot.places d.now (slot_in self.slot) 0 self.place) out.old out.new result }
+    {
+        let mut at = 0;
+        for (i, value) in self.numbers(d).iter().enumerate() {
+            let f = grammar::field_at(d, self.slot, i);
+            bytes::put(&mut out[at..], f.width, *value);
+            at += f.width;
+        }
+        at
     }
-    at
-}
 
-fn write_record(out: &mut [u8], d: &District, placed: Placed) -> usize
-    requires { length (record_bytes d.now (slot_in placed.slot) placed.place) ≤ length out.old }
-    ensures value { result ≡ length (record_bytes d.now (slot_in placed.slot) placed.place) }
-    ensures out_after { out.new ≡ record_bytes d.now (slot_in placed.slot) placed.place ++ drop (length (record_bytes d.now (slot_in placed.slot) placed.place)) out.old }
-{
-    let header = write_header(out, d, placed);
-    header + write_numbers(&mut out[header..], d, placed)
-}
+    fn write(self, out: &mut [u8], d: &District) -> usize
+        requires { length (record_bytes d.now (slot_in self.slot) self.place) ≤ length out.old }
+        ensures { Put (record_bytes d.now (slot_in self.slot) self.place) out.old out.new result }
+    {
+        let header = self.write_header(out, d);
+        header + self.write_numbers(&mut out[header..], d)
+    }
 
-// How many bytes the record has.
-fn record_length(d: &District, placed: Placed) -> usize
-    ensures { result ≡ length (record_bytes d.now (slot_in placed.slot) placed.place) }
-{
-    if grammar::is_present(d, placed.slot) {
-        4 + reading::payload(d, placed.slot)
-    } else {
-        0
+    // How many bytes the record has.
+    fn length(self, d: &District) -> usize
+        ensures { result ≡ length (record_bytes d.now (slot_in self.slot) self.place) }
+    {
+        if grammar::is_present(d, self.slot) {
+            4 + reading::payload(d, self.slot)
+        } else {
+            0
+        }
     }
 }
 
 pub fn file_length(form: Form, d: &District) -> usize
     ensures { result ≡ length (encode_as (form_number form) d.now) }
 {
-    (0..RECORDS)
-        .map(|n| record_length(d, records::nth(form, n)))
-        .sum()
+    (0..RECORDS).map(|n| records::nth(form, n).length(d)).sum()
 }
 
 // Each record goes into what is left of the buffer: a loop, since the next one begins where this one ends.
@@ -75,6 +73,6 @@ pub fn write_file(out: &mut [u8], form: Form, d: &District)
 {
     let mut at = 0;
     for n in 0..RECORDS {
-        at += write_record(&mut out[at..], d, records::nth(form, n));
+        at += records::nth(form, n).write(&mut out[at..], d);
     }
 }

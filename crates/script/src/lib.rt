@@ -42,7 +42,7 @@ fn number(call: &[u8], at: usize) -> usize
     requires { at + 4 ≤ length call.now }
     ensures { result ≡ number_at at call.now }
 {
-    file::bytes::number(call, at, 4)
+    file::bytes::number(&call[at..at + 4])
 }
 
 // The command of a call, from its kind and its numbers.

@@ -64,7 +64,7 @@ pub loop-n-preserved : goal.loop-n-preserved
 loop-n-preserved c =
     let l = c.loop-n in
     let p = c.nth.result in
-    (l.invariant.0 ∙ took (form_number c.args.form) l.n p.place (slot_in p.slot) l.d l.rest.now (omega arith) c.nth.ensures.slot c.nth.ensures.place c.read_record.new.d c.in_ok-rest.rest.now c.in_ok-rest.ensures, c.read_record.array_long)
+    (l.invariant.0 ∙ took (form_number c.args.form) l.n p.place (slot_in p.slot) l.d l.rest.now (omega arith) c.nth.ensures.slot c.nth.ensures.place c.read.new.d c.in_ok-rest.rest.now c.in_ok-rest.ensures, c.read.array_long)
 
 pub returns-in_err-rest-clause-refusal : goal.returns-in_err-rest-clause-refusal
 returns-in_err-rest-clause-refusal c =

@@ -1,4 +1,4 @@
--- `numbers_in_range` meets its contract: the numbers are tested in their order.
+-- `is_in_range` meets its contract: the numbers are tested in their order.
 use Rattle.std.proofs.Common.{ℕ, zero, suc, ◌+◌, ◌≤◌, ◌≡◌, Bool, List, [], ◌∷◌, refl, ◌∙◌, length, take, drop, length-drop, arith, rules, tests}
 use Rattle.std.specs.Iterator.Adapters.{enumerate_source}
 use Rattle.std.specs.List.{enumerate_from, list_all}
@@ -9,7 +9,7 @@ use Rattle.rules.specs.District.{District, district_places}
 use Rattle.rules.specs.File.{numbers_in_range}
 use Rattle.rules.specs.Format.{inside, field_at, Slot}
 use Rattle.grammar.specs.Slots.{slot_in}
-use Rattle.file.proofs.ranges.numbers_in_range.Goals as goal
+use Rattle.file.proofs.records.Placed.is_in_range.Goals as goal
 
 module _ (d : District) (s : Slot) where
   abbrev fits : ℕ × ℕ → Bool
@@ -24,7 +24,7 @@ module _ (d : District) (s : Slot) where
 pub returns : goal.returns
 returns c =
     let d = c.args.d.now in
-    let p = c.args.placed in
+    let p = c.args.self in
     let s = slot_in p.slot in
     let all : length d ≡ district_places = search rules in
     let room : p.slot.places ≤ length (drop p.place d) = simp length-drop (omega (arith, p.ready.room)) in

@@ -1,4 +1,4 @@
--- `read_record` meets its contract: the tests that led to each answer say which case of the definition holds.
+-- `read` meets its contract: the tests that led to each answer say which case of the definition holds.
 use Prim.Native.Nat.{ℕ, ◌≤◌}
 use mathlib.Core.Path.{◌≡◌, sym, ap, ◌∙◌}
 use mathlib.Core.Bool.{true, false}
@@ -7,71 +7,72 @@ use native.Mathlib.Omega.{arith}
 use lib.ListN.{length, take, drop}
 use lib.Seq.{take-take}
 use Rattle.std.proofs.lemmas.List.{drop-take}
+use Rattle.base.proofs.Buffers.{whole_tail}
 use Rattle.base.specs.Bytes.{number_of}
 use Rattle.rules.specs.File.{size, kind_in}
 use Rattle.rules.specs.Format.{present}
 use Rattle.grammar.specs.Slots.{slot_in}
 use Rattle.file.proofs.Steps.{record_none, record_short, record_other, record_unlike, record_cut, record_there, widths_none, widths_take}
-use Rattle.file.proofs.reading.read_record.Goals as goal
-use Rattle.file.proofs.reading.read_record.Goals.{After-number-kind, Then-not-is_present, Else-not-is_present}
+use Rattle.file.proofs.records.Placed.read.Goals as goal
+use Rattle.file.proofs.records.Placed.read.Goals.{After-number-kind, Then-not-is_present, Else-not-is_present}
 
 -- what each test and each number shows
-none : (c : Then-not-is_present) → let p = c.args.placed in present (take p.place c.args.d.now) (slot_in p.slot) ≡ false
-none c = c.args.placed.ready.here c.args.d.now ∙ sym c.is_present.ensures ∙ c.if-not-is_present.true
+none : (c : Then-not-is_present) → let p = c.args.self in present (take p.place c.args.d.now) (slot_in p.slot) ≡ false
+none c = c.args.self.ready.here c.args.d.now ∙ sym c.is_present.ensures ∙ c.if-not-is_present.true
 
-there : (c : Else-not-is_present) → let p = c.args.placed in present (take p.place c.args.d.now) (slot_in p.slot) ≡ true
-there c = c.args.placed.ready.here c.args.d.now ∙ sym c.is_present.ensures ∙ c.if-not-is_present.false
+there : (c : Else-not-is_present) → let p = c.args.self in present (take p.place c.args.d.now) (slot_in p.slot) ≡ true
+there c = c.args.self.ready.here c.args.d.now ∙ sym c.is_present.ensures ∙ c.if-not-is_present.false
 
-sized : (c : After-number-kind) → let p = c.args.placed in c.payload-size.result ≡ size (take p.place c.args.d.now) (slot_in p.slot)
+sized : (c : After-number-kind) → let p = c.args.self in c.payload-size.result ≡ size (take p.place c.args.d.now) (slot_in p.slot)
 sized c =
-    let p = c.args.placed in
+    let p = c.args.self in
     c.payload-size.ensures ∙ sym (widths_take p.ready c.args.d.now p.slot.places 0 (omega arith))
 
 len : (c : After-number-kind) → c.number-length.result ≡ number_of (take 2 c.args.file.now)
 len c = c.number-length.ensures ∙ ap (λ (l : List ℕ). number_of (take 2 l)) c.in-Some.ensures.cases.1 ∙ ap number_of (take-take 2 4 c.args.file.now (omega arith))
 
 kind : (c : After-number-kind) → c.number-kind.result ≡ kind_in c.args.file.now
-kind c = c.number-kind.ensures ∙ ap (λ (l : List ℕ). number_of (take 2 (drop 2 l))) c.in-Some.ensures.cases.1 ∙ ap (λ (l : List ℕ). number_of (take 2 l)) (drop-take 2 2 c.args.file.now) ∙ ap number_of (take-take 2 2 (drop 2 c.args.file.now) (omega arith))
+kind c = c.number-kind.ensures ∙ ap number_of (whole_tail c.in-Some.header.now 2) ∙ ap (λ (l : List ℕ). number_of (drop 2 l)) c.in-Some.ensures.cases.1 ∙ ap number_of (drop-take 2 2 c.args.file.now)
 
 long : (c : After-number-kind) → 4 ≤ length c.args.file.now
 long c = c.in-Some.ensures.cases.0
 
-due : (c : After-number-kind) → c.number-kind.result ≡ c.kind_number-due.result → kind_in c.args.file.now ≡ (slot_in c.args.placed.slot).kind
+due : (c : After-number-kind) → c.number-kind.result ≡ c.kind_number-due.result → kind_in c.args.file.now ≡ (slot_in c.args.self.slot).kind
 due c e = sym (kind c) ∙ e ∙ c.kind_number-due.ensures
 
-full : (c : After-number-kind) → c.number-length.result ≡ c.payload-size.result → let p = c.args.placed in number_of (take 2 c.args.file.now) ≡ size (take p.place c.args.d.now) (slot_in p.slot)
+full : (c : After-number-kind) → c.number-length.result ≡ c.payload-size.result → let p = c.args.self in number_of (take 2 c.args.file.now) ≡ size (take p.place c.args.d.now) (slot_in p.slot)
 full c e = sym (len c) ∙ e ∙ sized c
 
 pub read_numbers-requires : goal.read_numbers-requires
 read_numbers-requires c =
-    let p = c.args.placed in
+    let p = c.args.self in
     omega (arith, widths_none p.slot.places (take p.place c.args.d.now) (slot_in p.slot) 0 (none (goal.at.read_numbers-requires c).Then-not-is_present))
 
 pub returns-then-not-is_present : goal.returns-then-not-is_present
 returns-then-not-is_present c =
-    let p = c.args.placed in
+    let p = c.args.self in
     rw (record_none (take p.place c.args.d.now) (slot_in p.slot) c.args.file.now (none (goal.at.returns-then-not-is_present c).Then-not-is_present)) c.read_numbers.ensures
 
 pub returns-in_default : goal.returns-in_default
 returns-in_default c =
-    let p = c.args.placed in
+    let p = c.args.self in
     record_short (take p.place c.args.d.now) (slot_in p.slot) c.args.file.now (there (goal.at.returns-in_default c).Else-not-is_present) c.in_default.ensures.cases
 
 pub returns-then-kind-due : goal.returns-then-kind-due
 returns-then-kind-due c =
-    let p = c.args.placed in
+    let p = c.args.self in
     let at = goal.at.returns-then-kind-due c in
     record_other (take p.place c.args.d.now) (slot_in p.slot) c.args.file.now (there at.Else-not-is_present) (long at.After-number-kind) (λ q. c.if-kind-due.true (kind at.After-number-kind ∙ q ∙ sym c.kind_number-due.ensures))
 
 pub returns-then-length-size : goal.returns-then-length-size
 returns-then-length-size c =
-    let p = c.args.placed in
+    let p = c.args.self in
     let at = goal.at.returns-then-length-size c in
     record_unlike (take p.place c.args.d.now) (slot_in p.slot) c.args.file.now (there at.Else-not-is_present) (long at.After-number-kind) (due at.After-number-kind c.if-kind-due.false) (λ q. c.if-length-size.true (len at.After-number-kind ∙ q ∙ sym (sized at.After-number-kind)))
 
 pub returns-then-body-size : goal.returns-then-body-size
 returns-then-body-size c =
-    let p = c.args.placed in
+    let p = c.args.self in
     let at = goal.at.returns-then-body-size c in
     record_cut (take p.place c.args.d.now) (slot_in p.slot) c.args.file.now (there at.Else-not-is_present) (long at.After-number-kind) (due at.After-number-kind c.if-kind-due.false) (full at.After-number-kind c.if-length-size.false) (omega (arith, sized at.After-number-kind, c.in-Some.ensures.cases.4))
 
@@ -80,7 +81,7 @@ read_numbers-requires-2 c = omega (arith, sized (goal.at.read_numbers-requires-2
 
 pub returns : goal.returns
 returns c =
-    let p = c.args.placed in
+    let p = c.args.self in
     let at = goal.at.returns c in
     let file = c.args.file.now in
     let read = record_there (take p.place c.args.d.now) (slot_in p.slot) file (there at.Else-not-is_present) (long at.After-number-kind) (due at.After-number-kind c.if-kind-due.false) (full at.After-number-kind c.if-length-size.false) (omega (arith, sized at.After-number-kind, c.in-Some.ensures.cases.4)) in
