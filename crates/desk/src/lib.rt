@@ -36,7 +36,7 @@ pub fn fresh() -> Desk
 {
     Desk {
         station: station::fresh(),
-        queues: queues::fresh(),
+        queues: Queues::default(),
     }
 }
 

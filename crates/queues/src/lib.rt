@@ -21,14 +21,16 @@ pub struct Queues {
     pub turn: Console,
 }
 
-// Before the first arrival; console 1 is first. No Default: it would say the same clause and the same body in more lines.
+// Before the first arrival; console 1 is first.
 #[tactic(auto, unfolding(rules::specs::Desks::fresh_queues))]
-pub fn fresh() -> Queues
-    ensures { queues_in result ≡ fresh_queues }
-{
-    Queues {
-        waiting: array::from_fn(|_| ArrayVec::new()),
-        turn: Console::One,
+impl Default for Queues {
+    ghost is_default = { λ q. queues_in q ≡ fresh_queues };
+
+    fn default() -> Queues {
+        Queues {
+            waiting: array::from_fn(|_| ArrayVec::new()),
+            turn: Console::One,
+        }
     }
 }
 
@@ -61,8 +63,8 @@ fn round_from(console: Console) -> [Console; CONSOLES]
     [console, second, third, next_to(third)]
 }
 
-// ---- the calls: functions over the queues that are lent, as the rules state them and every layer above has them (station, desk),
-// so not methods
+// ---- the calls: functions over the queues that are lent, as the rules state them and the layer above has them (desk), so not
+// methods
 
 // An edit arrives at the console of number `n`. Whose edit it is is not looked at. The value is 0 always: a call of the rules
 // answers a value, 0 where it has none, and the answers to a list of events are of one type.

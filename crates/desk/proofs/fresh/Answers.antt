@@ -13,4 +13,4 @@ use Rattle.desk.proofs.fresh.Goals as goal
 
 pub returns : goal.returns
 unfolding fresh_desk
-returns c = record { start = record { station = c.fresh.ensures.start; queues = c.fresh-2.ensures }; calls = every_call; arrivals = every_arrival; steps = every_step; order = once_in_order; served = nobody_starves; time = carried_in_time; runs = every_run; claim = every_desk; each = each_office_served }
+returns c = record { start = record { station = c.fresh.ensures.start; queues = c.default.ensures }; calls = every_call; arrivals = every_arrival; steps = every_step; order = once_in_order; served = nobody_starves; time = carried_in_time; runs = every_run; claim = every_desk; each = each_office_served }
