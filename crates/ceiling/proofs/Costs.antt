@@ -7,11 +7,9 @@ use native.Mathlib.Nat.{mul-le-mul, le_trans, sub-le, max-eq_left, min-eq_right,
 use native.Mathlib.Omega.{arith}
 use borrow.Author.Tests.{lt-ltb, le-ltb, eqb-true, eqb-false}
 use lib.Dec.{ltb, eqb}
-use native.Mathlib.Numerals.{add-one}
 use lib.ListN.{get_or, length, take, set, length-set}
 use lib.Seq.{get_or-set_same, get_or-set_other}
 use Rattle.std.specs.List.{sum as list_sum}
-use Rattle.std.proofs.lemmas.List.Sums.{sum_by_more}
 use Rattle.base.specs.Choice.{pick}
 use Rattle.base.specs.Over.{sum, most}
 use Rattle.base.proofs.Choice.{leb_same}
@@ -22,6 +20,7 @@ use Rattle.rules.specs.Ceiling.{price_at, down_share, cost_by, cost, net, margin
 use Rattle.laws.proofs.Give.{given, kept}
 use Rattle.tables.specs.Arrays.{entry, use_entry, entries}
 use Rattle.tables.specs.declared.Size.{Size}
+use Rattle.tables.proofs.Arrays.{front_sum}
 use Rattle.ceiling.specs.declared.candidates.Candidates.{Candidates}
 use Rattle.ceiling.specs.declared.candidates.NewPrice.{NewPrice}
 use Rattle.ceiling.specs.Prices.{In, Sized, priced_table, Prices, Costs}
@@ -53,11 +52,7 @@ prices_small {p} prices n = sum_bound n (2 ^ 41) (price_at p) (λ k l h. omega (
 
 -- the same sum of a list
 pub prices_sum : (p : List ℕ) (n : ℕ) → n ≤ length p → list_sum (take n p) ≡ sum n (price_at p)
-unfolding sum
-prices_sum p zero h = refl
-prices_sum p (suc n) h =
-    let at : suc n - 1 ≡ n = omega arith in
-    rw add-one at (sum_by_more (λ (x : ℕ). x) p n 0 (omega arith)) ∙ rw (prices_sum p n (omega arith), at)
+prices_sum p n h = front_sum (λ x. x) p 0 (price_at p) n h (λ k l. let at : k + 1 - 1 ≡ k = omega arith in rw at refl)
 
 pub list_small : {p : List ℕ} → Prices p → (n : ℕ) → n ≤ most_resources → list_sum (take n p) ≤ n * 2 ^ 41
 list_small {p} prices n few = omega (arith, prices_sum p n (omega (arith, prices.places)), prices_small prices n)

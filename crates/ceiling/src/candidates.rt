@@ -3,8 +3,7 @@ ghost use Rattle.std.specs.Prelude.{◌≡◌, ◌+◌, ◌*◌, ◌-◌, ◌≤
 ghost use Rattle.ceiling.specs.Prices.{Sized};
 
 use rules::places::MOST_RESOURCES;
-use tables::rows::entry;
-use tables::{ENTRIES, Size, USE_ENTRIES, greatest};
+use tables::{ENTRIES, Size, USE_ENTRIES, entry, greatest, use_entry};
 
 #[derive(Clone, Copy)]
 pub(crate) struct Candidates<'a> {
@@ -62,7 +61,7 @@ impl Candidates<'_> {
         ensures { result ≡ cost (priced_in self.entry) (repriced prices.now new) i j }
     {
         let r = new.resource;
-        let share = self.downs[MOST_RESOURCES * entry(i, j) + (r - 1)];
+        let share = self.downs[use_entry(i, j, r)];
         moved(present, share, prices[r - 1], new.price)
     }
 

@@ -11,8 +11,7 @@ ghost use Rattle.ceiling.specs.Views.{priced_in, repriced};
 
 use candidates::{Candidates, NewPrice, moved};
 use rules::places::MOST_RESOURCES;
-use tables::rows::entry;
-use tables::{ENTRIES, Size, USE_ENTRIES};
+use tables::{ENTRIES, Size, USE_ENTRIES, entry};
 
 mod candidates;
 

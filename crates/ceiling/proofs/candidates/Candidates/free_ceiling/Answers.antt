@@ -1,7 +1,6 @@
 -- `ceiling::Candidates::free_ceiling` meets its contract.
-use Rattle.std.proofs.Common.{rules, ◌+◌, ◌^◌, arith, ◌∙◌}
-use Rattle.std.proofs.lemmas.Iterator.{YieldsList-from_range, YieldsList-from_map}
-use Rattle.std.proofs.lemmas.Iterator.Consumers.{sum_from_yields_List, fits_from_yields_list}
+use Rattle.std.proofs.Common.{rules, ◌+◌, ◌^◌, arith}
+use Rattle.base.proofs.Ranges.{range_fits, range_total}
 use Rattle.rules.specs.Ceiling.{margin}
 use Rattle.ceiling.specs.Prices.{free}
 use Rattle.ceiling.specs.Views.{priced_in}
@@ -13,14 +12,13 @@ use Rattle.ceiling.proofs.candidates.Candidates.free_ceiling.Goals as goal
 pub sum-requires-clause-fits : goal.sum-requires-clause-fits
 sum-requires-clause-fits c =
     let t = c.args.self in
-    fits_from_yields_list c.map.result (2 ^ 64)
-    (YieldsList-from_map _ (λ k. margin (priced_in t) free (k + 1)) (YieldsList-from_range 0 t.size.segments t.size.segments c.map.ensures.source (omega arith)) c.map.ensures.closure (λ x r q k. search rules))
-    (omega (arith, range_sum t.size.segments (margin (priced_in t) free), margins_small t.sized free t.size.segments, t.sized.segments))
+    let n = t.size.segments in
+    let each = margin (priced_in t) free in
+    range_fits c.map.result (λ k. each (k + 1)) n (range_sum n each) c.map.ensures.source c.map.ensures.closure (λ x r q k. search rules) (2 ^ 64) (omega (arith, margins_small t.sized free n, t.sized.segments))
 
 pub returns : goal.returns
 returns c =
     let t = c.args.self in
-    free_ceiling_is _ _ _
-    (sum_from_yields_List c.map.result c.sum.result c.sum.ensures.ran
-    (YieldsList-from_map _ (λ k. margin (priced_in t) free (k + 1)) (YieldsList-from_range 0 t.size.segments t.size.segments c.map.ensures.source (omega arith)) c.map.ensures.closure (λ x r q k. search rules))
-    ∙ range_sum t.size.segments (margin (priced_in t) free))
+    let n = t.size.segments in
+    let each = margin (priced_in t) free in
+    free_ceiling_is _ _ _ (range_total c.map.result (λ k. each (k + 1)) n (range_sum n each) c.map.ensures.source c.map.ensures.closure (λ x r q k. search rules) c.sum.result c.sum.ensures.ran)
