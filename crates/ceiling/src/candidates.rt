@@ -13,8 +13,9 @@ pub(crate) struct Candidates<'a> {
     pub ghost sized: { Sized size benefits.now downs.now },
 }
 
-// A new price for a resource. That the resource is the table's stays a clause: a ghost field can speak of the fields beside it
-// alone, and the table is another value.
+// A new price for a resource. That the resource is the table's stays a clause, and so does that a segment is: a ghost field can
+// speak of the fields beside it alone, and the table is another value. With table, prices and new price in one struct margin and
+// trial would ask instead that the costs, which are the search's, stand at the struct's prices.
 #[derive(Clone, Copy)]
 pub(crate) struct NewPrice {
     pub(crate) resource: usize,
@@ -65,7 +66,8 @@ impl Candidates<'_> {
         moved(present, share, prices[r - 1], new.price)
     }
 
-    // The costs of segment i's candidates at the new price. A loop over numbers, as in the search's margin.
+    // The costs of segment i's candidates at the new price. A loop over numbers, as in the search's margin: over the segment's part
+    // of the costs, zipped with that of the benefits, it would still count j, by which cost_at finds the share.
     fn reprice_segment(
         self,
         prices: &[u64; MOST_RESOURCES],
@@ -86,7 +88,7 @@ impl Candidates<'_> {
         }
     }
 
-    // The same of all segments.
+    // The same of all segments. A loop, as each call changes the costs that the next one is lent.
     pub(crate) fn reprice(
         self,
         prices: &[u64; MOST_RESOURCES],

@@ -38,7 +38,8 @@ impl Search<'_> {
 
     // The margin of segment i at the new price. A strategy whose benefit is no more than what the best so far leaves is passed
     // over, and so is one that is no candidate. A loop over numbers: a zip would cut the segment's part out of three arrays,
-    // and 16 times as much of the shares.
+    // and 16 times as much of the shares. As a `fold` from 0 on, of the same speed, it was tried: its closure has this body and
+    // would state beside it what it takes and what it gives, for without that nothing is known of its answer.
     fn margin(&self, new: NewPrice, i: usize) -> u64
         requires le_r { new.resource ≤ self.now.table.size.resources }
         requires le_i { (1 ≤ i) × (i ≤ self.now.table.size.segments) }
@@ -58,8 +59,8 @@ impl Search<'_> {
         best
     }
 
-    // The ceiling at the new price, or the present one where that is lower: the sum ends where it reaches it,
-    // so it is a loop.
+    // The ceiling at the new price, or the present one where that is lower: the sum ends where it reaches it. A loop:
+    // `try_fold(total, |total, i| (total < ceiling).then(|| total + margin))` gives an Option, to be taken apart behind.
     fn trial(&self, new: NewPrice) -> u64
         requires { new.resource ≤ self.now.table.size.resources }
         ensures { result ≡ min (ceiling_at (priced_in self.now.table) (repriced self.now.prices new)) self.now.ceiling }
@@ -113,7 +114,8 @@ impl Search<'_> {
         self.try_price(NewPrice { resource: r, price });
     }
 
-    // A round of the search: each resource in order, from the prices that the one before it left.
+    // A round of the search: each resource in order, from the prices that the one before it left. A loop, since each step
+    // changes the search: a `fold` would hand it on from call to call.
     fn price_all(&mut self, step: u64)
         requires { Headroom step self.old.prices }
         ensures same_table { self.new.table ≡ self.old.table }
@@ -125,7 +127,8 @@ impl Search<'_> {
     }
 }
 
-// The ceiling of every table with these benefits and down-shares. Each round of the search goes on from the one before it.
+// The ceiling of every table with these benefits and down-shares. Each round of the search goes on from the one before it: a
+// loop, as a round is.
 pub fn ceiling_of(z: Size, benefits: &[u64; ENTRIES], downs: &[u64; USE_ENTRIES]) -> u64
     requires { Sized z benefits.now downs.now }
     ensures { (t : Table) → Priced t z benefits.now downs.now → result ≡ ceiling t }
