@@ -9,7 +9,7 @@ ghost use Rattle.command.specs.Reading.{is_space, number_in, first_number, after
 
 use rules::{Edit, Sent};
 
-// A longer line is no command, unless it is to be passed over.
+// A longer line is no command, unless it is a comment.
 pub const LONGEST_LINE: usize = 512;
 
 // It ends a word.
@@ -21,7 +21,7 @@ pub enum Command {
     // definition (command_in) has it. Inside, what is no command is None, and parse says this for it.
     Nothing,
     Unknown,
-    // The path is what `path` finds in its line.
+    // Without its path, which `path` finds in its line: a list's call, which `numbered` reads, has none.
     Load,
     Export,
     Alter(Edit),
@@ -193,10 +193,16 @@ fn read_arguments(bytes: &[u8], n: usize) -> Option<[usize; 4]>
 
 // What follows the first word and its blank.
 #[tactic(auto, unfolding(crate::specs::Reading::path_of))]
-pub fn path(line: &[u8]) -> &[u8]
+fn behind_word(line: &[u8]) -> &[u8]
     ensures { result.now ≡ path_of line.now }
 {
     text::drop(text::on_from(line, BLANK), 1)
+}
+
+pub fn path(line: &[u8]) -> &[u8]
+    ensures { result.now ≡ path_of line.now }
+{
+    behind_word(line)
 }
 
 #[tactic(auto, using(std::proofs::lemmas::Bool::Decides::nat_tests), unfolding(crate::specs::Reading::is_path))]
@@ -245,7 +251,8 @@ pub fn numbered(row: usize, numbers: [usize; 4]) -> Command
         .unwrap_or(Command::Unknown)
 }
 
-// The numbers behind the first word; a path has none, and an edit has them behind a word of its own.
+// The numbers behind the first word; a path has none, and an edit has them behind a word of its own. By a match: a closure in
+// place of `Takes` would be chosen by the same match, in `takes`, and no contract could say which it is.
 #[tactic(auto, using(crate::proofs::Reading::no_numbers), unfolding(crate::specs::Reading::taken))]
 fn take(takes: Takes, line: &[u8]) -> Option<[usize; 4]>
     requires { count_of takes ≤ 4 }
@@ -272,9 +279,9 @@ fn called(line: &[u8]) -> Option<Command>
 fn queue(line: &[u8]) -> Option<Command>
     ensures { unwrap_or result Command.Unknown ≡ queued_in line.now }
 {
-    let rest = path(line);
+    let rest = behind_word(line);
     let console = read_number(text::up_to(rest, BLANK))?;
-    match called(path(rest))? {
+    match called(behind_word(rest))? {
         Command::Alter(edit) => Some(Command::Queue(console, edit)),
         _ => None,
     }

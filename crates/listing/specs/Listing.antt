@@ -87,7 +87,7 @@ abbrev pub stepped_in : Option (Console × Result ℕ Refusal) → List ℕ
 stepped_in None = stepped 0 (Accepted 0)
 stepped_in (Some s) = stepped (console_number s.0) (answer_in s.1)
 
--- of a load, with the programme
+-- of a call, with the unit's programme where it is accepted
 unfoldable pub planned : Answer → Unit → List ℕ
 planned (Accepted value) u = shown u
 planned (Refused n) u = refusal n

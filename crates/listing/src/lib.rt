@@ -191,7 +191,7 @@ pub fn put_stepped(out: &mut [u8], stepped: Option<(Console, Answer)>) -> usize
     }
 }
 
-// Of a load, with the programme.
+// Of a call, with the unit's programme where it is accepted.
 #[tactic(auto, unfolding(crate::specs::Listing::planned))]
 pub fn put_planned(out: &mut [u8], answer: Answer, u: &Unit) -> usize
     requires { longest_listing ≤ length out.old }

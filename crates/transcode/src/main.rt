@@ -42,11 +42,12 @@ fn put_district(out: &mut [u8], d: &District) -> usize
     ensures { Put (framed (encode d.now)) out.old out.new result }
 {
     let mut file = [0u8; LONGEST_FILE];
-    let n = file::export(d, &mut file).unwrap_or(0);
+    let n = file::export(d, &mut file).unwrap();
     put_framed(out, &file[..n])
 }
 
-// A cast, in a function for its contract. `From<Refusal> for u8` would stand in rules, where nothing else is a byte.
+// A cast, in a function for its contract. `u8::from(refusal)` would want a second From in rules, for this one call, and
+// `usize::from(refusal) as u8` a proof that the number fits.
 fn byte_of(refusal: Refusal) -> u8
     ensures { result ≡ refusal_number refusal }
 {
@@ -64,7 +65,8 @@ fn answer(frame: &[u8], out: &mut [u8]) -> usize
     }
 }
 
-// What is answered to each frame of the input goes to the output, until a read fails, if one does.
+// What is answered to each frame of the input goes to the output, until a read fails, if one does. One call: its
+// own is what a frame is answered, and the room for it.
 #[tactic(auto, using(base::proofs::Text::put_within))]
 fn run<R: Read, W: Write>(input: &mut R, output: &mut W) -> io::Result<Option<io::Error>>
     ensures { IfOk result (λ failed. Answers transcoded failed (R.remaining input.old) (R.remaining input.new) (W.contents output.old) (W.contents output.new)) }
