@@ -1,7 +1,7 @@
 -- What the code's answers stand for.
 use Rattle.std.specs.Prelude.{ℕ, ◌+◌, ◌≡◌, List}
 use Rattle.base.specs.Over.{listed}
-use Rattle.rules.specs.Deck.{rows_before_counts, rows_before_segment, counts_in, segment_in}
+use Rattle.rules.specs.Deck.{no_counts, rows_before_counts, rows_before_segment, counts_in, segment_in}
 use Rattle.rules.specs.Deck as Rules
 use Rattle.rules.specs.District.{most_segments, segments_of}
 use Rattle.rules.specs.Format.{plain_form}
@@ -17,12 +17,17 @@ most_lines = most_segments + 2
 -- the rows of the layout that stand before those of a card
 abbrev pub rows_before : Card → ℕ
 rows_before Counts = rows_before_counts
-rows_before Segment = rows_before_segment
+rows_before (Segment counts) = rows_before_segment
+
+-- the counts that its ranges go by; those of the counts themselves go by none
+abbrev pub counts_with : Card → List ℕ
+counts_with Counts = no_counts
+counts_with (Segment counts) = counts.now
 
 -- the kind of the file's record that a card's numbers are of
 abbrev pub kind_of : Card → ℕ
 kind_of Counts = plain_form
-kind_of Segment = 6
+kind_of (Segment counts) = 6
 
 -- a row of the layout
 abbrev pub columns_in : Card → Columns → Rules.Columns

@@ -10,7 +10,7 @@ ghost use Rattle.std.specs.Prelude.{◌≡◌, ◌+◌, ◌≤◌, ◌<◌, IfOk
 ghost use Rattle.base.specs.Over.{all};
 ghost use Rattle.rules.specs.Answers.{wrong_field, unless, refusal_in};
 ghost use Rattle.rules.specs.Deck.{per_card, only_inside, field_on, is_good, line_at, numbers_on, card_refusal, deck_refusal};
-ghost use Rattle.cards.specs.Cards.{most_lines, rows_before, Says};
+ghost use Rattle.cards.specs.Cards.{most_lines, counts_with, rows_before, Says};
 
 use arrayvec::ArrayVec;
 use columns::Card;
@@ -36,38 +36,38 @@ fn only_inside(range: Field, number: Option<usize>) -> Option<usize>
     number.filter(|value| grammar::is_inside(range, *value))
 }
 
-// The number of a card, counted from 0, in a deck with these counts. The counts go beside the card, since their own card is
-// read before there are any.
-fn read_field(counts: &Numbers, card: Card, line: &[u8], n: usize) -> Option<usize>
+// The number of a card, counted from 0.
+fn read_field(card: Card, line: &[u8], n: usize) -> Option<usize>
     requires { n < per_card }
-    ensures { result ≡ field_on counts.now line.now (rows_before card + n + 1) }
+    ensures { result ≡ field_on (counts_with card.entry) line.now (rows_before card.entry + n + 1) }
 {
     let c = columns::nth(card, n);
     let number = fields::read(c.notation, columns::cut(c, line));
-    only_inside(columns::range_of(counts, card, c), number)
+    only_inside(columns::range_of(card, c), number)
 }
 
 // The numbers of a card, each in its field.
-fn read_fields(counts: &Numbers, card: Card, line: &[u8]) -> Result<Numbers, Refusal>
-    ensures refused { refusal_in result ≡ unless (all per_card (is_good counts.now line.now (rows_before card))) wrong_field 0 }
-    ensures numbers { IfOk result (λ numbers. numbers ≡ numbers_on counts.now line.now (rows_before card)) }
+fn read_fields(card: Card, line: &[u8]) -> Result<Numbers, Refusal>
+    ensures refused { refusal_in result ≡ unless (all per_card (is_good (counts_with card.entry) line.now (rows_before card.entry))) wrong_field 0 }
+    ensures numbers { IfOk result (λ numbers. numbers ≡ numbers_on (counts_with card.entry) line.now (rows_before card.entry)) }
 {
-    // By a loop: the first number that is refused ends it.
+    // By a loop. Tried with `array::try_from_fn`: its clauses do not say that the closure which it calls is the one that it was
+    // given, so nothing is known of the card and the line in there.
     let mut numbers = [0; PER_CARD];
     for (n, number) in numbers.iter_mut().enumerate() {
-        *number = read_field(counts, card, line, n).ok_or(Refusal::WrongField)?;
+        *number = read_field(card, line, n).ok_or(Refusal::WrongField)?;
     }
     Ok(numbers)
 }
 
 // Of the card on a line: its length comes before its fields.
 #[tactic(auto, unfolding(rules::specs::Deck::card_refusal))]
-fn read_card(counts: &Numbers, card: Card, deck: &[u8], line: usize) -> Result<Numbers, Refusal>
+fn read_card(card: Card, deck: &[u8], line: usize) -> Result<Numbers, Refusal>
     requires { line ≤ most_lines }
-    ensures refused { refusal_in result ≡ card_refusal counts.now (line_at deck.now line) (rows_before card) }
-    ensures numbers { IfOk result (λ numbers. numbers ≡ numbers_on counts.now (line_at deck.now line) (rows_before card)) }
+    ensures refused { refusal_in result ≡ card_refusal (counts_with card.entry) (line_at deck.now line) (rows_before card.entry) }
+    ensures numbers { IfOk result (λ numbers. numbers ≡ numbers_on (counts_with card.entry) (line_at deck.now line) (rows_before card.entry)) }
 {
-    read_fields(counts, card, lines::nth(deck, line)?)
+    read_fields(card, lines::nth(deck, line)?)
 }
 
 // By the first card that is refused. What stands behind the segments is not read.
@@ -77,11 +77,11 @@ pub fn read(deck: &[u8]) -> Result<Deck, Refusal>
 {
     // The title.
     lines::nth(deck, 0)?;
-    let counts = read_card(&[0; PER_CARD], Card::Counts, deck, 1)?;
-    // By a loop, whose invariant says which cards are held: a `collect` would need the same of a closure that may refuse.
+    let counts = read_card(Card::Counts, deck, 1)?;
+    // By a loop: of a `collect` into a Result no clause says what it holds, and it asks for an allocator.
     let mut segments = ArrayVec::new();
     for i in 0..counts[SEGMENT_COUNT] {
-        segments.push(read_card(&counts, Card::Segment, deck, i + 2)?);
+        segments.push(read_card(Card::Segment(&counts), deck, i + 2)?);
     }
     Ok(Deck { counts, segments })
 }

@@ -8,4 +8,4 @@ pub returns-in-Segment : goal.returns-in-Segment
 unfolding range_of
 returns-in-Segment c =
     let a = c.args in
-    rw c.in-Segment.is (c.road_field.ensures a.counts.now (slot plain_form 6 most_places 0) refl c.requires)
+    rw c.in-Segment.is (c.road_field.ensures c.in-Segment.counts.now (slot plain_form 6 most_places 0) refl c.requires)
