@@ -1,7 +1,7 @@
 // Writing a district's records. Each writer takes the tail of the buffer that follows what is written, and says how many bytes
-// it wrote, which the two loops add up. A writer that holds the buffer with the count would spare them those two lines, and
-// take a type with its own `put`; each contract would then say what becomes of the bytes before the count and of those behind
-// it, where a tail has none before.
+// it wrote, which the two loops add up. A writer that holds the buffer with the count was tried. It spares them those lines, but
+// takes a type, its own `put`, and a clause of each function that the buffer is still the same one: nine lines more here, and a
+// hundred more of proof.
 ghost use Rattle.std.specs.Prelude.{◌++◌, ◌≡◌, ◌≤◌, length, drop};
 ghost use Rattle.base.specs.Text.{Put};
 ghost use Rattle.rules.specs.File.{header_bytes, number_bytes, record_bytes, encode_as};
