@@ -76,6 +76,7 @@ fn row_place(k: usize, t: usize) -> usize
 }
 
 // Bit j − 1 of the segment's bars, by shift and mask.
+#[tactic(auto, using(base::proofs::Bits::tested_by_shift), unfolding(rules::specs::District::barred_in, rules::specs::District::bars_of))]
 pub fn barred(d: &District, i: usize, j: usize) -> bool
     requires { Segment i × Strategy j }
     ensures { result ≡ barred_in d.now i j }
@@ -149,6 +150,7 @@ impl<'a> Ranged<'a> {
 
     // ---- limits
 
+    #[tactic(auto, unfolding(rules::specs::Rating::scaled_limit, rules::specs::District::limit_of))]
     pub fn scaled_limit(&self, r: usize) -> u64
         requires { Resource r }
         ensures { result ≡ scaled_limit self.now.district.now r }
@@ -255,6 +257,7 @@ impl<'a> Treatment<'a> {
         self.total_credits() / 20000
     }
 
+    #[tactic(auto, unfolding(rules::specs::Rating::area, rules::specs::District::length_of, rules::specs::District::width_of))]
     fn area(&self) -> u64
         ensures { result ≡ area self.now.ranged.district.now self.now.segment }
     {
@@ -271,6 +274,7 @@ impl<'a> Treatment<'a> {
 
     // ---- uses
 
+    #[tactic(auto, using(crate::proofs::Bounds::area_le, crate::proofs::Entries::usage_of), unfolding(rules::specs::District::requirement_of))]
     pub fn usage(&self, r: usize) -> u64
         requires { Resource r }
         ensures { result ≡ usage self.now.ranged.district.now self.now.segment self.now.strategy r }
@@ -341,6 +345,7 @@ impl<'a> Treatment<'a> {
         reaches(self.first_ratings(), required)
     }
 
+    #[tactic(auto, using(base::proofs::Choice::picks), unfolding(rules::specs::Rating::permitted))]
     fn permitted(&self) -> bool
         requires { self.now.segment ≤ segments_of self.now.ranged.district.now }
         ensures { result ≡ permitted self.now.ranged.district.now self.now.segment self.now.strategy }
@@ -426,6 +431,7 @@ impl<'a> Ranged<'a> {
     }
 
     // By `if`: `(r <= count).then(|| limit).unwrap_or(0)` makes an Option and takes it apart in one line.
+    #[tactic(auto, using(base::proofs::Choice::picks), unfolding(rules::specs::Table::limit_in))]
     pub fn limit_in(&self, r: usize) -> u64
         requires { Resource r }
         ensures { result ≡ limit_in self.now.district.now r }
@@ -440,6 +446,7 @@ impl<'a> Ranged<'a> {
     // ---- what a programme uses of resource r; the strategies that it gives may be any numbers
 
     // By segment i.
+    #[tactic(auto, unfolding(rules::specs::Phases::chosen_usage, rules::specs::Table::table_of))]
     pub fn chosen_usage(&self, c: &[usize; MOST_SEGMENTS], r: usize, i: usize) -> u64
         requires { Resource r × Segment i }
         ensures { result ≡ chosen_usage (table_of self.now.district.now) c.now r i }

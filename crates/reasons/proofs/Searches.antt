@@ -95,7 +95,8 @@ module _ {S F A : Type 0} (steps : S → Option ℕ → S → Type 0) {g : Mut F
       stops None p m = cc
       stops (Some x) p m = found y x ran.0 _ s ran.3.0 ran.2 e.runs ran.3.1 ran.4 p m ∙ first_listed h n
 
--- ---- the library's words for a reason that holds, and for the first of two, are the rules'
+-- ---- the library's words for a reason that holds, and for the first of two, are the rules': then_some is only, and option_or is or_else.
+-- A law for each, as the rules are read without the library's; both go on from what is known of the parts.
 
 pub given_by : (a : Reason) {x : Option Reason} {s t : Bool} → x ≡ then_some s a → s ≡ t → x ≡ only t a
 given_by a {t = true} e f = rw f at e
