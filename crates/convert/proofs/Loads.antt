@@ -23,18 +23,20 @@ turned_refused (suc n) new buffer some = refl
 -- ---- what is loaded, concluded
 
 module _ (file buffer : List ℕ) where
-  pub up_refused : (n : ℕ) → 1 ≤ n → n ≡ load_refusal_as plain_form file → record { answer = Refused n; buffer = buffer } ≡ up_of file buffer
-  unfolding up_of up_refusal
-  up_refused n h e = rw (← e) (turned_refused n (up_file file) buffer (λ z. omega arith))
+  -- what refuses the file comes first, whichever way it was to be turned
+  pub file_refused :
+      (n : ℕ) → 1 ≤ n
+      → (n ≡ load_refusal_as plain_form file → record { answer = Refused n; buffer = buffer } ≡ up_of file buffer)
+          × (n ≡ load_refusal_as leader_form file → record { answer = Refused n; buffer = buffer } ≡ down_of file buffer)
+  unfolding up_of up_refusal down_of down_refusal
+  file_refused zero h = absurd (omega arith)
+  file_refused (suc n) h =
+      let refused = λ (new : List ℕ). turned_refused (suc n) new buffer (λ z. omega arith) in
+      (λ e. rw (← e) (refused (up_file file)), λ e. rw (← e) (refused (down_file file)))
 
   pub up_turned : (d : District) (e : Export) → 0 ≡ load_refusal_as plain_form file → d ≡ district_as plain_form file → e ≡ exported_as leader_form d buffer → e ≡ up_of file buffer
   unfolding up_of up_refusal up_file turned_into
   up_turned d e z q h = rw (← z, ← q) h
-
-  pub down_refused : (n : ℕ) → 1 ≤ n → n ≡ load_refusal_as leader_form file → record { answer = Refused n; buffer = buffer } ≡ down_of file buffer
-  unfolding down_of down_refusal
-  down_refused (suc n) h e = rw (← e) (turned_refused (suc n) (down_file file) buffer (λ z. omega arith))
-  down_refused zero h e = absurd (omega arith)
 
   pub down_led : (d : District) → 0 ≡ load_refusal_as leader_form file → d ≡ district_as leader_form file → leaderless d ≡ false → record { answer = Refused leader_set; buffer = buffer } ≡ down_of file buffer
   unfolding down_of down_refusal

@@ -2,7 +2,7 @@
 use Rattle.std.proofs.lemmas.Result.{err_from_is_err_and}
 use Rattle.rules.specs.Answers.{refusal_number}
 use Rattle.rules.proofs.RefusalNumbers.{numbered}
-use Rattle.convert.proofs.Loads.{up_refused, up_turned}
+use Rattle.convert.proofs.Loads.{file_refused, up_turned}
 use Rattle.convert.proofs.up.Goals as goal
 
 pub returns-in_err-d-clause-same : goal.returns-in_err-d-clause-same
@@ -10,7 +10,7 @@ returns-in_err-d-clause-same c =
     let a = c.args in
     let g = c.in_err-d in
     let k = err_from_is_err_and c.from_residual.result c.from_residual.ensures.1 in
-    rw (k.1, k.2) (up_refused a.file.now a.out.now (refusal_number g.field-0.0) (numbered g.field-0.0) (rw g.was at c.load_as.ensures.refusal))
+    rw (k.1, k.2) ((file_refused a.file.now a.out.now (refusal_number g.field-0.0) (numbered g.field-0.0)).0 (rw g.was at c.load_as.ensures.refusal))
 
 pub returns-clause-same : goal.returns-clause-same
 returns-clause-same c =
