@@ -27,7 +27,7 @@ module _ (file buffer : List ℕ) where
   pub file_refused :
       (n : ℕ) → 1 ≤ n
       → (n ≡ load_refusal_as plain_form file → record { answer = Refused n; buffer = buffer } ≡ up_of file buffer)
-          × (n ≡ load_refusal_as leader_form file → record { answer = Refused n; buffer = buffer } ≡ down_of file buffer)
+      × (n ≡ load_refusal_as leader_form file → record { answer = Refused n; buffer = buffer } ≡ down_of file buffer)
   unfolding up_of up_refusal down_of down_refusal
   file_refused zero h = absurd (omega arith)
   file_refused (suc n) h =

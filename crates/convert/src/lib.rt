@@ -36,8 +36,8 @@ pub fn down(file: &[u8], out: &mut [u8]) -> Answer
 }
 
 // How much of the buffer is to be printed, where up or down left its answer: the new file, which stands there, or
-// the refusal. Tried with `unwrap_or_else`: that a buffer which the closure holds stays where it is not called did not close
-// as it stands.
+// the refusal. Tried with `unwrap_or_else`: its clause says nothing of a closure that is not called, and so nothing of the
+// buffer that it holds.
 #[tactic(auto, unfolding(crate::specs::Printed::Told))]
 pub fn put_answer(out: &mut [u8], answer: Answer) -> usize
     requires { longest_refusal ≤ length out.old }

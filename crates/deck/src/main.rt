@@ -17,8 +17,8 @@ use std::io::{Read, Write};
 // The most bytes of what is printed: the counts and a line for each segment, with numbers of up to 20 digits.
 const LONGEST_PRINTED: usize = 112 + 126 * MOST_SEGMENTS;
 
-// Each behind a blank, and the end of the line. `put_segments` has a loop of the same shape: one function for both would take
-// a closure that writes, and its clauses over what each call puts would be longer than the two loops.
+// Each behind a blank, and the end of the line. By a loop, as in `put_segments`: of what a chain's closure writes a proof knows
+// nothing. One function for both would take a closure that writes, with clauses on when it may be called and what it puts.
 fn put_numbers(out: &mut [u8], numbers: &Numbers) -> usize
     requires { length (numbers_line numbers.now) ≤ length out.old }
     ensures { Put (numbers_line numbers.now) out.old out.new result }

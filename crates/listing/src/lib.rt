@@ -87,7 +87,8 @@ fn put_segment_line(out: &mut [u8], segment: usize, strategy: usize) -> usize
     at + put_line(&mut out[at..], b" ", strategy)
 }
 
-// A line for each segment, by the strategies that they get.
+// A line for each segment, by the strategies that they get. By a loop: a fold's closure would write to the output, and of what
+// a chain's closure changes a proof knows nothing.
 fn put_segment_lines(out: &mut [u8], strategies: &[usize]) -> usize
     requires { length (segment_lines (length strategies.now) 1 strategies.now) ≤ length out.old }
     ensures { Put (segment_lines (length strategies.now) 1 strategies.now) out.old out.new result }

@@ -93,6 +93,7 @@ pub fn put_heading(out: &mut [u8]) -> usize
     )
 }
 
+// By a loop, as listing's put_segment_lines.
 pub fn put_row(out: &mut [u8], row: [Cell; COLUMNS]) -> usize
     requires { line_bytes ≤ length out.old }
     ensures { Put (line widths (texts row)) out.old out.new result }

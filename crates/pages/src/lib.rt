@@ -27,7 +27,7 @@ const OTHER_LINES: usize = 3;
 // The most bytes of a page.
 pub const LONGEST_PAGE: usize = LINE_BYTES * (MOST_SEGMENTS + OTHER_LINES);
 
-// The segments' lines. From 0, so that i is how many are written.
+// The segments' lines. From 0, so that i is how many are written; by a loop, as listing's put_segment_lines.
 fn put_segments(out: &mut [u8], sheet: &Sheet) -> usize
     requires { segments_of sheet.now.ranged.district.now * line_bytes ≤ length out.old }
     ensures { let d = sheet.now.ranged.district.now in Put (lines (listed (segments_of d) (segment_row d sheet.now.programme.now.strategies))) out.old out.new result }

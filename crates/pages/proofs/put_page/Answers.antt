@@ -9,7 +9,7 @@ use Rattle.pages.proofs.put_page.Goals as goal
 
 accepted : (r : Result ℕ Refusal) (n : ℕ) → answer_in r ≡ Accepted n → IsOk r
 accepted (Ok m) n e = refl
-accepted (Err refusal) n e = absurd (let z : ◌≡◌ {A = ℕ} 0 1 = cc in omega arith)
+accepted (Err refusal) n e = cc
 
 value : (r : Result ℕ Refusal) (m n : ℕ) → r ≡ Ok m → answer_in r ≡ Accepted n → m ≡ n
 value r m n f e = let g = rw f at e in cc

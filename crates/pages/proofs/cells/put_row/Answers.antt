@@ -31,7 +31,7 @@ none_left : (ws : List ℕ) (row : List Cell) → length ws ≡ length row → (
 none_left [] row e h = refl
 none_left (w ∷ ws) [] e h = absurd (omega arith)
 none_left (w ∷ ws) (x ∷ row) e (inl f) = f
-none_left (w ∷ ws) (x ∷ row) e (inr f) = absurd (let z : ◌≡◌ {A = ℕ} 0 1 = cc in omega arith)
+none_left (w ∷ ws) (x ∷ row) e (inr f) = cc
 
 end_next :
     (ws : List ℕ) (row : List Cell) {old whole out : List ℕ} {at : ℕ} → ws ≡ [] → Written old whole (line ws (texts row)) at out
