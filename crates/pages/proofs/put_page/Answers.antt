@@ -1,5 +1,5 @@
 -- `pages::put_page` meets its contract: a buffer for any page has room for this one.
-use Rattle.std.proofs.Common.{ℕ, ◌≡◌, refl, Result, Ok, Err, arith}
+use Rattle.std.proofs.Common.{ℕ, ◌≡◌, refl, Result, Ok, Err}
 use Rattle.std.specs.Result.{IsOk}
 use Rattle.rules.specs.Answers.{Accepted, answer_in}
 use Rattle.rules.specs.declared.refusals.Refusal.{Refusal}
