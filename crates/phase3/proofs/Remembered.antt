@@ -1,14 +1,14 @@
 -- Laws of what phase 3 remembers: a row that goes down still holds, and what it refuses is refused of every tight programme.
-use Prim.Native.Nat.{ℕ, zero, suc, ◌+◌, ◌-◌, ◌≤◌, ◌<◌, min}
+use Prim.Native.Nat.{ℕ, ◌+◌, ◌-◌, ◌^◌, ◌≤◌, ◌<◌, min}
 use mathlib.Core.Path.{◌≡◌, refl, sym, ap, ◌∙◌}
 use mathlib.Core.Bool.{Bool, true, false, not, true≢false}
-use mathlib.Core.List.{List, [], ◌∷◌}
+use mathlib.Core.List.{List}
 use Rattle.std.specs.Prelude.{Option, None, Some, MatchOption}
 use native.Mathlib.Omega.{arith}
 use borrow.Author.Count.{below_more}
 use borrow.Author.Tests.{lt-leb, leb-false, eqb-true, eqb-false}
 use lib.Dec.{eqb}
-use lib.ListN.{get_or, set, length, length-set}
+use lib.ListN.{get_or, length, length-set}
 use lib.Seq.{get_or-set_same, get_or-set_other}
 use Rattle.base.specs.Over.{all}
 use Rattle.base.proofs.All.{all_true, all_fails}
@@ -25,7 +25,6 @@ use Rattle.phase3.specs.Improve.{top, present}
 use Rattle.phase3.specs.declared.memory.Row.{Row}
 use Rattle.phase3.specs.Memory.{
   offset,
-  unreached,
   excess_of,
   lowered,
   IsShort,
@@ -291,9 +290,9 @@ module _ (t : Table) (leader : ℕ → ℕ) (c : List ℕ) (i k : ℕ) where
           let ey : y ≡ strategy_at c k = ap (λ (s : ℕ × ℕ). s.1) has in
           rw (ex, ey) (λ d q. all_passed d (record { tight = q; same = λ z. absurd (cc) }))
 
--- a row with unreached numbers
+-- a row with numbers that no slack reaches
 pub searching_start : {z : Size} {p u l c sums given : List ℕ} {row : Row} {i k : ℕ} → Setting z p u l c sums given i k → Limits l → length row.excesses ≡ most_resources
-    → row.holds_for ≡ Some (strategy_at c i, strategy_at c k) → ((r : ℕ) → 1 ≤ r → r ≤ z.resources → numbers row r ≡ unreached) → (leader : ℕ → ℕ) → Searching (tables z p u l) leader c i k row 0
+    → row.holds_for ≡ Some (strategy_at c i, strategy_at c k) → ((r : ℕ) → 1 ≤ r → r ≤ z.resources → numbers row r ≡ 2 ^ 50) → (leader : ℕ → ℕ) → Searching (tables z p u l) leader c i k row 0
 searching_start {z} {p} {u} {l} s limits wide fresh h leader =
     record {
       places = wide;

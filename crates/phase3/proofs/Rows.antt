@@ -5,8 +5,10 @@ use mathlib.Core.Bool.{Bool, true, false, ◌&&◌, true≢false}
 use mathlib.Core.List.{List, []}
 use Rattle.std.specs.Prelude.{Option, None, Some}
 use native.Mathlib.Omega.{arith}
-use borrow.Author.Tests.{ltb-true, eqb-true, eqb-false}
-use lib.Dec.{eqb}
+use mathlib.Core.Logic.{◌⊎◌, inl, inr}
+use borrow.Author.Tests.{ltb-true, leb-true, leb-false, eqb-true, eqb-false}
+use lib.Dec.{eqb, leb}
+use Rattle.base.specs.Choice.{pick}
 use lib.ListN.{get_or, set, length, replicate, length-replicate, length-set}
 use lib.Seq.{get_or-set_same, get_or-set_other}
 use Rattle.base.proofs.All.{all_at}
@@ -21,59 +23,98 @@ use Rattle.tables.specs.Arrays.{tables, Running}
 use Rattle.tables.proofs.Arrays.{limit_at_lem}
 use Rattle.tables.proofs.Moves.{places}
 use Rattle.phase3.specs.declared.memory.Row.{Row}
-use Rattle.phase3.specs.Memory.{row_of, same_strategies, Slacks, Holds, numbers, unused, Remembers, below}
+use Rattle.phase3.specs.Memory.{half, place, row_of, same_strategies, Slacks, Holds, numbers, unused, Remembers, below}
+
+-- ---- where rows stand
+
+abbrev Placed : ℕ → ℕ → ℕ × ℕ → Type 0
+Placed i k p = ((i ≤ half) × (p.0 ≡ i - 1) × (p.1 ≡ k - 1)) ⊎ ((half < i) × (p.0 ≡ most_segments - i) × (p.1 ≡ most_segments - k))
+
+placed : (i k : ℕ) → Placed i k (place i k)
+placed i k = go (leb i half) refl
+  where
+    go : (b : Bool) → leb i half ≡ b → Placed i k (pick b (i - 1, k - 1) (most_segments - i, most_segments - k))
+    go true e = inl (leb-true i half e, refl, refl)
+    go false e = inr (omega (arith, leb-false i half e), refl, refl)
+
+module _ (i k : ℕ) (low : 1 ≤ i) (above : i < k) (high : k ≤ most_segments) where
+  pub place_room : ((place i k).0 < half) × ((place i k).1 < most_segments)
+  place_room = go (placed i k)
+    where
+      go : Placed i k (place i k) → ((place i k).0 < half) × ((place i k).1 < most_segments)
+      go (inl h) = (omega (arith, h), omega (arith, h))
+      go (inr h) = (omega (arith, h), omega (arith, h))
+
+  place_one : (i₂ k₂ : ℕ) → 1 ≤ i₂ → i₂ < k₂ → k₂ ≤ most_segments → (place i₂ k₂).0 ≡ (place i k).0 → (place i₂ k₂).1 ≡ (place i k).1 → (i₂ ≡ i) × (k₂ ≡ k)
+  place_one i₂ k₂ low₂ above₂ high₂ first second = go (placed i k) (placed i₂ k₂)
+    where
+      go : Placed i k (place i k) → Placed i₂ k₂ (place i₂ k₂) → (i₂ ≡ i) × (k₂ ≡ k)
+      go (inl h) (inl g) = (omega (arith, h, g, first, second), omega (arith, h, g, first, second))
+      go (inl h) (inr g) = absurd (omega (arith, h, g, first, second))
+      go (inr h) (inl g) = absurd (omega (arith, h, g, first, second))
+      go (inr h) (inr g) = (omega (arith, h, g, first, second), omega (arith, h, g, first, second))
 
 -- rows that hold for none
 pub remembers_start : (t : Table) (leader : ℕ → ℕ) (row : Row) → row.holds_for ≡ None → t.segments ≤ most_segments
-    → Remembers t leader (replicate most_segments (replicate most_segments row))
+    → Remembers t leader (replicate half (replicate most_segments row))
 remembers_start t leader row none many =
-    let line : (i : ℕ) → i < most_segments → get_or (replicate most_segments (replicate most_segments row)) i [] ≡ replicate most_segments row =
-    λ i l. get_or-replicate most_segments i (replicate most_segments row) [] l in
+    let line : (i : ℕ) → i < half → get_or (replicate half (replicate most_segments row)) i [] ≡ replicate most_segments row =
+    λ i l. get_or-replicate half i (replicate most_segments row) [] l in
     record {
-      places = length-replicate most_segments (replicate most_segments row);
+      places = length-replicate half (replicate most_segments row);
       places_of = λ i l. rw (line i l) (length-replicate most_segments row);
       each = λ i k low above high x y m.
-          let z : (row_of (replicate most_segments (replicate most_segments row)) i k).holds_for ≡ None =
-          rw (line (i - 1) (omega (arith, many)), get_or-replicate most_segments (k - 1) row unused (omega (arith, many))) none in
+          let room = place_room i k low above (omega (arith, many)) in
+          let z : (row_of (replicate half (replicate most_segments row)) i k).holds_for ≡ None =
+          rw (line (place i k).0 room.0, get_or-replicate most_segments (place i k).1 row unused room.1) none in
           absurd (cc);
     }
 
 module _ {t : Table} {leader : ℕ → ℕ} {rows : List (List Row)} (holds : Remembers t leader rows) (many : t.segments ≤ most_segments) where
   -- the row of segments i and k is made anew, and holds
   module _ (i k : ℕ) (low : 1 ≤ i) (above : i < k) (high : k ≤ t.segments) (row : Row) (new : Holds t leader i k row) where
-    abbrev line : List Row
-    line = set (get_or rows (i - 1) []) (k - 1) row
+    abbrev n : ℕ
+    n = (place i k).0
 
-    pub remembers_set : Remembers t leader (set rows (i - 1) line)
+    abbrev m : ℕ
+    m = (place i k).1
+
+    abbrev line : List Row
+    line = set (get_or rows n []) m row
+
+    pub remembers_set : Remembers t leader (set rows n line)
     remembers_set =
         record {
-          places = length-set rows (i - 1) line ∙ holds.places;
-          places_of = λ j l. places_at j l (eqb j (i - 1)) refl;
-          each = λ i₂ k₂ low₂ above₂ high₂. go i₂ k₂ low₂ above₂ high₂ (eqb i₂ i) refl (eqb k₂ k) refl;
+          places = length-set rows n line ∙ holds.places;
+          places_of = λ j l. places_at j l (eqb j n) refl;
+          each = λ i₂ k₂ low₂ above₂ high₂. go i₂ k₂ low₂ above₂ high₂ (eqb (place i₂ k₂).0 n) refl (eqb (place i₂ k₂).1 m) refl;
         }
       where
-        first : i - 1 < length rows
-        first = omega (arith, holds.places, many)
+        room : (n < half) × (m < most_segments)
+        room = place_room i k low above (omega (arith, many))
 
-        second : k - 1 < length (get_or rows (i - 1) [])
-        second = omega (arith, holds.places_of (i - 1) (omega (arith, many)), many)
+        first : n < length rows
+        first = omega (arith, holds.places, room)
 
-        places_at : (j : ℕ) → j < most_segments → (b : Bool) → eqb j (i - 1) ≡ b → length (get_or (set rows (i - 1) line) j []) ≡ most_segments
-        places_at j l true e =
-            rw (eqb-true j (i - 1) e, get_or-set_same rows (i - 1) line [] first) (length-set (get_or rows (i - 1) []) (k - 1) row ∙ holds.places_of (i - 1) (omega (arith, many)))
-        places_at j l false e = rw (get_or-set_other rows (i - 1) j line [] (eqb-false j (i - 1) e)) (holds.places_of j l)
+        second : m < length (get_or rows n [])
+        second = omega (arith, holds.places_of n room.0, room)
 
-        go : (i₂ k₂ : ℕ) → 1 ≤ i₂ → i₂ < k₂ → k₂ ≤ t.segments → (b : Bool) → eqb i₂ i ≡ b → (d : Bool) → eqb k₂ k ≡ d → Holds t leader i₂ k₂ (row_of (set rows (i - 1) line) i₂ k₂)
+        places_at : (j : ℕ) → j < half → (b : Bool) → eqb j n ≡ b → length (get_or (set rows n line) j []) ≡ most_segments
+        places_at j l true e = rw (eqb-true j n e, get_or-set_same rows n line [] first) (length-set (get_or rows n []) m row ∙ holds.places_of n room.0)
+        places_at j l false e = rw (get_or-set_other rows n j line [] (eqb-false j n e)) (holds.places_of j l)
+
+        go : (i₂ k₂ : ℕ) → 1 ≤ i₂ → i₂ < k₂ → k₂ ≤ t.segments → (b : Bool) → eqb (place i₂ k₂).0 n ≡ b → (d : Bool) → eqb (place i₂ k₂).1 m ≡ d → Holds t leader i₂ k₂ (row_of (set rows n line) i₂ k₂)
         go i₂ k₂ low₂ above₂ high₂ true e true f =
-            rw (eqb-true i₂ i e, eqb-true k₂ k f, get_or-set_same rows (i - 1) line [] first, get_or-set_same (get_or rows (i - 1) []) (k - 1) row unused second) new
+            let en = eqb-true (place i₂ k₂).0 n e in
+            let em = eqb-true (place i₂ k₂).1 m f in
+            let one = place_one i k low above (omega (arith, many)) i₂ k₂ low₂ above₂ (omega (arith, many)) en em in
+            rw (en, em, get_or-set_same rows n line [] first, get_or-set_same (get_or rows n []) m row unused second, one.0, one.1) new
         go i₂ k₂ low₂ above₂ high₂ true e false f =
-            let ne = eqb-false k₂ k f in
-            let ei = eqb-true i₂ i e in
-            rw (ei, get_or-set_same rows (i - 1) line [] first, get_or-set_other (get_or rows (i - 1) []) (k - 1) (k₂ - 1) row unused (λ z. ne (omega arith)))
-            (rw ei at (holds.each i₂ k₂ low₂ above₂ high₂))
+            let en = eqb-true (place i₂ k₂).0 n e in
+            rw (en, get_or-set_same rows n line [] first, get_or-set_other (get_or rows n []) m (place i₂ k₂).1 row unused (eqb-false (place i₂ k₂).1 m f))
+            (rw en at (holds.each i₂ k₂ low₂ above₂ high₂))
         go i₂ k₂ low₂ above₂ high₂ false e d f =
-            let ne = eqb-false i₂ i e in
-            rw (get_or-set_other rows (i - 1) (i₂ - 1) line [] (λ z. ne (omega arith))) (holds.each i₂ k₂ low₂ above₂ high₂)
+            rw (get_or-set_other rows n (place i₂ k₂).0 line [] (eqb-false (place i₂ k₂).0 n e)) (holds.each i₂ k₂ low₂ above₂ high₂)
 
 under : (slacks : List ℕ) (row : Row) (r : ℕ) → below slacks row r ≡ true → get_or slacks (r - 1) 0 < numbers row r
 unfolding below

@@ -25,7 +25,7 @@ abbrev pub made : List ℕ → Option Change → Option (List ℕ)
 made c None = None
 made c (Some x) = Some (after c x)
 
--- the segments that change, which may be one
+-- the segments that change, which may be one; two numbers, since a fact that went by cases would be no ghost field
 abbrev pub first_segment : Change → ℕ
 first_segment (One m) = m.0
 first_segment (Two m n) = m.0

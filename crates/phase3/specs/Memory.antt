@@ -1,9 +1,10 @@
 -- What phase 3 remembers of two segments of which every pair of strategies that raises the total goes beyond a limit: the strategies that
 -- they have, and for each resource a number. While they have these strategies, and every resource's slack, its limit less its sum, is below
 -- its number, still no pair counts. A pair that leaders alone refuse is not remembered: it counts as soon as a third segment lets it.
-use Rattle.std.specs.Prelude.{ℕ, ◌+◌, ◌-◌, ◌^◌, ◌≤◌, ◌<◌, ◌≡◌, min, Bool, true, false, ◌&&◌, List, [], eqb, ltb, get_or, set, length}
+use Rattle.std.specs.Prelude.{ℕ, ◌+◌, ◌-◌, ◌^◌, ◌≤◌, ◌<◌, ◌≡◌, min, Bool, true, false, ◌&&◌, List, [], eqb, ltb, leb, get_or, set, length}
 use Rattle.std.specs.Prelude.{Option, None, Some}
 use Rattle.std.specs.Option.{option_eq}
+use Rattle.base.specs.Choice.{pick}
 use Rattle.base.specs.Over.{all}
 use Rattle.rules.specs.District.{most_segments, most_resources}
 use Rattle.rules.specs.Table.{Table}
@@ -14,12 +15,9 @@ use Rattle.tables.specs.Moves.{Budgets}
 use Rattle.phase3.specs.Improve.{counts_two}
 use Rattle.phase3.specs.declared.memory.Row.{Row}
 
--- Slacks and excesses may be negative, so both are kept with this added; and a number that no slack reaches.
+-- Slacks and excesses may be negative, so both are kept with this added.
 abbrev pub offset : ℕ
 offset = 2 ^ 48
-
-abbrev pub unreached : ℕ
-unreached = 2 ^ 50
 
 -- the excess of strategies a and b in resource r: what they use, less what is given up, which the budget has beyond the limit
 abbrev pub excess_of : List ℕ → List ℕ → List ℕ → ℕ → ℕ → ℕ → ℕ → ℕ → ℕ
@@ -61,18 +59,26 @@ abbrev pub Holds : Table → (ℕ → ℕ) → ℕ → ℕ → Row → Type 0
 Holds t leader i k row =
     (x y : ℕ) → row.holds_for ≡ Some (x, y) → (c : List ℕ) → Tight t i k x y (numbers row) c → pairs_of t leader c i k ≡ None
 
+-- half of the segments
+abbrev pub half : ℕ
+half = 32
+
 -- a row that holds for none
 abbrev pub unused : Row
 unused = record { holds_for = None; excesses = [] }
 
--- the row of segments i and k
+-- Where the row of segments i and k stands: of the square of rows those above the diagonal would be used alone, so the ones of the upper half
+-- stand below it, mirrored.
+abbrev pub place : ℕ → ℕ → ℕ × ℕ
+place i k = pick (leb i half) (i - 1, k - 1) (most_segments - i, most_segments - k)
+
 abbrev pub row_of : List (List Row) → ℕ → ℕ → Row
-row_of rows i k = get_or (get_or rows (i - 1) []) (k - 1) unused
+row_of rows i k = get_or (get_or rows (place i k).0 []) (place i k).1 unused
 
 -- every row of the memory holds
 pub record Remembers (t : Table) (leader : ℕ → ℕ) (rows : List (List Row)) : Type 0 where
-  pub places : length rows ≡ most_segments
-  pub places_of : (i : ℕ) → i < most_segments → length (get_or rows i []) ≡ most_segments
+  pub places : length rows ≡ half
+  pub places_of : (i : ℕ) → i < half → length (get_or rows i []) ≡ most_segments
   pub each : (i k : ℕ) → 1 ≤ i → i < k → k ≤ t.segments → Holds t leader i k (row_of rows i k)
 
 -- what a search of segments i and k reads, with the budgets where both give up what they have. What planning and pair hold is in it

@@ -1,6 +1,6 @@
 // Phase 3: changes of one segment or two that raise the total, keep the limits and respect leaders, until none is left.
-// Ranges end at a number plus one: an inclusive range keeps a flag beside its ends, which each step of the inner loops would
-// test. That segment i is the table's stays a clause, as in phase 1.
+// That a segment is the table's, or one of the 64, stays a clause of what takes its number: it is a number of a range, and a
+// type for it would have to carry the table.
 #![tactic(auto)]
 
 ghost use Rattle.std.specs.Prelude.{◌≡◌};
@@ -19,7 +19,7 @@ mod tops;
 mod trial;
 
 use change::Change;
-use memory::{Memory, Row};
+use memory::{HALF, Memory, Row};
 use pass::{Pass, slacks_of};
 use rules::places::{MOST_RESOURCES, MOST_SEGMENTS};
 use tables::Planning;
@@ -64,7 +64,8 @@ pub fn improve(planning: &mut Planning<'_>) -> u64
         excesses: [0; MOST_RESOURCES],
     };
     let mut memory = Memory {
-        rows: [[unused; MOST_SEGMENTS]; MOST_SEGMENTS],
+        rows: [[unused; MOST_SEGMENTS]; HALF],
+        asked: 0,
     };
     let mut changes: u64 = 0;
     while let Some(next) = next_change(planning, &tops, &mut memory) {

@@ -38,7 +38,7 @@ impl<'a> Pair<'a> {
 }
 
 impl<'a> Look<'a> {
-    ghost use Rattle.std.specs.Prelude.{◌≤◌};
+    ghost use Rattle.std.specs.Prelude.{◌+◌, ◌≤◌, Some, MatchOption};
     ghost use Rattle.phase3.specs.Views.{size_at, FoundAt, HoldsAt, SearchingAt, WithTestAt};
 
     // A pair with strategy a for segment i may count: it is another one, more than the present with the greatest benefit of
@@ -66,23 +66,34 @@ impl<'a> Look<'a> {
         !alone.refused_by_last(row, asked)
     }
 
-    // The first change of both segments that counts, by the strategy of each. The row remembers which limits refused the
-    // others. The row is the pair's and `asked` the pass's, so one struct for both would be made of two loans for each pair.
-    // Loops: a proof knows nothing of what a chain's closure changes, here both.
+    // The first change with strategy a for segment i that counts, by the strategy of segment k. The row remembers which limits
+    // refused the others. The row is the pair's and `asked` the pass's, so one struct for both would be made of two loans for
+    // each pair. A loop, as in search: a proof knows nothing of what a chain's closure changes, here both.
+    fn first_with(&'a self, a: usize, row: &mut Row, asked: &mut usize) -> Option<Change>
+        requires { (a ≤ (size_at self.now).strategies) × SearchingAt self.now row.old a }
+        ensures { MatchOption result (SearchingAt self.now row.new (a + 1)) (λ change. FoundAt self.now.pair.now (Some change) × HoldsAt self.now row.new) }
+    {
+        if !self.with_may_count(a, row, *asked) {
+            return None;
+        }
+        for b in 0..=self.pair.pass.planning.t.size.strategies {
+            let trial = Trial { look: self, a, b };
+            if trial.counts(row, asked) {
+                return Some(trial.change());
+            }
+        }
+        None
+    }
+
+    // The first change of both segments that counts, by the strategy of each.
     fn search(&'a self, row: &mut Row, asked: &mut usize) -> Option<Change>
         requires { SearchingAt self.now row.old 0 }
         ensures found { FoundAt self.now.pair.now result }
         ensures holds { HoldsAt self.now row.new }
     {
-        let strategies_end = self.pair.pass.planning.t.size.strategies + 1;
-        for a in 0..strategies_end {
-            if self.with_may_count(a, row, *asked) {
-                for b in 0..strategies_end {
-                    let trial = Trial { look: self, a, b };
-                    if trial.counts(row, asked) {
-                        return Some(trial.change());
-                    }
-                }
+        for a in 0..=self.pair.pass.planning.t.size.strategies {
+            if let Some(change) = self.first_with(a, row, asked) {
+                return Some(change);
             }
         }
         None

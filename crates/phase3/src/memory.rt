@@ -1,11 +1,15 @@
 // What phase 3 remembers of the pairs of segments that it looked at (specs/Memory.antt).
-ghost use Rattle.std.specs.Prelude.{◌≡◌, None, true};
-ghost use Rattle.phase3.specs.Memory.{row_of};
+ghost use Rattle.std.specs.Prelude.{◌≡◌, ◌≤◌, ◌<◌, None, true};
+ghost use Rattle.rules.specs.District.{most_segments};
+ghost use Rattle.phase3.specs.Memory.{place, row_of};
 ghost use Rattle.phase3.specs.Views.{holds_still, FoundAt, Kept};
 
 use crate::change::Change;
 use crate::pair::Pair;
 use rules::places::{MOST_RESOURCES, MOST_SEGMENTS};
+
+// Half of the segments.
+pub const HALF: usize = MOST_SEGMENTS / 2;
 
 // A row for two segments: the strategies of theirs for which it holds, and for each resource the least excess for which it
 // refused a pair of strategies. UNREACHED stands for no excess: an Option for each would double the memory, which is written
@@ -29,11 +33,26 @@ impl Row {
     }
 }
 
-// A row for each two segments: those of the lower one, by the higher one. That the rows hold for a pass's table, Kept, stays a
-// clause: as a ghost field it would need the table here, and each clause would say instead that it is the pass's.
+// A row for each two segments, and how many resources stand before the one that refused last, which is asked first. That the
+// rows hold for a pass's table, Kept, stays a clause: as a ghost field it would need the table here, and each clause would say
+// instead that it is the pass's.
 #[derive(Drop)]
 pub struct Memory {
-    pub rows: [[Row; MOST_SEGMENTS]; MOST_SEGMENTS],
+    pub rows: [[Row; MOST_SEGMENTS]; HALF],
+    pub asked: usize,
+}
+
+// Where the row of segments i and k stands, i below k. Of a square of rows those above the diagonal alone would be used, so
+// those of the upper half of segments stand below it, mirrored.
+fn place(i: usize, k: usize) -> (usize, usize)
+    requires { (1 ≤ i) × (i < k) × (k ≤ most_segments) }
+    ensures { result ≡ place i k }
+{
+    if i <= HALF {
+        (i - 1, k - 1)
+    } else {
+        (MOST_SEGMENTS - i, MOST_SEGMENTS - k)
+    }
 }
 
 impl Memory {
@@ -44,16 +63,18 @@ impl Memory {
         ensures still { let p = pair.now in result ≡ holds_still p (row_of self.now.rows p.i p.k) }
         ensures none { result ≡ true → FoundAt pair.now None }
     {
-        self.rows[pair.i - 1][pair.k - 1].holds_still(pair)
+        let (n, m) = place(pair.i, pair.k);
+        self.rows[n][m].holds_still(pair)
     }
 
     // A look at the pair: the first of its changes that counts, and its row made anew.
-    pub fn look(&mut self, pair: &Pair<'_>, asked: &mut usize) -> Option<Change>
+    pub fn look(&mut self, pair: &Pair<'_>) -> Option<Change>
         requires { Kept pair.now.pass.now self.old }
         ensures found { FoundAt pair.now result }
         ensures memory { Kept pair.now.pass.now self.new }
     {
-        let row = &mut self.rows[pair.i - 1][pair.k - 1];
-        pair.look().first_change(row, asked)
+        let (n, m) = place(pair.i, pair.k);
+        let row = &mut self.rows[n][m];
+        pair.look().first_change(row, &mut self.asked)
     }
 }

@@ -9,7 +9,7 @@ use crate::leaders::Changed;
 use crate::memory::Memory;
 use crate::pair::Pair;
 use rules::places::{MOST_RESOURCES, MOST_SEGMENTS};
-use tables::{Move, Planning};
+use tables::{Move, Planning, by_resource};
 
 // What a pass reads: the table, the programme as it stands, each segment's greatest benefit, and each resource's slack.
 #[derive(Clone, Copy)]
@@ -25,12 +25,9 @@ pub struct Pass<'a> {
 pub fn slacks_of(planning: &Planning<'_>) -> [u64; MOST_RESOURCES]
     ensures { let p = planning.now in Slacks p.t.size.resources p.t.limits.entries.now p.draft.sums result }
 {
-    let t = &planning.t;
-    let mut slacks = [0u64; MOST_RESOURCES];
-    for (r, slack) in slacks[..t.size.resources].iter_mut().enumerate() {
-        *slack = t.limits.entries[r] + OFFSET - planning.draft.sums[r];
-    }
-    slacks
+    by_resource(planning.t.size.resources, |r| {
+        planning.t.limits.entries[r - 1] + OFFSET - planning.draft.sums[r - 1]
+    })
 }
 
 impl Pass<'_> {
@@ -78,8 +75,7 @@ impl Pass<'_> {
         requires { (1 ≤ i) × (i ≤ self.now.planning.now.t.size.segments) }
         ensures { FoundBy (of_segment i) self.now result }
     {
-        let strategies_end = self.planning.t.size.strategies + 1;
-        (0..strategies_end)
+        (0..=self.planning.t.size.strategies)
             .find(|a| self.counts_one(Move(i, *a)))
             .map(|a| Change::One(Move(i, a)))
     }
@@ -88,19 +84,12 @@ impl Pass<'_> {
     fn first_one(&self) -> Option<Change>
         ensures { FoundBy first_single self.now result }
     {
-        let segments_end = self.planning.t.size.segments + 1;
-        (1..segments_end).find_map(|i| self.first_of_segment(i))
+        (1..=self.planning.t.size.segments).find_map(|i| self.first_of_segment(i))
     }
 
     // The first pair of segments i and k that counts, without a look where none can rise, or where the memory still holds.
     #[tactic(auto, using(crate::proofs::ChangeSearch::no_of, tables::proofs::Moves::places, tables::proofs::Arrays::benefit_nothing))]
-    fn first_of_pair(
-        &self,
-        i: usize,
-        k: usize,
-        memory: &mut Memory,
-        asked: &mut usize,
-    ) -> Option<Change>
+    fn first_of_pair(&self, i: usize, k: usize, memory: &mut Memory) -> Option<Change>
         requires memory { Kept self.now memory.old }
         requires le_i { (1 ≤ i) × (i < k) × (k ≤ self.now.planning.now.t.size.segments) }
         ensures found { FoundBy (of_pair i k) self.now result }
@@ -110,23 +99,21 @@ impl Pass<'_> {
         if !pair.may_rise() || memory.rules_out(&pair) {
             return None;
         }
-        memory.look(&pair, asked)
+        memory.look(&pair)
     }
 
     // The first pair that counts, ordered by the lower segment, the higher one, and then the strategy of each. Loops: a proof
-    // knows nothing of what a chain's closure changes, here the memory. Tried: with `asked` in the memory the phase takes a
-    // tenth more instructions.
+    // knows nothing of what a chain's closure changes, here the memory.
     #[tactic(auto, using(crate::proofs::ChangeSearch::of_low, crate::proofs::ChangeSearch::from_none, crate::proofs::ChangeSearch::pairs_end, crate::proofs::ChangeSearch::found_pair))]
     fn first_two(&self, memory: &mut Memory) -> Option<Change>
         requires { Kept self.now memory.old }
         ensures found { FoundBy first_pair self.now result }
         ensures memory { Kept self.now memory.new }
     {
-        let mut asked: usize = 0;
-        let segments_end = self.planning.t.size.segments + 1;
-        for i in 1..segments_end {
-            for k in i + 1..segments_end {
-                if let Some(change) = self.first_of_pair(i, k, memory, &mut asked) {
+        let segments = self.planning.t.size.segments;
+        for i in 1..=segments {
+            for k in i + 1..=segments {
+                if let Some(change) = self.first_of_pair(i, k, memory) {
                     return Some(change);
                 }
             }

@@ -18,7 +18,7 @@ pub struct Trial<'a> {
 }
 
 impl Trial<'_> {
-    ghost use Rattle.std.specs.Prelude.{◌≡◌, true, false};
+    ghost use Rattle.std.specs.Prelude.{◌≡◌, IfSome, true, false};
     ghost use Rattle.rules.specs.Phases.{within, another};
     ghost use Rattle.phase3.specs.Memory.{lowered, IsShort};
     ghost use Rattle.phase3.specs.Views.{size_at, table_at, choice_at, change_of, tried, room_at, excess_at, RefusalIn, PairTestIn};
@@ -48,15 +48,24 @@ impl Trial<'_> {
         )
     }
 
+    // The resource after the first `asked`, where it does not suffice.
+    fn short_at(&self, asked: usize) -> Option<usize>
+        ensures { IfSome result (λ r. (1 ≤ r) × (r ≤ (size_at self.now.look.now).resources) × (room_at self.now r ≡ false)) }
+    {
+        if self.look.pair.pass.planning.t.size.resources <= asked || self.has_room(asked + 1) {
+            return None;
+        }
+        Some(asked + 1)
+    }
+
     // A resource that does not suffice. The one after the first `asked` is asked first.
     fn short_of(&self, asked: usize) -> Option<usize>
         ensures { IsShort (size_at self.now.look.now).resources (room_at self.now) result }
     {
-        let resources = self.look.pair.pass.planning.t.size.resources;
-        if asked < resources && !self.has_room(asked + 1) {
-            return Some(asked + 1);
+        if let Some(r) = self.short_at(asked) {
+            return Some(r);
         }
-        (1..resources + 1).find(|r| !self.has_room(*r))
+        (1..=self.look.pair.pass.planning.t.size.resources).find(|r| !self.has_room(*r))
     }
 
     // The row remembers that resource r refused: its number goes down to the excess.
@@ -88,10 +97,10 @@ impl Trial<'_> {
     pub fn refused_by_last(&self, row: &mut Row, asked: usize) -> bool
         ensures { RefusalIn self.now row.old row.new result }
     {
-        if self.look.pair.pass.planning.t.size.resources <= asked || self.has_room(asked + 1) {
+        let Some(r) = self.short_at(asked) else {
             return false;
-        }
-        self.note(asked + 1, row);
+        };
+        self.note(r, row);
         true
     }
 

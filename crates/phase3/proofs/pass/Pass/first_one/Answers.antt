@@ -10,7 +10,7 @@ pub returns : goal.returns
 returns c =
     let p = c.args.self.now in
     first_single_is _ _ c.find_map.result
-    (first_mapped _ c.find_map.result (λ i x. FoundBy (of_segment i) p (Some x)) (λ i. singles_of (table_of p) (leaders_of p) (choice_of p) i ≡ None) c.find_map.ensures.runs
+    (first_mapped _ (search rules) (search rules) (search rules) c.find_map.result (λ i x. FoundBy (of_segment i) p (Some x)) (λ i. singles_of (table_of p) (leaders_of p) (choice_of p) i ≡ None) c.find_map.ensures.runs
     (λ a r q k. search rules)
     (λ i x k. search rules)
     (λ i k. let found : FoundBy (of_segment i) p None = search rules in sym found.is))

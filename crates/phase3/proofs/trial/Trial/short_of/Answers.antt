@@ -1,7 +1,7 @@
 -- `phase3::trial::Trial::short_of` meets its contract.
 use Rattle.std.proofs.Common.{◌≡◌, true, false, rules, tests}
-use Rattle.std.proofs.lemmas.Iterator.{first_from_Range}
 use Rattle.phase3.specs.Views.{room_at}
+use Rattle.phase3.proofs.Chains.{first_found}
 use Rattle.phase3.proofs.Remembered.{short_is}
 use Rattle.phase3.proofs.trial.Trial.short_of.Goals as goal
 
@@ -9,6 +9,7 @@ pub returns : goal.returns
 returns c =
     let room = room_at c.args.self.now in
     short_is _ _ _
-    (first_from_Range _ _ _ c.find.result (λ r. room r ≡ false) (λ r. room r ≡ true) c.find.ensures.ran
-    (λ r q k. search (rules, tests))
-    (λ r q k. search (rules, tests)))
+    (first_found _ (search rules) (search rules) (search rules) c.find.result (λ r. room r ≡ false) (λ r. room r ≡ true) c.find.ensures.runs
+    (λ x r q k. search (rules, tests))
+    (λ r k. search (rules, tests))
+    (λ r k. search (rules, tests)))
