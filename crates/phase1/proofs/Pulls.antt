@@ -44,7 +44,7 @@ cell_held {most} {z} {s} {c} held i h =
 
 pub measured_summable : {z : Size} {s c : List ℕ} → Measured z s c → Summable z s c
 measured_summable measured =
-    record { bounded = measured.bounded; chosen = measured.chosen; places = measured.places; small = λ i r li hi lr hr. omega (arith, measured.small i r li hi lr hr) }
+    record { bounded = measured.bounded; chosen = measured.chosen; small = λ i r li hi lr hr. omega (arith, measured.small i r li hi lr hr) }
 
 pub pull_le : (row over : List ℕ) (m : ℕ) → m ≤ most_resources → ((r : ℕ) → 1 ≤ r → r ≤ m → get_or row (r - 1) 0 ≤ 10_000) → ((r : ℕ) → 1 ≤ r → r ≤ m → get_or over (r - 1) 0 ≤ 640_000)
     → (n : ℕ) → n ≤ m → sum n (row_pull row over) ≤ 102_400_000_000
@@ -100,7 +100,7 @@ module _ (row over : List ℕ) (n : ℕ) (few : n ≤ most_resources) (row_long 
 
 module _ {z : Size} {u c : List ℕ} (bounded : Bounded z) (uses : Uses u) (chosen : Chosen z c) where
   pub uses_summable : Summable z u c
-  uses_summable = record { bounded = bounded; chosen = chosen; places = uses.places; small = λ i r li hi lr hr. omega (arith, uses.small (use_entry i (strategy_at c i) r)) }
+  uses_summable = record { bounded = bounded; chosen = chosen; small = λ i r li hi lr hr. omega (arith, uses.small (use_entry i (strategy_at c i) r)) }
 
   pub uses_running : {sums : List ℕ} → length sums ≡ most_resources → ShareSums z u c sums → Running z u c sums
   unfolding used chosen_usage

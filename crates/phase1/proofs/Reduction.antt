@@ -36,7 +36,6 @@ module _ {z : Size} {b u l s c : List ℕ} (bounded : Bounded z) (chosen : Chose
       record {
         bounded = bounded;
         chosen = now;
-        places = held.shares.places;
         small = λ i r li hi lr hr.
             rw (held.shares.shares_are i (strategy_at e i) r li hi (now.numbers i) lr hr)
             (chosen_share_le (tables z b u l) held.fit e (gives_candidates (tables z b u l) c e gives held.candidates) i r li hi lr hr);

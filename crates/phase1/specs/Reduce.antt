@@ -23,7 +23,6 @@ row_pull row over r = get_or row (r - 1) 0 * get_or over (r - 1) 0
 
 -- an array of the table's shares
 pub record Shares (z : Size) (b u l s : List ℕ) : Type 0 where
-  pub places : length s ≡ use_entries
   pub shares_are :
       (i j r : ℕ) → 1 ≤ i → i ≤ z.segments → j ≤ z.strategies → 1 ≤ r → r ≤ z.resources
       → share_at s i j r ≡ share (tables z b u l) i j r
@@ -32,7 +31,6 @@ pub record Shares (z : Size) (b u l s : List ℕ) : Type 0 where
 pub record Within (most : ℕ) (z : Size) (s c : List ℕ) : Type 0 where
   pub bounded : Bounded z
   pub chosen : Chosen z c
-  pub places : length s ≡ use_entries
   pub small : (i r : ℕ) → 1 ≤ i → i ≤ z.segments → 1 ≤ r → r ≤ z.resources → held_share s c r i ≤ most
 
 -- none of it so much that a sum wraps

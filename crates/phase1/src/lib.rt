@@ -22,10 +22,8 @@ use tables::{
 };
 use weighed::Weighed;
 
-pub mod shares;
+mod shares;
 mod weighed;
-
-pub use shares::ShareTable;
 
 // The candidate of segment i with the greatest benefit, of equals the lowest, among those of which the test, of number and
 // benefit, holds; 0 where there is none, which is the number of nothing. A loop, since a filter before the search for the
@@ -125,17 +123,18 @@ fn last_led(segments: usize, leaders: LeaderList<'_>) -> usize
 }
 
 // Segment i takes its next candidate; where that leaves others without their leaders, they lose what they have in the same
-// step. The first `led` segments have all the leaders. The facts of the shares and their sums are clauses here, in to_step and
-// in reduce; a struct that held them would have to lend one part to be changed and both to be weighed.
+// step. The first `led` segments have all the leaders. What changes goes in as two: tried as one struct with its facts as ghost
+// fields, as Weighed is for what reads alone; where it lends the planning, the borrow check does not cover a ghost field
+// beside a `&mut`, and where it owns the planning, reduce has to take it and give it back.
 fn step(planning: &mut Planning<'_>, summed: &mut Summed<'_>, led: usize, i: usize)
     requires leaders { LedWithin planning.old.t.leaders.entries.now planning.old.t.size.segments led }
-    requires held { HeldIn planning.old.t summed.old.shares.entries.now planning.old.draft.choice }
-    requires sums { ShareSums planning.old.t.size summed.old.shares.entries.now planning.old.draft.choice summed.old.sums }
+    requires held { HeldIn planning.old.t summed.old.shares.now planning.old.draft.choice }
+    requires sums { ShareSums planning.old.t.size summed.old.shares.now planning.old.draft.choice summed.old.sums }
     requires le_i { (1 ≤ i) × (i ≤ planning.old.t.size.segments) }
     ensures same_table { planning.new.t ≡ planning.old.t }
     ensures same_shares { summed.new.shares ≡ summed.old.shares }
     ensures stepped { step_down (table_in planning.old.t) (leaders_in planning.old.t) planning.old.draft.choice i ≡ Some planning.new.draft.choice }
-    ensures sums { ShareSums planning.old.t.size summed.old.shares.entries.now planning.new.draft.choice summed.new.sums }
+    ensures sums { ShareSums planning.old.t.size summed.old.shares.now planning.new.draft.choice summed.new.sums }
 {
     let t = planning.t;
     let x = planning.draft.choice[i - 1];
@@ -143,37 +142,24 @@ fn step(planning: &mut Planning<'_>, summed: &mut Summed<'_>, led: usize, i: usi
     planning.give(next);
     if prune(led, t.leaders, &mut planning.draft.choice) {
         planning.draft.sums = sums_of(t.size, t.uses.entries, &planning.draft.choice);
-        summed.sums = sums_of(t.size, summed.shares.entries, &planning.draft.choice);
+        summed.sums = sums_of(t.size, summed.shares, &planning.draft.choice);
     } else {
         summed.give(t.size.resources, x, next);
     }
 }
 
-// The segment to step, the weakest; none where every limit holds.
-fn to_step(planning: &Planning<'_>, summed: &Summed<'_>) -> Option<usize>
-    requires held { HeldIn planning.now.t summed.now.shares.entries.now planning.now.draft.choice }
-    requires sums { ShareSums planning.now.t.size summed.now.shares.entries.now planning.now.draft.choice summed.now.sums }
-    ensures { ToStep (table_in planning.now.t) (leaders_in planning.now.t) planning.now.draft.choice result }
-{
-    let weighed = Weighed { planning, summed };
-    if weighed.limits_hold() {
-        return None;
-    }
-    weighed.weakest()
-}
-
 // Phase 1, the steps: until every limit holds. Returns how many there were.
-pub fn reduce(planning: &mut Planning<'_>, shares: ShareTable<'_>) -> u64
-    requires { HeldIn planning.old.t shares.entries.now planning.old.draft.choice }
+pub fn reduce(planning: &mut Planning<'_>, shares: &[u64; USE_ENTRIES]) -> u64
+    requires { HeldIn planning.old.t shares.now planning.old.draft.choice }
     ensures same_table { planning.new.t ≡ planning.old.t }
     ensures choice_after { planning.new.draft.choice ≡ (phase1 (table_in planning.old.t) (leaders_in planning.old.t) planning.old.draft.choice).last }
     ensures value { result ≡ (phase1 (table_in planning.old.t) (leaders_in planning.old.t) planning.old.draft.choice).count }
 {
     let led = last_led(planning.t.size.segments, planning.t.leaders);
-    let sums = sums_of(planning.t.size, shares.entries, &planning.draft.choice);
+    let sums = sums_of(planning.t.size, shares, &planning.draft.choice);
     let mut summed = Summed { shares, sums };
     let mut steps: u64 = 0;
-    while let Some(i) = to_step(planning, &summed) {
+    while let Some(i) = (Weighed { planning, summed: &summed }).to_step() {
         step(planning, &mut summed, led, i);
         steps += 1;
     }

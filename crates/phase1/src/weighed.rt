@@ -3,8 +3,8 @@ ghost use Rattle.std.specs.Prelude.{◌≡◌, ℕ, ◌-◌, ◌*◌, ◌/◌, �
 ghost use Rattle.base.specs.Over.{sum};
 ghost use Rattle.rules.specs.District.{most_resources};
 ghost use Rattle.rules.specs.Phases.{within, surplus, pull, weakest};
-ghost use Rattle.tables.specs.Views.{table_in};
-ghost use Rattle.phase1.specs.Reduce.{ShareSums, Measured, Surpluses, ratio_at, row_pull, segment_in};
+ghost use Rattle.tables.specs.Views.{table_in, leaders_in};
+ghost use Rattle.phase1.specs.Reduce.{ShareSums, Measured, Surpluses, ToStep, ratio_at, row_pull, segment_in};
 ghost use Rattle.phase1.specs.Views.{SharesIn};
 
 use crate::shares::Summed;
@@ -16,14 +16,14 @@ use tables::{Planning, by_resource, row_of};
 pub(crate) struct Weighed<'a> {
     pub(crate) planning: &'a Planning<'a>,
     pub(crate) summed: &'a Summed<'a>,
-    ghost shares_are: { SharesIn planning.now.t summed.now.shares.entries.now },
-    ghost measured: { Measured planning.now.t.size summed.now.shares.entries.now planning.now.draft.choice },
-    ghost sums_are: { ShareSums planning.now.t.size summed.now.shares.entries.now planning.now.draft.choice summed.now.sums },
+    ghost shares_are: { SharesIn planning.now.t summed.now.shares.now },
+    ghost measured: { Measured planning.now.t.size summed.now.shares.now planning.now.draft.choice },
+    ghost sums_are: { ShareSums planning.now.t.size summed.now.shares.now planning.now.draft.choice summed.now.sums },
 }
 
 impl Weighed<'_> {
     // Every limit holds.
-    pub(crate) fn limits_hold(&self) -> bool
+    fn limits_hold(&self) -> bool
         ensures { result ≡ within (table_in self.now.planning.now.t) self.now.planning.now.draft.choice }
     {
         let Planning { t, draft } = self.planning;
@@ -59,8 +59,7 @@ impl Weighed<'_> {
         requires le_i { (1 ≤ i) × (i ≤ self.now.planning.now.t.size.segments) }
         ensures { result ≡ pull (table_in self.now.planning.now.t) self.now.planning.now.draft.choice i }
     {
-        let shares = self.summed.shares;
-        let row = row_of(shares.entries, i, self.planning.draft.choice[i - 1]);
+        let row = row_of(self.summed.shares, i, self.planning.draft.choice[i - 1]);
         pull_by(self.planning.t.size.resources, row, over)
     }
 
@@ -80,7 +79,7 @@ impl Weighed<'_> {
     }
 
     // Of the segments that pull the one of least ratio, of equals the lowest.
-    pub(crate) fn weakest(&self) -> Option<usize>
+    fn weakest(&self) -> Option<usize>
         ensures { result ≡ segment_in (weakest (table_in self.now.planning.now.t) self.now.planning.now.draft.choice) }
     {
         let over = self.surpluses();
@@ -88,6 +87,16 @@ impl Weighed<'_> {
             .filter_map(|i| self.ratio(&over, i + 1))
             .min()
             .map(|(_, i)| i)
+    }
+
+    // The segment to step, the weakest; none where every limit holds.
+    pub(crate) fn to_step(&self) -> Option<usize>
+        ensures { ToStep (table_in self.now.planning.now.t) (leaders_in self.now.planning.now.t) self.now.planning.now.draft.choice result }
+    {
+        if self.limits_hold() {
+            return None;
+        }
+        self.weakest()
     }
 }
 

@@ -29,7 +29,6 @@ module _ {d : District} (ranges : Ranges d) {z : Size} {ls b u l s e : List ℕ}
   pub shares_of : Shares z b u l s
   shares_of =
       record {
-        places = filled.shares_length;
         shares_are = λ i j r low high few from to. filled.shares i j r (cell_of filled.tabled.bounded i j low high few) from (omega (arith, filled.tabled.bounded.resources));
       }
 

@@ -11,15 +11,14 @@ ghost use Rattle.rules.specs.Table.{table_of};
 ghost use Rattle.tables.specs.Views.{table_in, leaders_in};
 
 use fill::Arrays;
-use phase1::ShareTable;
 use rating::Ranged;
 use rules::places::MOST_SEGMENTS;
 use rules::{District, Programme};
-use tables::{BenefitTable, LeaderList, LimitList, Planning, TableView, UsageTable};
+use tables::{BenefitTable, LeaderList, LimitList, Planning, TableView, USE_ENTRIES, UsageTable};
 
 // The three phases over a table one after another, with its ceiling beside them.
-fn phases(t: TableView<'_>, shares: ShareTable<'_>, bound: u64) -> Programme
-    requires fit { FitAlone (table_in t) × SharesIn t shares.entries.now }
+fn phases(t: TableView<'_>, shares: &[u64; USE_ENTRIES], bound: u64) -> Programme
+    requires fit { FitAlone (table_in t) × SharesIn t shares.now }
     requires bound { bound ≡ ceiling (table_in t) }
     ensures { result ≡ programme_of (table_in t.entry) (leaders_in t.entry) }
 {
@@ -63,10 +62,7 @@ fn programme_of(d: Ranged<'_>) -> Programme
             entries: &arrays.limits,
         },
     };
-    let shares = ShareTable {
-        entries: &arrays.shares,
-    };
-    phases(t, shares, bound)
+    phases(t, &arrays.shares, bound)
 }
 
 // No strategy for any segment.

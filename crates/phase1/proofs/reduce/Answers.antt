@@ -5,6 +5,7 @@ use native.Mathlib.Omega.{arith}
 use Rattle.rules.specs.Phases.{step}
 use Rattle.tables.specs.Views.{table_in, leaders_in}
 use Rattle.phase1.specs.Reduce.{IsStep}
+use Rattle.phase1.specs.Views.{HeldIn}
 use Rattle.phase1.proofs.Pulls.{measured_summable}
 use Rattle.phase1.proofs.Reduction.{held_measured, down_start, down_end, down_next}
 use Rattle.phase1.proofs.reduce.Goals as goal
@@ -14,6 +15,13 @@ sums_of-sums-requires c = let r = c.args.planning.now.running in measured_summab
 
 pub loop-i-init : goal.loop-i-init
 loop-i-init c = (refl, refl, down_start _ c.requires, c.sums_of-sums.ensures)
+
+pub invariant_of-to_step : goal.invariant_of-to_step
+invariant_of-to_step c =
+    let l = c.loop-i in
+    let held : HeldIn l.planning.t l.summed.shares.now l.planning.draft.choice = rw (l.invariant.0, l.invariant.1) l.invariant.2.held in
+    let running = l.planning.running in
+    record { shares_are = held.shares; measured = held_measured running.bounded running.chosen held; sums_are = rw (l.invariant.0, l.invariant.1) l.invariant.3 }
 
 pub loop-i-smaller : goal.loop-i-smaller
 loop-i-smaller c =

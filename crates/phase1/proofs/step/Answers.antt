@@ -13,7 +13,7 @@ use Rattle.phase1.proofs.step.Goals as goal
 use Rattle.phase1.proofs.step.Goals.{After-prune}
 
 -- the shares of the programme that the pruning leaves, and that it is the step's
-after : (c : After-prune) → Measured c.args.planning.now.t.size c.args.summed.now.shares.entries.now c.prune.new.choice
+after : (c : After-prune) → Measured c.args.planning.now.t.size c.args.summed.now.shares.now c.prune.new.choice
 after c =
     let p = c.requires in
     let r = c.args.planning.now.running in
