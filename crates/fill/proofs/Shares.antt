@@ -20,8 +20,8 @@ use Rattle.grammar.specs.Ranges.{Ranges}
 use Rattle.rules.specs.District.{District, segments_of, most_resources}
 use Rattle.fill.specs.Filled.{Filled}
 use Rattle.fill.proofs.Leaders.{leaders_are, leaders_held}
-use Rattle.fill.proofs.Tables.{uses_past, table_is, tabled, fit_alone}
-use Rattle.fill.specs.Lists.{size_of, leader_list, benefit_list, usage_list, limit_list, usage_entry, Quotient, share_entry, share_list}
+use Rattle.fill.proofs.Tables.{size_of, uses_past, table_is, tabled, fit_alone}
+use Rattle.fill.specs.Lists.{leader_list, benefit_list, usage_list, limit_list, usage_entry, Quotient, share_entry, share_list}
 
 -- ---- both ways of rounding
 

@@ -13,15 +13,19 @@ use Rattle.base.proofs.Choice.{between_yes, between_in}
 use Rattle.base.proofs.Each.{each_listed}
 use Rattle.base.proofs.Listed.{listed_at, listed_length}
 use Rattle.grammar.specs.Ranges.{Ranges}
-use Rattle.rules.specs.District.{District, segments_of, resources_of, most_segments, most_strategies, most_resources}
+use Rattle.rules.specs.District.{District, segments_of, strategies_of, resources_of, most_segments, most_strategies, most_resources}
 use Rattle.rules.specs.Rating.{candidate}
 use Rattle.rules.specs.Table.{has, candidate_benefit, usage_in, limit_in, table_of}
 use Rattle.laws.specs.Tables.{FitAlone}
 use Rattle.theorems.proofs.Entries.{table_fit}
+use Rattle.tables.specs.declared.Size.{Size}
 use Rattle.tables.specs.Arrays.{entry, use_entry, benefit_at, usage_at, limit_at, tables, Tabled, columns, entries, use_entries}
 use Rattle.rating.specs.Numbers.{Segment, Resource}
 use Rattle.rating.proofs.Entries.{has_within, resource_within, candidate_benefit_le, usage_in_le, limit_in_le}
-use Rattle.fill.specs.Lists.{size_of, benefit_entry, benefit_list, usage_entry, usage_list, limit_list}
+use Rattle.fill.specs.Lists.{benefit_entry, benefit_list, usage_entry, usage_list, limit_list}
+
+abbrev pub size_of : District → Size
+size_of d = record { segments = segments_of d; strategies = strategies_of d; resources = resources_of d }
 
 -- ---- each entry, at its place
 

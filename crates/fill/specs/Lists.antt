@@ -3,12 +3,8 @@
 use Rattle.std.specs.Prelude.{ℕ, ◌≡◌, ◌+◌, ◌*◌, ◌/◌, ◌%◌, List, get_or}
 use Rattle.base.specs.Over.{listed, listed_from}
 use Rattle.tables.specs.Arrays.{columns, entries, use_entries}
-use Rattle.rules.specs.District.{District, segments_of, strategies_of, resources_of, leader_of, most_segments, most_resources}
-use Rattle.tables.specs.declared.Size.{Size}
+use Rattle.rules.specs.District.{District, leader_of, most_segments, most_resources}
 use Rattle.rules.specs.Table.{candidate_benefit, usage_in, limit_in}
-
-abbrev pub size_of : District → Size
-size_of d = record { segments = segments_of d; strategies = strategies_of d; resources = resources_of d }
 
 unfoldable pub leader_list : District → List ℕ
 leader_list d = listed most_segments (leader_of d)

@@ -17,7 +17,7 @@ use rules::District;
 use rules::places::{
     LEADER, MOST_RESOURCES, MOST_SEGMENTS, RESOURCE_COUNT, SEGMENT_COUNT, STRATEGY_COUNT,
 };
-use tables::{COLUMNS, ENTRIES, LimitList, Size, USE_ENTRIES, UsageTable};
+use tables::{COLUMNS, ENTRIES, LimitList, Size, USE_ENTRIES, UsageTable, by_resource};
 
 // Each place of a list, counted from 0, gets what is made of its number.
 fn fill_each<T: Copy, F: Fn(usize) -> T>(list: &mut [T], entry: F)
@@ -56,7 +56,8 @@ fn fill_benefits(d: Ranged<'_>, table: &mut [u64; ENTRIES])
     });
 }
 
-// The uses that strategy j on segment i makes of each resource.
+// The uses that strategy j on segment i makes of each resource. A slice with its length in a clause: made as an array and copied
+// in, a row takes 4 percent more instructions of a plan, and of as_chunks_mut the library does not say what the slice ends as.
 fn fill_row(d: Ranged<'_>, i: usize, j: usize, row: &mut [u64])
     requires { Segment i × (length row.old ≡ most_resources) }
     ensures { row.new ≡ listed most_resources (usage_in d.entry.district.now i j) }
@@ -78,10 +79,10 @@ fn fill_uses(d: Ranged<'_>, table: &mut [u64; USE_ENTRIES])
     }
 }
 
-fn fill_limits(d: Ranged<'_>, table: &mut [u64; MOST_RESOURCES])
-    ensures { table.new ≡ limit_list d.entry.district.now }
+fn limits_of(d: Ranged<'_>) -> [u64; MOST_RESOURCES]
+    ensures { result ≡ limit_list d.entry.district.now }
 {
-    fill_each(table, |r| d.limit_in(r + 1));
+    by_resource(MOST_RESOURCES, |r| d.limit_in(r))
 }
 
 // The share that the use at place n is of its limit, in ten-thousandths, rounded as the quotient is; none of a limit of 0.
@@ -142,7 +143,8 @@ impl Arrays {
         downs: [0; USE_ENTRIES],
     };
 
-    // Fills all of them: what is proved of code over these arrays is what the rules say of the district.
+    // Fills all of them: what is proved of code over these arrays is what the rules say of the district. They are lent: given
+    // back by value they are copied, and a plan of the smallest district takes 4.14 million instructions for 2.93.
     pub fn fill(&mut self, d: Ranged<'_>) -> Size
         requires { (self.old.benefits ≡ replicate entries 0) × (self.old.uses ≡ replicate use_entries 0) × (self.old.shares ≡ replicate use_entries 0) × (self.old.downs ≡ replicate use_entries 0) }
         ensures { Filled d.entry.district.now result self.new.leaders self.new.benefits self.new.uses self.new.limits self.new.shares self.new.downs }
@@ -150,7 +152,7 @@ impl Arrays {
         fill_leaders(d.district, &mut self.leaders);
         fill_benefits(d, &mut self.benefits);
         fill_uses(d, &mut self.uses);
-        fill_limits(d, &mut self.limits);
+        self.limits = limits_of(d);
         let segments = d.district[SEGMENT_COUNT];
         let uses = UsageTable {
             entries: &self.uses,
