@@ -1,5 +1,5 @@
 -- What the steps of phase 1 read and keep: shares at the places of uses, surpluses, and the weakest segment so far.
-use Rattle.std.specs.Prelude.{ℕ, zero, suc, ◌-◌, ◌*◌, ◌^◌, ◌≤◌, ◌≡◌, List, Bool, ◌&&◌, ◌||◌, eqb, ltb, get_or, length}
+use Rattle.std.specs.Prelude.{ℕ, zero, suc, ◌-◌, ◌*◌, ◌^◌, ◌≤◌, ◌≡◌, List, Bool, ◌&&◌, ◌||◌, eqb, ltb, get_or}
 use Rattle.std.specs.Prelude.{Option, None, Some, MatchOption, false}
 use Rattle.base.specs.Choice.{pick}
 use Rattle.base.specs.Over.{sum, best}
@@ -7,7 +7,7 @@ use Rattle.rules.specs.Table.{Table}
 use Rattle.rules.specs.Phases.{strategy_at, pruned, within, share, surplus, pulls, ratio, weakest, step}
 use Rattle.laws.specs.Tables.{FitAlone, OfCandidates}
 use Rattle.tables.specs.declared.Size.{Size}
-use Rattle.tables.specs.Arrays.{use_entry, tables, leader_in, Bounded, Chosen, use_entries}
+use Rattle.tables.specs.Arrays.{use_entry, tables, leader_in, Bounded, Chosen}
 
 -- what an array at the places of uses holds for resource r of strategy j on segment i
 abbrev pub share_at : List ℕ → ℕ → ℕ → ℕ → ℕ

@@ -159,7 +159,12 @@ pub fn reduce(planning: &mut Planning<'_>, shares: &[u64; USE_ENTRIES]) -> u64
     let sums = sums_of(planning.t.size, shares, &planning.draft.choice);
     let mut summed = Summed { shares, sums };
     let mut steps: u64 = 0;
-    while let Some(i) = (Weighed { planning, summed: &summed }).to_step() {
+    while let Some(i) = (Weighed {
+        planning,
+        summed: &summed,
+    })
+    .to_step()
+    {
         step(planning, &mut summed, led, i);
         steps += 1;
     }

@@ -1,7 +1,7 @@
 -- `phase1::sum_in` meets its contract: the sum fits.
-use Rattle.std.proofs.Common.{rules, ◌+◌, ◌^◌, arith, ◌∙◌}
-use Rattle.std.proofs.lemmas.Iterator.{serves_from_Range, YieldsList-from_range, YieldsList-from_map}
-use Rattle.std.proofs.lemmas.Iterator.Consumers.{sum_from_yields_List, fits_from_yields_list}
+use Rattle.std.proofs.Common.{rules, ◌+◌, ◌^◌, arith}
+use Rattle.std.proofs.lemmas.Iterator.{serves_from_Range}
+use Rattle.base.proofs.Ranges.{range_fits, range_total}
 use Rattle.tables.proofs.Arrays.{range_sum}
 use Rattle.phase1.specs.Reduce.{held_share}
 use Rattle.phase1.proofs.Pulls.{cell_held, sums_le}
@@ -19,14 +19,10 @@ sum-requires-clause-fits c =
     let p = c.requires in
     let n = c.args.z.segments in
     let each = held_share c.args.entries.now c.args.choice.now c.args.r in
-    fits_from_yields_list c.map.result (2 ^ 64)
-    (YieldsList-from_map _ (λ k. each (k + 1)) (YieldsList-from_range 0 n n c.map.ensures.source (omega arith)) c.map.ensures.closure (λ x r q k. search rules))
-    (omega (arith, range_sum n each, sums_le p.summable c.args.r p.le_r.0 p.le_r.1))
+    range_fits c.map.result (λ k. each (k + 1)) n (range_sum n each) c.map.ensures.source c.map.ensures.closure (λ x r q k. search rules) (2 ^ 64) (omega (arith, sums_le p.summable c.args.r p.le_r.0 p.le_r.1))
 
 pub returns : goal.returns
 returns c =
     let n = c.args.z.segments in
     let each = held_share c.args.entries.now c.args.choice.now c.args.r in
-    sum_from_yields_List c.map.result c.sum.result c.sum.ensures.ran
-    (YieldsList-from_map _ (λ k. each (k + 1)) (YieldsList-from_range 0 n n c.map.ensures.source (omega arith)) c.map.ensures.closure (λ x r q k. search rules))
-    ∙ range_sum n each
+    range_total c.map.result (λ k. each (k + 1)) n (range_sum n each) c.map.ensures.source c.map.ensures.closure (λ x r q k. search rules) c.sum.result c.sum.ensures.ran
