@@ -6,13 +6,9 @@ use mathlib.Core.List.{List, [], ◌∷◌}
 use native.Mathlib.Nat.{zero-add}
 use native.Mathlib.Omega.{arith}
 use borrow.Author.Tests.{le-leb, lt-leb}
-use borrow.Author.Count.{below_more}
 use lib.Dec.{eqb}
 use lib.ListN.{length, get_or, set}
-use lib.Seq.{get_or-set_same, get_or-set_other}
 use lib.Pointwise.{pointwise}
-use Rattle.std.proofs.lemmas.Grind.{same_number_lists}
-use Rattle.std.proofs.lemmas.List.{set-get_or}
 use Rattle.base.specs.Same.{same}
 use Rattle.base.specs.Choice.{pick}
 use Rattle.base.proofs.Same.{same_is}
@@ -90,37 +86,6 @@ limits_own place l h = rw (le-leb 1 place (omega arith), lt-leb place 5 (omega a
 pub segments_own : (place : ℕ) → segments_at ≤ place → is_shared place ≡ false
 unfolding is_shared
 segments_own place l = rw (le-leb 1 place (omega arith), lt-leb place 5 (omega arith), le-leb 22 place (omega arith), lt-leb place 1659 (omega arith))
-
--- ---- places cleared from the front: before place n what is not shared is 0, and from it on all stands as it was
-
-pub record Cleared (d xs : List ℕ) (n : ℕ) : Type 0 where
-  pub before : (k : ℕ) → k < n → get_or xs k 0 ≡ get_or (shared_tables d) k 0
-  pub from : (k : ℕ) → n ≤ k → get_or xs k 0 ≡ get_or d k 0
-
-pub cleared_none : (d : List ℕ) → Cleared d d 0
-cleared_none d = record { before = λ k h. absurd (omega arith); from = λ k h. refl }
-
--- a shared one is kept, and another cleared
-pub kept : (d xs : List ℕ) (n : ℕ) → is_shared n ≡ true → Cleared d xs n → Cleared d (set xs n (get_or xs n 0)) (n + 1)
-kept d xs n e w =
-    rw set-get_or
-    record {
-      before = below_more _ _ w.before (w.from n (omega arith) ∙ sym (shared_value d n e));
-      from = λ k h. w.from k (omega arith);
-    }
-
-pub cleared : (d xs : List ℕ) (n : ℕ) → n < length xs → is_shared n ≡ false → Cleared d xs n → Cleared d (set xs n 0) (n + 1)
-cleared d xs n inside e w =
-    record {
-      before =
-          below_more _ _ (λ k h. let other : k ≡ n → ⊥ = λ q. omega arith in rw get_or-set_other (w.before k h))
-          (rw get_or-set_same (sym (own_value d n e)));
-      from = λ k h. let other : k ≡ n → ⊥ = λ q. omega arith in rw get_or-set_other (w.from k (omega arith));
-    }
-
-pub cleared_all : (d xs : List ℕ) (n : ℕ) → length xs ≡ length d → length d ≤ n → Cleared d xs n → xs ≡ shared_tables d
-cleared_all d xs n same_length all w =
-    same_number_lists xs (shared_tables d) (same_length ∙ sym (tables_length d)) (λ k h. w.before k (omega arith))
 
 -- the library's test whether two lists are the same, and the rules'
 pub pointwise_same : (xs ys : List ℕ) → pointwise eqb xs ys ≡ same xs ys
