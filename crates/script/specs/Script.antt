@@ -2,7 +2,7 @@
 -- a row of the console's table of words (command/specs/Reading), the number of its office, and three numbers. A number is four bytes, low byte first.
 -- A load is followed by its file, whose length is its first number. The first number of an export and of a page is its room. An edit that is to wait is
 -- followed by the 17 bytes of that edit, and its first number is its console.
-use Rattle.std.specs.Prelude.{ℕ, zero, suc, ◌+◌, min, List, [], ◌∷◌, map, ◌≡◌, refl, leb, eqb, length, get_or, take, drop, replicate}
+use Rattle.std.specs.Prelude.{ℕ, zero, suc, ◌+◌, min, List, [], ◌∷◌, leb, eqb, length, get_or, take, drop, replicate}
 use Rattle.std.specs.Prelude.{Option, None, Some}
 use Rattle.base.specs.Bytes.{number_of}
 use Rattle.base.specs.Choice.{pick}
@@ -14,9 +14,8 @@ use Rattle.rules.specs.Desks.{Desk, fresh_desk, Event, Arrive, Step, Ask, desk_b
 use Rattle.pages.specs.Printed.{longest_page}
 use Rattle.rules.specs.declared.Edit.{Edit}
 use Rattle.rules.specs.Answers.{Answer, Accepted}
-use Rattle.command.specs.Reading.{at, Row, row, rows, numbered, edit_in}
+use Rattle.command.specs.Reading.{at, numbered, edit_in}
 use Rattle.command.specs.declared.Command.{Command}
-use Rattle.command.specs.declared.Name.{Name}
 
 -- what stands at the front of the bytes
 abbrev pub kind_in : List ℕ → ℕ
@@ -36,7 +35,7 @@ first_in bs = number_at 5 bs
 unfoldable pub command_in : List ℕ → Command
 command_in bs = numbered (kind_in bs) (at (first_in bs ∷ number_at 9 bs ∷ number_at 13 bs ∷ 0 ∷ []))
 
--- kinds whose rows do not say all
+-- kinds whose rows do not say all; they stand so in the table of words (proofs/KindRows)
 abbrev pub load_kind : ℕ
 load_kind = 0
 
@@ -45,13 +44,6 @@ queue_kind = 16
 
 abbrev pub step_kind : ℕ
 step_kind = 17
-
--- which stand so in the table of words
-pub kinds :
-    map (λ n. map (λ (r : Row). r.name) (take 1 (drop n rows))) (load_kind ∷ queue_kind ∷ step_kind ∷ [])
-    ≡ (Name.Load ∷ []) ∷ (Name.Queue ∷ []) ∷ (Name.Step ∷ []) ∷ []
-unfolding row rows
-kinds = refl
 
 -- how many bytes follow the 17
 unfoldable pub body_in : List ℕ → ℕ
