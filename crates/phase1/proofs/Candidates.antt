@@ -1,11 +1,11 @@
 -- The candidates of a segment in the order of the searches, and the programme of the top ones.
 use Prim.Native.Nat.{ℕ, zero, suc, ◌+◌, ◌-◌, ◌≤◌, ◌<◌}
 use mathlib.Core.Path.{◌≡◌, refl, sym, ◌∙◌}
-use mathlib.Core.Bool.{Bool, true, false, ◌&&◌, and-true, true≢false}
+use mathlib.Core.Bool.{Bool, true, false, ◌&&◌, ◌||◌, and-true, true≢false}
 use mathlib.Core.List.{List}
 use native.Mathlib.Omega.{arith}
 use borrow.Author.Tests.{ltb-true, lt-ltb, leb-true, leb-false}
-use lib.Dec.{leb, ltb}
+use lib.Dec.{leb, ltb, eqb}
 use lib.ListN.{length, get_or-eq_default}
 use lib.Seq.{ext_get_or}
 use Rattle.std.proofs.lemmas.Bool.{and_parts}
@@ -18,7 +18,7 @@ use Rattle.laws.proofs.Steps.{bests_at}
 use Rattle.tables.specs.declared.Size.{Size}
 use Rattle.tables.specs.Arrays.{benefit_at, tables, Chosen}
 use Rattle.tables.proofs.Arrays.{benefit_nothing}
-use Rattle.phase1.specs.Reduce.{follows, best_passing}
+use Rattle.phase1.specs.Reduce.{best_passing}
 
 -- ---- the candidates of which a test holds, in the order of the search
 
@@ -41,6 +41,10 @@ module _ (b : List ℕ) (i : ℕ) (p : ℕ → Bool) where
     passing_failed f =
         leads_kept (passing b i p) (benefit_at b i) n top most leads
         (λ e. absurd (true≢false (sym (and_parts (ltb 0 (benefit_at b i (n + 1))) (p (n + 1)) e).1 ∙ f)))
+
+-- by falling benefit, of value and old, and among equals by number, j comes after a
+abbrev pub follows : ℕ → ℕ → ℕ → ℕ → Bool
+follows value old a j = ltb value old || (eqb value old && ltb a j)
 
 module _ (z : Size) (b u l : List ℕ) (i : ℕ) where
   pub top_is : best_passing z.strategies (benefit_at b i) (λ _. true) ≡ top_candidate (tables z b u l) i

@@ -1,5 +1,5 @@
 -- Shares, surpluses and pulls that arrays hold, and the weakest segment by them.
-use Prim.Native.Nat.{ℕ, zero, suc, ◌+◌, ◌-◌, ◌*◌, ◌^◌, ◌≤◌, ◌<◌}
+use Prim.Native.Nat.{ℕ, ◌+◌, ◌-◌, ◌*◌, ◌^◌, ◌≤◌, ◌<◌}
 use mathlib.Core.Path.{◌≡◌, refl, ap, sym, ◌∙◌}
 use mathlib.Core.Bool.{Bool, true, false, false≢true}
 use mathlib.Core.List.{List, [], map}
@@ -12,8 +12,7 @@ use lib.Seq.{get_or-take}
 use Rattle.std.specs.Bool.{MatchBool}
 use Rattle.std.specs.List.{zip, AllWithin, HoldsAt, sum_by, sum as list_sum}
 use Rattle.std.proofs.lemmas.List.{take_all, get_or_default}
-use Rattle.std.proofs.lemmas.List.Sums.{sum_by_more, sum-map}
-use native.Mathlib.Numerals.{add-one}
+use Rattle.std.proofs.lemmas.List.Sums.{sum-map}
 use Rattle.std.proofs.lemmas.Slice.Zip.{length-zip, get_or-zip}
 use Rattle.base.specs.Over.{sum}
 use Rattle.base.proofs.Choice.{pick_all}
@@ -24,7 +23,7 @@ use Rattle.laws.proofs.Give.{given, sum_give}
 use Rattle.tables.specs.declared.Size.{Size}
 use Rattle.tables.specs.Arrays.{use_entry, limit_at, tables, Uses, Limits, Bounded, Chosen, Running, Cell}
 use Rattle.tables.proofs.Moves.{all_is}
-use Rattle.tables.proofs.Arrays.{limit_at_lem, usage_at_lem, cell_of}
+use Rattle.tables.proofs.Arrays.{limit_at_lem, usage_at_lem, cell_of, front_sum}
 use Rattle.phase1.specs.Reduce.{share_at, ShareSums, held_share, row_pull, Shares, Within, Summable, Measured, Surpluses}
 
 -- ---- bounds
@@ -82,19 +81,12 @@ module _ (row over : List ℕ) (n : ℕ) (few : n ≤ most_resources) (row_long 
       let second : p.1 ≤ 640_000 = omega (arith, ap (λ (q : ℕ × ℕ). q.1) is, rw at at (surplus-small (k + 1) (omega arith) (omega arith))) in
       mul-le-mul {n₁ = p.0} {m₁ = p.1} {n₂ = 10_000} {m₂ = 640_000} first second
 
-  sum_to : (m : ℕ) → m ≤ n → sum_by (λ (p : ℕ × ℕ). p.0 * p.1) (take m weights) ≡ sum m (row_pull row over)
-  unfolding sum
-  sum_to zero h = refl
-  sum_to (suc m) h =
-      let at : suc m - 1 ≡ m = omega arith in
-      rw add-one at (sum_by_more (λ (p : ℕ × ℕ). p.0 * p.1) weights m (0, 0) (omega (arith, weights_long)))
-      ∙ rw (sum_to m (omega arith), weight_at m (0, 0) (omega arith), at)
-
   pub weights_sum : list_sum (map (λ (p : ℕ × ℕ). p.0 * p.1) weights) ≡ sum n (row_pull row over)
   weights_sum =
       sum-map (λ (p : ℕ × ℕ). p.0 * p.1) weights
       ∙ ap (sum_by (λ (p : ℕ × ℕ). p.0 * p.1)) (sym (take_all n weights (omega (arith, weights_long))))
-      ∙ sum_to n (omega arith)
+      ∙ front_sum (λ (p : ℕ × ℕ). p.0 * p.1) weights (0, 0) (row_pull row over) n (omega (arith, weights_long))
+      (λ k h. let at : k + 1 - 1 ≡ k = omega arith in rw (weight_at k (0, 0) h, at))
 
 -- ---- sums of uses
 

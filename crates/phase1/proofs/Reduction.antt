@@ -125,8 +125,8 @@ module _ (t : Table) (leader : ℕ → ℕ) (c : List ℕ) where
     where
       go : (r : Option ℕ) (n : ℕ) → weakest t c ≡ n → r ≡ segment_in n → ToStep t leader c r
       go None zero e q = step_nobody t leader c (sym over) e
-      go None (suc n) e q = absurd (let z : ◌≡◌ {A = ℕ} 0 1 = cc in omega arith)
-      go (Some i) zero e q = absurd (let z : ◌≡◌ {A = ℕ} 0 1 = cc in omega arith)
+      go None (suc n) e q = absurd cc
+      go (Some i) zero e q = absurd cc
       go (Some i) (suc n) e q =
           let is : i ≡ suc n = cc in
           record { over = sym over; is = is ∙ sym e; low = omega arith; high = omega (arith, weakest_le t c) }

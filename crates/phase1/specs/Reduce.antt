@@ -1,5 +1,5 @@
 -- What the steps of phase 1 read and keep: shares at the places of uses, surpluses, and the weakest segment so far.
-use Rattle.std.specs.Prelude.{ℕ, zero, suc, ◌-◌, ◌*◌, ◌^◌, ◌≤◌, ◌≡◌, List, Bool, ◌&&◌, ◌||◌, eqb, ltb, get_or}
+use Rattle.std.specs.Prelude.{ℕ, zero, suc, ◌-◌, ◌*◌, ◌^◌, ◌≤◌, ◌≡◌, List, Bool, ◌&&◌, ltb, get_or}
 use Rattle.std.specs.Prelude.{Option, None, Some, MatchOption, false}
 use Rattle.base.specs.Choice.{pick}
 use Rattle.base.specs.Over.{sum, best}
@@ -80,10 +80,6 @@ segment_in (suc i) = Some (suc i)
 -- segment i's ratio, with its number; none where it does not pull
 abbrev pub ratio_at : Table → List ℕ → ℕ → Option (ℕ × ℕ)
 ratio_at t c i = pick (pulls t c i) (Some (ratio t c i, i)) None
-
--- by falling benefit, of value and old, and among equals by number, j comes after a
-abbrev pub follows : ℕ → ℕ → ℕ → ℕ → Bool
-follows value old a j = ltb value old || (eqb value old && ltb a j)
 
 -- a test of number and value holds of those of 1, .. n that p says, where j has the value f j
 abbrev pub IsTest : ℕ → (ℕ → ℕ → Bool → Type 0) → (ℕ → ℕ) → (ℕ → Bool) → Type 0

@@ -1,7 +1,7 @@
 -- `phase1::next_candidate` meets its contract: those pass that come after.
 use Rattle.std.proofs.Common.{rules, ◌∙◌}
 use Rattle.tables.specs.Arrays.{benefit_at}
-use Rattle.phase1.specs.Reduce.{follows}
+use Rattle.phase1.proofs.Candidates.{follows}
 use Rattle.phase1.proofs.Candidates.{next_is}
 use Rattle.phase1.proofs.next_candidate.Goals as goal
 
