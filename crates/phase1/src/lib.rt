@@ -28,8 +28,9 @@ mod weighed;
 
 // The candidate of segment i with the greatest benefit, of equals the lowest, among those of which the test, of number and
 // benefit, holds; 0 where there is none, which is the number of nothing. A loop, which tests those alone that would lead. Tried
-// by map, filter and reduce: the library's law of a filter asks what the test answers of every number, and here it is known of
-// 1 to the size's strategies alone; and where each candidate is tested, the slowest plan takes 1.2 percent more instructions.
+// by map, filter and reduce: each candidate is tested, at 1.2 percent more instructions of the slowest plan, and the proof did
+// not close, since the library's law of a filter asks what the test answers of every number, and here it is known from 1 to the
+// strategies' count alone.
 pub fn best_candidate<F: Fn(usize, u64) -> bool>(
     z: Size,
     benefits: BenefitTable<'_>,
