@@ -160,15 +160,10 @@ pub fn reduce(planning: &mut Planning<'_>, shares: &[u64; USE_ENTRIES]) -> u64
 {
     let led = last_led(planning.t.size.segments, planning.t.leaders);
     let sums = sums_of(planning.t.size, shares, &planning.draft.choice);
-    let mut summed = Summed { shares, sums };
+    let summed = &mut Summed { shares, sums };
     let mut steps: u64 = 0;
-    while let Some(i) = (Weighed {
-        planning,
-        summed: &summed,
-    })
-    .to_step()
-    {
-        step(planning, &mut summed, led, i);
+    while let Some(i) = (Weighed { planning, summed }).to_step() {
+        step(planning, summed, led, i);
         steps += 1;
     }
     steps
