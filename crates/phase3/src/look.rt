@@ -67,8 +67,8 @@ impl<'a> Look<'a> {
     }
 
     // The first change with strategy a for segment i that counts, by the strategy of segment k. The row remembers which limits
-    // refused the others. The row is the pair's and `asked` the pass's, so one struct for both would be made of two loans for
-    // each pair. A loop, as in search: a proof knows nothing of what a chain's closure changes, here both.
+    // refused the others. It is one of the memory's rows, and `asked` stands beside them, so one struct for both would be made
+    // of two loans for each pair. A loop, as in search: a proof knows nothing of what a chain's closure changes, here both.
     fn first_with(&'a self, a: usize, row: &mut Row, asked: &mut usize) -> Option<Change>
         requires { (a ≤ (size_at self.now).strategies) × SearchingAt self.now row.old a }
         ensures { MatchOption result (SearchingAt self.now row.new (a + 1)) (λ change. FoundAt self.now.pair.now (Some change) × HoldsAt self.now row.new) }

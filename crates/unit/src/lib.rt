@@ -62,7 +62,7 @@ pub fn load(u: &mut Unit, bytes: &[u8]) -> Answer
 pub fn of_file(bytes: &[u8]) -> Result<Unit, Refusal>
     ensures { reply_in result ≡ load_of fresh_unit bytes.now }
 {
-    file::load(bytes).map(hold)
+    Ok(hold(file::load(bytes)?))
 }
 
 // Bar, unbar, set limit, set rating and set leader.
