@@ -252,7 +252,7 @@ pub fn numbered(row: usize, numbers: [usize; 4]) -> Command
 }
 
 // The numbers behind the first word; a path has none, and an edit has them behind a word of its own. By a match: a closure in
-// place of `Takes` would be chosen by the same match, in `takes`, and no contract could say which it is.
+// place of `Takes` would have to be handed out by `takes`, which the gate refuses of any function.
 #[tactic(auto, using(crate::proofs::Reading::no_numbers), unfolding(crate::specs::Reading::taken))]
 fn take(takes: Takes, line: &[u8]) -> Option<[usize; 4]>
     requires { count_of takes ≤ 4 }
