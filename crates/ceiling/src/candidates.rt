@@ -31,6 +31,7 @@ impl Candidates<'_> {
     ghost use Rattle.ceiling.specs.Views.{priced_in, repriced, CostsAt};
 
     // What segment i has left where all prices are 0: its greatest benefit.
+    #[tactic(auto, using(crate::proofs::Rounds::free_margin_is))]
     fn free_margin(self, i: usize) -> u64
         requires { (1 ≤ i) × (i ≤ self.size.segments) }
         ensures { result ≡ margin (priced_in self.entry) free i }
