@@ -2,7 +2,7 @@
 use Rattle.std.proofs.Common.{rules, arith, ◌≡◌, ◌+◌, ◌-◌}
 use Rattle.rules.specs.Phases.{top_candidate}
 use Rattle.tables.specs.Arrays.{tables}
-use Rattle.tables.proofs.Made.{made_at}
+use Rattle.base.proofs.Made.{made_at}
 use Rattle.phase1.proofs.Candidates.{bests_are}
 use Rattle.phase1.proofs.top_choice.Goals as goal
 

@@ -5,7 +5,7 @@ use lib.ListN.{length}
 use Rattle.std.proofs.Common.{rules}
 use Rattle.std.proofs.lemmas.Grind.{same_number_lists}
 use Rattle.rules.specs.District.{shared_tables, value_at}
-use Rattle.tables.proofs.Made.{made_at}
+use Rattle.base.proofs.Made.{made_at}
 use Rattle.shared.proofs.Tables.{tables_length}
 use Rattle.shared.proofs.shared_tables.Goals as goal
 

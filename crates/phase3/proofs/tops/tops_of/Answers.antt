@@ -5,7 +5,7 @@ use native.Mathlib.Omega.{arith}
 use Rattle.std.proofs.Common.{rules}
 use Rattle.base.specs.Over.{most}
 use Rattle.tables.specs.Arrays.{entry_at}
-use Rattle.tables.proofs.Made.{made_at}
+use Rattle.base.proofs.Made.{made_at}
 use Rattle.tables.proofs.RowMost.{greatest_benefit}
 use Rattle.phase3.proofs.tops.tops_of.Goals as goal
 
