@@ -41,10 +41,11 @@ pub fn fresh() -> Desk
 }
 
 // An edit, with its office's number, at the console of number `n`.
+#[tactic(auto, using(station::proofs::Numbers::naming, crate::proofs::Arrivals::nobody_arrives))]
 pub fn arrive(d: &mut Desk, n: usize, w: Waiting) -> Answer
     ensures { Arrives d.old n w (reply result d.new) }
 {
-    let _office = Which::try_from(w.office)?;
+    Which::try_from(w.office)?;
     queues::admit_at(&mut d.queues, n, w)
 }
 

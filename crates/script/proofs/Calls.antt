@@ -5,13 +5,14 @@ use mathlib.Core.List.{List}
 use native.Mathlib.Nat.{min-le_right}
 use lib.ListN.{take, replicate}
 use Rattle.std.proofs.lemmas.List.{take-replicate}
-use Rattle.std.specs.Prelude.{Result, Ok, Err}
+use Rattle.std.specs.Prelude.{Option, None, Some, Result, Ok, Err}
 use Rattle.std.specs.Result.{result_and}
 use Rattle.rules.specs.Lists.{Call, Show}
 use Rattle.rules.specs.Offices.{Plan}
-use Rattle.rules.specs.Desks.{Ask}
+use Rattle.rules.specs.Desks.{Step, Ask}
 use Rattle.rules.specs.Stations.{StationCall, call_of}
 use Rattle.rules.specs.Answers.{Answer, answer_in}
+use Rattle.rules.specs.declared.Console.{Console}
 use Rattle.rules.specs.declared.Edit.{Edit}
 use Rattle.rules.specs.declared.Sent.{Sent}
 use Rattle.rules.specs.declared.refusals.Refusal.{Refusal}
@@ -19,9 +20,10 @@ use Rattle.command.specs.declared.Command.{Command}
 use Rattle.station.specs.Kept.{RepliesTo, Lends}
 use Rattle.station.specs.Questions.{without_value}
 use Rattle.station.proofs.Replies.{lent_replies}
-use Rattle.desk.specs.Kept.{Happens}
+use Rattle.desk.specs.Kept.{Happens, Steps, reply, stepped}
 use Rattle.desk.specs.declared.Desk.{Desk}
 use Rattle.desk.proofs.Calls.{call_happens}
+use Rattle.desk.proofs.Steps.{step_happens}
 use Rattle.script.specs.Script.{commanded}
 
 -- a command without a call of its own
@@ -78,3 +80,11 @@ module _ (d : Desk) where
 
     pub lent_left_out : (n : ℕ) (c : Call) (bytes : List ℕ) → Lends d.station n c (without_value (answer_in r)) bytes → Happens d (Ask (call_of n (Plan c))) (record { answer = answer_in s; desk = d })
     lent_left_out n c bytes lends = lent_happens n c (answer_in s) bytes (rw left at lends)
+
+-- ---- a step, its console left out
+
+pub stepped_happens :
+    (d p : Desk) (r : Option (Console × Result ℕ Refusal)) (a : Result ℕ Refusal) → (r ≡ None → a ≡ Ok 0)
+    → ((t : Console × Result ℕ Refusal) → r ≡ Some t → a ≡ t.1) → Steps d (stepped r p) → Happens d Step (reply a p)
+stepped_happens d p None a idle carried steps = rw (idle refl) (step_happens d _ steps)
+stepped_happens d p (Some t) a idle carried steps = rw (carried t refl) (step_happens d _ steps)

@@ -70,7 +70,8 @@ fn body_of(call: &[u8]) -> usize
 
 // ---- calls that leave the desk as it is
 
-// An export into `room` zeros. A page differs in a length and a call: one function that takes both would be longer.
+// An export into `room` zeros. A page differs in a length and a call: over one function that takes both there would still be these
+// two, each with its contract.
 fn exported(d: &Desk, n: usize, room: usize) -> Answer
     ensures { Happens d.now (Ask (call_of n (Plan (ExportTo (replicate (min room longest_file) 0))))) (reply result d.now) }
 {
@@ -113,10 +114,7 @@ fn rough(d: &Desk, n: usize) -> Answer
 fn stepped(d: &mut Desk) -> Answer
     ensures { Happens d.old Step (reply result d.new) }
 {
-    match desk::step(d) {
-        Some((_, answer)) => answer,
-        None => Ok(0),
-    }
+    desk::step(d).map_or(Ok(0), |(_, answer)| answer)
 }
 
 // ---- one call
@@ -196,7 +194,7 @@ impl<'a> Call<'a> {
         }
     }
 
-    // The office that is shown after it: a step names none.
+    // The office that is shown after it. A step names none: its number says which, 1 or else 2.
     #[tactic(auto, using(std::proofs::lemmas::Bool::Decides::nat_tests), unfolding(crate::specs::Script::named_by))]
     fn named(&self) -> usize
         ensures { result ≡ named_by self.now.kind self.now.office }

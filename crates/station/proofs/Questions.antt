@@ -49,32 +49,27 @@ module _ (b : Both Held) (n : ℕ) (c : OfficeCall) where
         go None e = rw to_none (told_nobody e)
         go (Some w) e = told_named w (some_named n w e) _ _ (to w)
 
--- a call that writes into a buffer
-told_written :
-    (b : Both Held) (n : ℕ) (c : Call) (x : Export) → ((d : District) → brings_tables d (Plan c) ≡ false) → (w : Which) → n ≡ office_number w
-    → outcome_of (own w b).unit c ≡ written x (own w b).unit
-    → station_outcome b (call_of n (Plan c)) ≡ record { answer = x.answer; held = b; bytes = x.buffer }
-unfolding office_outcome
-told_written b n c x brings w named e = told_named b n (Plan c) brings w named x.answer x.buffer (ap (planned (own w b).heard) e)
-
 module _ (s : Station) (n : ℕ) (w : Which) (named : n ≡ office_number w) (buffer : List ℕ) (answer : Answer) (bytes : List ℕ) where
   abbrev made : Export
   made = record { answer = answer; buffer = bytes }
 
-  abbrev unit : Unit
-  unit = (own w (units_in s)).unit
+  -- a call that writes something of the unit into a buffer
+  wrote :
+      (c : Call) (writes : Unit → Export) → ((d : District) → brings_tables d (Plan c) ≡ false) → ((u : Unit) → outcome_of u c ≡ written (writes u) u)
+      → made ≡ writes (office_in w s).unit → Lends s n c answer bytes
+  unfolding office_outcome
+  wrote c writes brings out e =
+      let o = own w (units_in s) in
+      told_named (units_in s) n (Plan c) brings w named answer bytes
+      (ap (planned o.heard) (out o.unit ∙ ap (λ (x : Export). written x o.unit) (sym (rw unit_in at e))))
 
   pub export_told : made ≡ export_of (office_in w s).unit buffer → Lends s n (ExportTo buffer) answer bytes
   unfolding brings_tables outcome_of
-  export_told e =
-      told_written (units_in s) n (ExportTo buffer) made (λ d. refl) w named
-      (ap (λ (x : Export). written x unit) (sym (rw unit_in at e)))
+  export_told e = wrote (ExportTo buffer) (λ u. export_of u buffer) (λ d. refl) (λ u. refl) e
 
   pub page_told : made ≡ page_of (office_in w s).unit buffer → Lends s n (PageTo buffer) answer bytes
   unfolding brings_tables outcome_of
-  page_told e =
-      told_written (units_in s) n (PageTo buffer) made (λ d. refl) w named
-      (ap (λ (x : Export). written x unit) (sym (rw unit_in at e)))
+  page_told e = wrote (PageTo buffer) (λ u. page_of u buffer) (λ d. refl) (λ u. refl) e
 
 -- ---- show, why and the question for roughness
 

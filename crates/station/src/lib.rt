@@ -114,6 +114,7 @@ pub fn load(s: &mut Station, n: usize, bytes: &[u8]) -> Answer
 
 // ---- the other calls
 
+#[tactic(auto, using(crate::proofs::Numbers::naming, crate::proofs::Replies::nobody_plans))]
 pub fn alter(s: &mut Station, n: usize, e: Edit) -> Answer
     ensures { PlansBoth s.old n (Alter e) (reply result s.new) }
 {
@@ -168,7 +169,7 @@ pub fn why(s: &Station, n: usize, segment: usize, strategy: usize) -> Result<Rea
 }
 
 // The points for the office's window, and the last marker's bits.
-#[tactic(auto, using(crate::proofs::Numbers::naming), unfolding(crate::specs::Questions::roughness_for))]
+#[tactic(auto, using(crate::proofs::Questions::asking), unfolding(crate::specs::Questions::roughness_for, crate::specs::Questions::without_value, rules::specs::Stations::station_outcome))]
 pub fn roughness(s: &Station, n: usize) -> Result<Roughness, Refusal>
     ensures tells { (b : Both Held) → KeepsNamed s.now n b → answer_in result ≡ roughness_for (office_of n) b }
     ensures answers { RepliesTo s.now (call_of n AskRoughness) (record { answer = without_value (answer_in result); station = s.now }) }

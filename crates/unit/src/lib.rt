@@ -66,13 +66,13 @@ pub fn of_file(bytes: &[u8]) -> Result<Unit, Refusal>
 }
 
 // Bar, unbar, set limit, set rating and set leader.
-#[tactic(auto, using(crate::proofs::Settled::settled), unfolding(rules::specs::Calls::alter_of))]
+#[tactic(auto, using(crate::proofs::Settled::settled), unfolding(rules::specs::Calls::alter_of, rules::specs::Calls::unit_of))]
 pub fn alter(u: &mut Unit, e: Edit) -> Answer
     ensures { record { answer = answer_in result; unit = u.new } ≡ alter_of u.old e }
 {
     edits::check(&u.district, e)?;
     edits::edit(&mut u.district, e);
-    *u = hold(u.district);
+    u.programme = planner::plan(&u.district);
     Ok(0)
 }
 

@@ -1,9 +1,7 @@
 -- `script::stepped` meets its contract.
-use Rattle.desk.proofs.Steps.{step_happens}
+use Rattle.std.proofs.Common.{rules}
+use Rattle.script.proofs.Calls.{stepped_happens}
 use Rattle.script.proofs.stepped.Goals as goal
 
-pub returns-in-Some : goal.returns-in-Some
-returns-in-Some c = step_happens c.args.d.now _ c.in-Some.ensures
-
-pub returns-in-None : goal.returns-in-None
-returns-in-None c = step_happens c.args.d.now _ c.in-None.ensures
+pub returns : goal.returns
+returns c = stepped_happens _ _ _ _ (λ idle. search rules) (λ t carried. search rules) c.step.ensures
