@@ -171,6 +171,7 @@ impl<'a> Call<'a> {
     }
 
     // An edit that is to wait at a console; it is read from what follows the call.
+    #[tactic(auto, using(command::proofs::Reading::no_edit), unfolding(crate::specs::Script::queued_for))]
     fn queue(&self, d: &mut Desk) -> Answer
         requires { 17 ≤ length self.now.body.now }
         ensures { Happens d.old (queued_for self.now.office self.now.first (edit_in (command_in self.now.body.now))) (reply result d.new) }
