@@ -1,11 +1,11 @@
 // Reading a file and putting another in its place.
 ghost use Rattle.std.specs.Prelude.{◌≡◌, ◌+◌, ◌-◌, ◌<◌, ◌≤◌, ◌++◌, All, IfOk, length, take};
 ghost use Rattle.std.specs.Io.{ReadsAtMost};
-ghost use Rattle.base.specs.Text.{text, Put};
-ghost use Rattle.input.specs.Reading.{IsPrefixLen};
+ghost use Rattle.base.specs.Text.{text};
 ghost use Rattle.panel.specs.Files.{IsLetterOrDigit, letters};
 ghost use Rattle.panel.specs.Lines.{kept_bytes};
 
+use arrayvec::ArrayVec;
 use std::fs::{File, OpenFile};
 use std::io::{ErrorKind, Write};
 use std::random::RandomSource;
@@ -30,15 +30,16 @@ pub fn read(rt: &impl Files, path: &[u8], space: &mut [u8]) -> Result<usize, Fai
 
 // ---- a new file in the place of another
 
-// The name of the new file beside the path: how many bytes it has, as listing's writers. What stands for the X's is found when
-// the file is made.
-fn new_name(path: &[u8], name: &mut [u8]) -> usize
-    requires { (length path.now ≤ kept_bytes) × (kept_bytes + 7 ≤ length name.old) }
-    ensures prefix_len { IsPrefixLen result name.new }
-    ensures put { Put (path.now ++ text ".XXXXXX") name.old name.new result }
+// The name of the new file beside the path. What stands for the X's is found when the file is made.
+#[tactic(auto, unfolding(base::specs::Text::text))]
+fn new_name(path: &[u8]) -> ArrayVec<u8, LONGEST_NAME>
+    requires { length path.now ≤ kept_bytes }
+    ensures { result.items ≡ path.now ++ text ".XXXXXX" }
 {
-    let at = listing::put(name, path);
-    at + listing::put(&mut name[at..], b".XXXXXX")
+    let mut name = ArrayVec::new();
+    name.try_extend_from_slice(path).unwrap();
+    name.try_extend_from_slice(b".XXXXXX").unwrap();
+    name
 }
 
 // How many letters or digits stand for the X's.
@@ -141,7 +142,6 @@ fn replace<R: Files + RandomSource>(
 pub fn save<R: Files + RandomSource>(rt: &R, path: &[u8], bytes: &[u8]) -> io::Result<()>
     requires { length path.now ≤ kept_bytes }
 {
-    let mut name = [0u8; LONGEST_NAME];
-    let n = new_name(path, &mut name);
-    replace(rt, path, &mut name[..n], bytes)
+    let mut name = new_name(path);
+    replace(rt, path, name.as_mut_slice(), bytes)
 }

@@ -36,7 +36,7 @@ use std::rt::Files;
 const KEPT: usize = command::LONGEST_LINE + 1;
 
 // The byte that ends a line.
-const LINE_FEED: u8 = 10;
+const LINE_FEED: u8 = b'\n';
 
 // The desk, and the number of the office that calls name. That events led to the desk stands in the clauses that need it: a
 // ghost field has to be a proposition, which a list of events is not (tried). Truncated it would give demand 3 only after a
@@ -198,10 +198,7 @@ fn answer<H: Files + RandomSource, W: Write>(
 fn keep(line: &mut ArrayVec<u8, KEPT>, byte: u8)
     ensures { line.new.items ≡ keeping line.old.items byte }
 {
-    if line.is_full() {
-        return;
-    }
-    line.push(byte);
+    let _ = line.try_push(byte);
 }
 
 // What was read goes to the line, and each line that ends is answered.
@@ -225,27 +222,37 @@ fn feed<H: Files + RandomSource, W: Write>(
     }
 }
 
-// Answers each line of the input. A read that fails is the end of the input too, and is told of at the end.
+// Reads the input to its end, or to a read that fails, and answers each line that ends.
+fn listen<H: Files + RandomSource, R: Read, W: Write>(
+    rt: &H,
+    input: &mut R,
+    output: &mut Output<W>,
+    c: &mut Console,
+    line: &mut ArrayVec<u8, KEPT>,
+) -> io::Result<()>
+    requires { ByEvents c.old }
+    ensures { ByEvents c.new }
+{
+    let mut bytes = [0u8; MOST_READ];
+    // A proved loop has to end, and nothing says that the input does: no run uses this number up.
+    for _ in 0..u64::MAX {
+        match input.read(&mut bytes)? {
+            0 => break,
+            n => feed(rt, output, c, line, &bytes[..n]),
+        }
+    }
+    Ok(())
+}
+
+// Answers each line of the input, and what stands at its end without a line feed. A read that failed is told of at the end.
 fn converse<H: Files + RandomSource, R: Read, W: Write>(
     rt: &H,
     input: &mut R,
     output: &mut Output<W>,
 ) -> io::Result<()> {
-    let mut ended = Ok(());
     let mut console = start();
     let mut line = ArrayVec::new();
-    // A proved loop has to end, and nothing says that the input does: no run uses this number up.
-    for _ in 0..u64::MAX {
-        let mut bytes = [0u8; MOST_READ];
-        match input.read(&mut bytes) {
-            Ok(0) => break,
-            Ok(n) => feed(rt, output, &mut console, &mut line, &bytes[..n]),
-            Err(e) => {
-                ended = Err(e);
-                break;
-            }
-        }
-    }
+    let ended = listen(rt, input, output, &mut console, &mut line);
     if !line.is_empty() {
         answer(rt, output, &mut console, line.as_slice());
     }

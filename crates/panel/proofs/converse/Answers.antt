@@ -2,5 +2,5 @@
 use Rattle.panel.proofs.ByEvents.{by_events_start}
 use Rattle.panel.proofs.converse.Goals as goal
 
-pub loop-init : goal.loop-init
-loop-init g c = by_events_start c.start-console.ensures
+pub listen-ended-requires : goal.listen-ended-requires
+listen-ended-requires g c = by_events_start c.start-console.ensures
