@@ -1,7 +1,7 @@
 -- Laws of what phase 3 remembers: a row that goes down still holds, and what it refuses is refused of every tight programme.
 use Prim.Native.Nat.{ℕ, ◌+◌, ◌-◌, ◌^◌, ◌≤◌, ◌<◌, min}
 use mathlib.Core.Path.{◌≡◌, refl, sym, ap, ◌∙◌}
-use mathlib.Core.Bool.{Bool, true, false, not, true≢false}
+use mathlib.Core.Bool.{Bool, true, false, not}
 use mathlib.Core.List.{List}
 use Rattle.std.specs.Prelude.{Option, None, Some, MatchOption}
 use native.Mathlib.Omega.{arith}
@@ -61,7 +61,7 @@ abbrev pub for_none : Row → Row
 for_none row = record { holds_for = None; excesses = row.excesses }
 
 drop_strategies : (row next : Row) → Lower row next → Lower row (for_none next)
-drop_strategies row next lower = record { places = lower.places; strategies = λ s e. absurd (cc); down = lower.down }
+drop_strategies row next lower = record { places = lower.places; strategies = λ s e. cc; down = lower.down }
 
 -- ---- tight programmes
 
@@ -181,7 +181,7 @@ module _ {z : Size} {p u l c sums given : List ℕ} {i k : ℕ} (s : Setting z p
         record {
           lower = lower;
           tight = tight;
-          other = λ q. absurd (true≢false (sym q));
+          other = λ q. cc;
           passed = λ _ leader e q. no_with t leader e q.tight.places i k s.low s.above s.high (benefit_nothing p) (usage_nothing u) a (h e q.tight);
         }
 
@@ -194,13 +194,13 @@ module _ {z : Size} {p u l c sums given : List ℕ} {i k : ℕ} (s : Setting z p
     pub with_test : (next : Row) (refused : Bool) → another t c i a ≡ true → Refusal t c i k a 0 row next refused → (may : Bool) → may ≡ not refused → WithTest t c i k a row next may
     with_test next true e r may q = rw q (with_not next r.lower r.tight (λ d g. not_fits t d i k a (r.short refl d g)))
     with_test next false e r may q =
-        rw q (record { lower = r.lower; tight = r.tight; other = λ _. e; passed = λ z. absurd (true≢false z) })
+        rw q (record { lower = r.lower; tight = r.tight; other = λ _. e; passed = λ z. cc })
 
   module _ (leader : ℕ → ℕ) (a b : ℕ) (row : Row) where
     pair_not : (next : Row) → Lower row next → (Tight t i k x y (numbers row) c → Tight t i k x y (numbers next) c)
         → ((d : List ℕ) → Tight t i k x y (numbers next) d → pair t leader d i k a b ≡ None) → PairTest t leader c i k a b row next false
     pair_not next lower tight h =
-        record { lower = lower; tight = tight; counted = λ q. absurd (true≢false (sym q)); passed = λ _ d q. h d q.tight }
+        record { lower = lower; tight = tight; counted = λ q. cc; passed = λ _ d q. h d q.tight }
 
     pub pair_low : t.benefit i a + t.benefit k b ≤ present t c i k → PairTest t leader c i k a b row row false
     pair_low h =
@@ -236,7 +236,7 @@ module _ (t : Table) (leader : ℕ → ℕ) (c : List ℕ) (i k : ℕ) where
     where
       go : (o : Option (ℕ × ℕ)) → next.holds_for ≡ o → next.holds_for ≡ None
       go None q = q
-      go (Some s) q = let had = lower.strategies s q in absurd (cc)
+      go (Some s) q = let had = lower.strategies s q in cc
 
   alike_lower : {row next : Row} {d : List ℕ} → Lower row next → Alike t c i k next d → Alike t c i k row d
   alike_lower {row} {next} lower g =
@@ -272,7 +272,7 @@ module _ (t : Table) (leader : ℕ → ℕ) (c : List ℕ) (i k : ℕ) where
     alike = record { tight = g.tight; same = λ _. refl }
 
     pub unused_holds : row.holds_for ≡ None → Holds t leader i k row
-    unused_holds e x y m = absurd (cc)
+    unused_holds e x y m = cc
 
     -- all of them are
     module _ (h : t.strategies + 1 ≤ a) where
@@ -288,7 +288,7 @@ module _ (t : Table) (leader : ℕ → ℕ) (c : List ℕ) (i k : ℕ) where
           let has : (x, y) ≡ (strategy_at c i, strategy_at c k) = g.strategies (x, y) e in
           let ex : x ≡ strategy_at c i = ap (λ (s : ℕ × ℕ). s.0) has in
           let ey : y ≡ strategy_at c k = ap (λ (s : ℕ × ℕ). s.1) has in
-          rw (ex, ey) (λ d q. all_passed d (record { tight = q; same = λ z. absurd (cc) }))
+          rw (ex, ey) (λ d q. all_passed d (record { tight = q; same = λ z. cc }))
 
 -- a row with numbers that no slack reaches
 pub searching_start : {z : Size} {p u l c sums given : List ℕ} {row : Row} {i k : ℕ} → Setting z p u l c sums given i k → Limits l → length row.excesses ≡ most_resources

@@ -1,7 +1,7 @@
 -- Laws of the memory's rows: what a row of the memory gives, and what the memory holds when a row is made anew.
 use Prim.Native.Nat.{ℕ, ◌-◌, ◌≤◌, ◌<◌}
-use mathlib.Core.Path.{◌≡◌, refl, sym, ◌∙◌}
-use mathlib.Core.Bool.{Bool, true, false, ◌&&◌, true≢false}
+use mathlib.Core.Path.{◌≡◌, refl, ◌∙◌}
+use mathlib.Core.Bool.{Bool, true, false, ◌&&◌}
 use mathlib.Core.List.{List, []}
 use Rattle.std.specs.Prelude.{Option, None, Some}
 use native.Mathlib.Omega.{arith}
@@ -67,7 +67,7 @@ remembers_start t leader row none many =
           let room = place_room i k low above (omega (arith, many)) in
           let z : (row_of (replicate half (replicate most_segments row)) i k).holds_for ≡ None =
           rw (line (place i k).0 room.0, get_or-replicate most_segments (place i k).1 row unused room.1) none in
-          absurd (cc);
+          cc;
     }
 
 module _ {t : Table} {leader : ℕ → ℕ} {rows : List (List Row)} (holds : Remembers t leader rows) (many : t.segments ≤ most_segments) where
@@ -127,7 +127,7 @@ module _ {z : Size} {leader : ℕ → ℕ} (p : List ℕ) {u l c sums slacks : L
   row = row_of rows i k
 
   same : (o : Option (ℕ × ℕ)) (x y : ℕ) → same_strategies o x y ≡ true → o ≡ Some (x, y)
-  same None x y q = absurd (true≢false (sym q))
+  same None x y q = cc
   same (Some s) x y q =
       let parts = and_parts (eqb s.0 x) (eqb s.1 y) q in
       let ex : s.0 ≡ x = eqb-true s.0 x parts.0 in
