@@ -1,7 +1,7 @@
 -- The arrays filled from a district hold its table.
 use Prim.Native.Nat.{ℕ, ◌+◌, ◌-◌, ◌*◌, ◌/◌, ◌%◌, ◌^◌, ◌≤◌, ◌<◌}
 use mathlib.Core.Path.{◌≡◌, refl, ap, ap₂, sym, fun_ext, ◌∙◌}
-use mathlib.Core.Bool.{Bool, true, false, ◌&&◌, and-false, true≢false}
+use mathlib.Core.Bool.{Bool, true, false, ◌&&◌, and-false}
 use native.Mathlib.Omega.{arith}
 use borrow.Author.Tests.{lt-leb}
 use lib.Dec.{lit<}
@@ -66,7 +66,7 @@ module _ (d : District) where
 
 -- what no array has, the district does not have
 outside : (s t : Bool) (x : ℕ) → s ≡ false → (t ≡ true → s ≡ true) → 0 ≡ pick t x 0
-outside s true x e f = absurd (true≢false (sym (f refl) ∙ e))
+outside s true x e f = absurd (let s = f refl in cc)
 outside s false x e f = refl
 
 module _ (d : District) (ok : Ranges d) where

@@ -1,7 +1,7 @@
 -- The candidates of a segment in the order of the searches, and the programme of the top ones.
 use Prim.Native.Nat.{ℕ, zero, suc, ◌+◌, ◌-◌, ◌≤◌, ◌<◌}
 use mathlib.Core.Path.{◌≡◌, refl, sym, ◌∙◌}
-use mathlib.Core.Bool.{Bool, true, false, ◌&&◌, ◌||◌, and-true, true≢false}
+use mathlib.Core.Bool.{Bool, true, false, ◌&&◌, ◌||◌, and-true}
 use mathlib.Core.List.{List}
 use native.Mathlib.Omega.{arith}
 use borrow.Author.Tests.{ltb-true, lt-ltb, leb-true, leb-false}
@@ -40,7 +40,7 @@ module _ (b : List ℕ) (i : ℕ) (p : ℕ → Bool) where
     pub passing_failed : p (n + 1) ≡ false → Leads (passing b i p) (benefit_at b i) (n + 1) top most
     passing_failed f =
         leads_kept (passing b i p) (benefit_at b i) n top most leads
-        (λ e. absurd (true≢false (sym (and_parts (ltb 0 (benefit_at b i (n + 1))) (p (n + 1)) e).1 ∙ f)))
+        (λ e. absurd (let both = (and_parts (ltb 0 (benefit_at b i (n + 1))) (p (n + 1)) e).1 in cc))
 
 -- by falling benefit, of value and old, and among equals by number, j comes after a
 abbrev pub follows : ℕ → ℕ → ℕ → ℕ → Bool

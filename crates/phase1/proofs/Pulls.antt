@@ -1,7 +1,7 @@
 -- Shares, surpluses and pulls that arrays hold, and the weakest segment by them.
 use Prim.Native.Nat.{ℕ, ◌+◌, ◌-◌, ◌*◌, ◌^◌, ◌≤◌, ◌<◌}
 use mathlib.Core.Path.{◌≡◌, refl, ap, sym, ◌∙◌}
-use mathlib.Core.Bool.{Bool, true, false, false≢true}
+use mathlib.Core.Bool.{Bool, true, false}
 use mathlib.Core.List.{List, [], map}
 use Rattle.std.proofs.Common.{IsTrue, ◌↔◌}
 use native.Mathlib.Nat.{mul-le-mul}
@@ -179,7 +179,7 @@ module _ {z : Size} {u c sums : List ℕ} (running : Running z u c sums) (b l : 
     within_zip true each = within_is ((λ t k h. rw two_at at (each k (0, 0) (omega arith) (omega (arith, paired)))), (λ h. refl))
     within_zip false some =
         let inside : some.0 < z.resources = omega (arith, some.1, paired) in
-        within_is ((λ t. absurd (false≢true t)), (λ h. absurd (omega (arith, h some.0 inside, rw two_at at (some.2 (0, 0))))))
+        within_is ((λ t. absurd cc), (λ h. absurd (omega (arith, h some.0 inside, rw two_at at (some.2 (0, 0))))))
 
 -- ---- a surplus: 0 where the limit holds, else what the shares are beyond 10,000
 

@@ -1,6 +1,5 @@
 -- `phase1::prune` meets its contract: the segments passed are pruned.
 use mathlib.Core.Path.{refl, sym, ◌∙◌}
-use mathlib.Core.Bool.{true≢false}
 use Rattle.phase1.proofs.Pruning.{pruned_none, pruned_nothing, pruned_led, pruned_unled}
 use Rattle.phase1.proofs.prune.Goals as goal
 use Rattle.phase1.proofs.prune.Goals.{then-choice-i-gt0+then-not-is_led, else-choice-i-gt0, else-choice-i-gt0-via-then-choice-i-gt0+else-not-is_led, else-choice-i-gt0-via-else-choice-i-gt0}
@@ -14,7 +13,7 @@ loop-i-preserved c =
     elim c.if-choice-i-gt0.branch [
       | then-choice-i-gt0+then-not-is_led w ↦
           rw (w.choice-is, w.lost-is)
-          (pruned_unled _ l.i _ l.invariant.0 (sym w.is_led.ensures ∙ w.if-not-is_led.true), λ e. absurd (true≢false e))
+          (pruned_unled _ l.i _ l.invariant.0 (sym w.is_led.ensures ∙ w.if-not-is_led.true), λ e. absurd cc)
       | else-choice-i-gt0 w ↦
           rw (w.choice-is, w.lost-is) (
             elim w.else-choice-i-gt0.branch [
