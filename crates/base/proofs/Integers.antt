@@ -88,9 +88,6 @@ pub sum_z_next : (n : ℕ) (f : ℕ → ℤ) {t : ℤ} → t ≡ sum_z n f → t
 unfolding sum_z
 sum_z_next n f e = rw (add-one, e)
 
-pub sum_z_end : (n m : ℕ) (f : ℕ → ℤ) {t : ℤ} → t ≡ sum_z m f → m ≤ n → n ≤ m → t ≡ sum_z n f
-sum_z_end n m f e l h = let q : n ≡ m = omega arith in rw q e
-
 pub sum_z_abs : (n m : ℕ) (f : ℕ → ℤ) → ((k : ℕ) → 1 ≤ k → k ≤ n → nat_abs (f k) ≤ m) → nat_abs (sum_z n f) ≤ n * m
 unfolding sum_z
 sum_z_abs zero m f h = omega arith

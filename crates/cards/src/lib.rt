@@ -78,7 +78,8 @@ pub fn read(deck: &[u8]) -> Result<Deck, Refusal>
     // The title.
     lines::nth(deck, 0)?;
     let counts = read_card(Card::Counts, deck, 1)?;
-    // By a loop: of a `collect` into a Result no clause says what it holds, and it asks for an allocator.
+    // By a loop: of a `collect` into a Result no clause says what it holds, and `try_collect` asks for an allocator, and that a
+    // refusal can be made of its error.
     let mut segments = ArrayVec::new();
     for i in 0..counts[SEGMENT_COUNT] {
         segments.push(read_card(Card::Segment(&counts), deck, i + 2)?);

@@ -89,7 +89,7 @@ impl Candidates<'_> {
         }
     }
 
-    // The same of all segments. A loop, as each call changes the costs that the next one is lent.
+    // The same of all segments. A loop, as price_all is: each call changes the costs that the next one is lent.
     pub(crate) fn reprice(
         self,
         prices: &[u64; MOST_RESOURCES],

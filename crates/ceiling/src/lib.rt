@@ -114,8 +114,8 @@ impl Search<'_> {
         self.try_price(NewPrice { resource: r, price });
     }
 
-    // A round of the search: each resource in order, from the prices that the one before it left. A loop, since each step
-    // changes the search: a `fold` would hand it on from call to call.
+    // A round of the search: each resource in order, from the prices that the one before it left. A loop: of what a
+    // `for_each` changes in its closure, here the search, a proof knows nothing.
     fn price_all(&mut self, step: u64)
         requires { Headroom step self.old.prices }
         ensures same_table { self.new.table ≡ self.old.table }

@@ -199,6 +199,7 @@ fn behind_word(line: &[u8]) -> &[u8]
     text::drop(text::on_from(line, BLANK), 1)
 }
 
+// The path of a load or an export: all that stands behind its word.
 pub fn path(line: &[u8]) -> &[u8]
     ensures { result.now ≡ path_of line.now }
 {

@@ -18,8 +18,8 @@ use std::io::{Read, Write};
 const LONGEST_PRINTED: usize = 112 + 126 * MOST_SEGMENTS;
 
 // Each behind a blank, and the end of the line. By a loop, as in `put_segments`: of what a chain's closure writes a proof knows
-// nothing. One function for both, over a closure that writes, was written down: its clauses on when that may be called, and on
-// what it puts, are longer than the two loops.
+// nothing. One function for both, over a closure that writes, has clauses on when that may be called and on what it puts
+// that are longer than the two loops.
 fn put_numbers(out: &mut [u8], numbers: &Numbers) -> usize
     requires { length (numbers_line numbers.now) ≤ length out.old }
     ensures { Put (numbers_line numbers.now) out.old out.new result }

@@ -21,8 +21,8 @@ use rules::places::DISTRICT_PLACES;
 use rules::records::{LONGEST_FILE, RECORDS};
 use rules::{Answer, District, Refusal};
 
-// A file of the form given. One of the other form is refused at its first kind. A loop: each record is read with what the
-// records before it left in the district, from where the last one ended.
+// A file of the form given. One of the other form is refused at its first kind. A loop: a `try_fold` over what is left of
+// the file would write to the district in its closure, and of what a chain's closure changes a proof knows nothing.
 pub fn load_as(form: Form, file: &[u8]) -> Result<District, Refusal>
     ensures refusal { refusal_in result ≡ load_refusal_as (form_number form) file.now }
     ensures district { IfOk result (λ d. d ≡ district_as (form_number form) file.now) }

@@ -28,7 +28,7 @@ impl Placed {
         ensures { let read = read_numbers self.slot.places (take self.place d.old) (slot_in self.slot) 0 [] file.now in MatchResult result (λ rest. Finds read self.place self.slot.places d.old d.new rest.now) (λ refusal. read ≡ refused (refusal_number refusal)) }
     {
         let mut rest = file;
-        // No iterator over the district, which is read while it is written.
+        // A loop, as in load_as: the district is written, and read for each next number.
         for i in 0..self.slot.places {
             let f = grammar::field_at(d, self.slot, i);
             let (number, next) = rest.split_at(f.width);

@@ -28,7 +28,7 @@ impl Placed {
         4
     }
 
-    // The numbers of the record.
+    // The numbers of the record. By a loop, as write_file.
     fn write_numbers(self, out: &mut [u8], d: &District) -> usize
         requires { length (number_bytes self.slot.places d.now (slot_in self.slot) 0 self.place) ≤ length out.old }
         ensures { Put (number_bytes self.slot.places d.now (slot_in self.slot) 0 self.place) out.old out.new result }
@@ -68,7 +68,8 @@ pub fn file_length(form: Form, d: &District) -> usize
     (0..RECORDS).map(|n| records::nth(form, n).length(d)).sum()
 }
 
-// Each record goes into what is left of the buffer: a loop, since the next one begins where this one ends.
+// Each record goes into what is left of the buffer. A loop: a fold's closure would write to the buffer, and of what a chain's
+// closure changes a proof knows nothing.
 pub fn write_file(out: &mut [u8], form: Form, d: &District)
     requires { length (encode_as (form_number form) d.now) ≤ length out.old }
     ensures { out.new ≡ encode_as (form_number form) d.now ++ drop (length (encode_as (form_number form) d.now)) out.old }

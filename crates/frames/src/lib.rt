@@ -39,9 +39,9 @@ pub fn read<'a, R: Read>(input: &mut R, space: &'a mut [u8]) -> io::Result<Optio
 }
 
 // What `answer` puts to the front of its buffer for each frame of the input goes to the output, until there is no frame, or a
-// read fails: a run gives that error, if one ended it. An error of the run is a write's, and nothing is said of it, as in
-// `input::answered`. That has the same two lines for an answer; a function of them would need the three clauses on `answer`
-// once more.
+// read fails. The value is that read's error, if one ended the run: the frames before it are answered. An Err is a write's, and
+// nothing is said of it, as in `input::answered`. That has the same two lines for an answer; a function of them would need the
+// three clauses on `answer` once more.
 pub fn answered<const SPACE: usize, R: Read, W: Write, F: Fn(&[u8], &mut [u8]) -> usize>(
     input: &mut R,
     output: &mut W,

@@ -26,7 +26,7 @@ pub fn read_full<R: Read>(input: &mut R, space: &mut [u8]) -> io::Result<usize>
     let mut done: usize = 0;
     // Each read goes behind what those before it gave, and no one knows how many it takes. The library's `read_exact` says
     // nothing of a shorter input, its `read_to_end` puts the bytes into a Vec, which is on a heap, and of an `io::copy` from a
-    // `take` no clause says what is left.
+    // `take` no clause says what is left of the input behind it.
     while done < space.len() {
         let n = input.read(&mut space[done..])?;
         if n == 0 {

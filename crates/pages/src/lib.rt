@@ -79,7 +79,7 @@ pub fn put_page(out: &mut [u8], u: &Unit) -> usize
     page(&u.district, &u.programme, out).unwrap()
 }
 
-// What a load comes to: the page of the unit, or the refusal.
+// What a load comes to: the page of the unit, or the refusal. Of a listing `plan` alone needs it, and has the match itself.
 pub fn put_paged(out: &mut [u8], loaded: &Result<Unit, Refusal>) -> usize
     requires { longest_page ≤ length out.old }
     ensures { Put (loaded_page loaded.now) out.old out.new result }

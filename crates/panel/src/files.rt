@@ -96,7 +96,8 @@ fn create<R: Files>(rt: &R, name: &[u8]) -> io::Result<R::File> {
         .open(rt, text_of(name)?)
 }
 
-// Makes a file under a name that no other file has, with other letters at the name's end.
+// Makes a file under a name that no other file has, with other letters at the name's end. A loop: each try asks for new letters,
+// which may fail, and the first that does not find its name taken is the answer.
 fn make<R: Files + RandomSource>(rt: &R, name: &mut [u8]) -> io::Result<R::File> {
     for _ in 0..MOST_NAMES {
         put_letters(name, random_letters(rt)?);

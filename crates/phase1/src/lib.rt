@@ -151,7 +151,8 @@ fn step(planning: &mut Planning<'_>, summed: &mut Summed<'_>, led: usize, i: usi
     }
 }
 
-// Phase 1, the steps: until every limit holds. Returns how many there were.
+// Phase 1, the steps: until every limit holds. Returns how many there were. A loop: `iter::from_fn(..).count()` would change the
+// planning and the sums in its closure, of which a proof would know nothing.
 pub fn reduce(planning: &mut Planning<'_>, shares: &[u64; USE_ENTRIES]) -> u64
     requires { HeldIn planning.old.t shares.now planning.old.draft.choice }
     ensures same_table { planning.new.t ≡ planning.old.t }

@@ -55,7 +55,7 @@ fn best_offer(planning: &Planning<'_>) -> Option<Offer>
         .reduce(|best, o| if best.benefit < o.benefit { o } else { best })
 }
 
-// Phase 2. Returns how many segments were picked up.
+// Phase 2. Returns how many segments were picked up. A loop, as phase 1's steps.
 pub fn pick_up(planning: &mut Planning<'_>) -> u64
     ensures same_table { planning.new.t ≡ planning.old.t }
     ensures choice_after { planning.new.draft.choice ≡ (phase2 (table_in planning.old.t) (leaders_in planning.old.t) planning.old.draft.choice).last }

@@ -51,7 +51,8 @@ fn next_change(
     pass.first_change(memory)
 }
 
-// Makes the first change that counts, and starts anew, until no change counts. Returns how many were made.
+// Makes the first change that counts, and starts anew, until no change counts. Returns how many were made. A loop, as phase 1's
+// steps.
 #[tactic(auto, using(crate::proofs::ChangeSearch::under_end, crate::proofs::ChangeSearch::under_small))]
 pub fn improve(planning: &mut Planning<'_>) -> u64
     ensures same_table { planning.new.t ≡ planning.old.t }

@@ -85,8 +85,8 @@ impl Question<'_, '_> {
 
     // ---- leaders
 
-    // Whether the segment has no leader, or one that has something. The district's own number of no leader is 0: an Option would
-    // be made of it to be taken apart in the same line.
+    // Whether the segment has no leader, or one that has something: tables' is_led, of a district in place of a list of leaders.
+    // The district's own number of no leader is 0: an Option would be made of it to be taken apart in the same line.
     #[tactic(auto, using(base::proofs::Choice::picks), unfolding(rules::specs::Phases::led, rules::specs::District::leader_of))]
     fn is_led(&self) -> bool
         ensures { let t = self.now.treatment in result ≡ led (leader_of t.ranged.district.now) (strategy_at self.now.programme.now) t.segment }

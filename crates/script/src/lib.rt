@@ -218,7 +218,7 @@ pub struct Ran {
 }
 
 // What the last of the calls that the bytes stand for is answered, from the fresh desk, and which office it named. What is
-// held is sound for each office.
+// held is sound for each office. A loop: an iterator of the calls would be a type of its own, with its laws, for this one walk.
 #[tactic(auto, using(crate::proofs::Turns::starts, crate::proofs::Turns::shorter, crate::proofs::Turns::turned))]
 pub fn run(script: &[u8]) -> Ran
     ensures after { KeepsDesk result.desk (desk_after (events_of (entries_of script.now))) }

@@ -28,8 +28,8 @@ pub const ENTRIES: usize = MOST_SEGMENTS * COLUMNS;
 pub const USE_ENTRIES: usize = MOST_RESOURCES * ENTRIES;
 
 // How many segments, strategies and resources there are. That the arrays have places for so many, Bounded, is no ghost
-// field: a Size stands for the counts of any district too (fill/specs/Lists), and what needs the bound of one count asks for
-// no other.
+// field: a Size stands for the counts of any district too (size_of in fill/proofs/Tables), and what needs the bound of one count
+// asks for no other.
 #[derive(Clone, Copy)]
 pub struct Size {
     pub segments: usize,

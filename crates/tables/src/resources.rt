@@ -5,7 +5,7 @@ ghost use Rattle.rules.specs.District.{most_resources};
 use rules::places::MOST_RESOURCES;
 
 // Of each of the first resources what `number` makes of it, counted from 1; of the others 0. A loop: by array::from_fn, with 0
-// behind the last, a plan took 9 percent more instructions.
+// behind the last, a plan takes 9 percent more instructions, and one of 16 segments more than the reference's, its bar.
 pub fn by_resource<F: Fn(usize) -> u64>(resources: usize, number: F) -> [u64; MOST_RESOURCES]
     requires few { resources ≤ most_resources }
     requires callable { (r : ℕ) → 1 ≤ r → r ≤ resources → F.pre number r }

@@ -47,8 +47,8 @@ pub fn row_of(table: &[u64; USE_ENTRIES], i: usize, j: usize) -> &[u64; MOST_RES
     &rows[entry(i, j)]
 }
 
-// Each sum loses what `less` has in its place, and gains what `more` has. By the place: a zip of three would
-// hand out a pair of a pair, and its proof go by what three iterators have left.
+// Each sum loses what `less` has in its place, and gains what `more` has. By the place: a zip of three hands out
+// `((sum, less), more)`, and its proof would go by what three iterators have left.
 pub fn shift(sums: &mut [u64], less: &[u64], more: &[u64])
     requires { Shiftable sums.old less.now more.now }
     ensures { Shifted sums.old less.now more.now sums.new }

@@ -1,6 +1,6 @@
 // Loads and exports files, for a comparison with other decoders. Standard input holds frames, and each frame any bytes.
 // For each, standard output gets the refusal's number or 0, and after a 0 the length, in 4 bytes, and the bytes of the
-// exported file. A frame that is cut short or longer than 65,536 ends the run.
+// exported file. A frame that is cut short or longer than 65,536 ends the run, and so does a read that fails.
 #![tactic(auto)]
 
 ghost use Rattle.std.specs.Prelude.{◌≡◌, ◌+◌, ◌≤◌, IfOk, length};
@@ -74,6 +74,7 @@ fn run<R: Read, W: Write>(input: &mut R, output: &mut W) -> io::Result<Option<io
     frames::answered::<LONGEST_FRAMED, _, _, _>(input, output, answer)
 }
 
+// A read that fails ends the run as the end of the input does, and its error is dropped.
 fn main(rt: HostRuntime) -> io::Result<()> {
     run(&mut rt.stdin(), &mut rt.stdout())?;
     Ok(())

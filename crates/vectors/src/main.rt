@@ -1,7 +1,7 @@
 // Runs cases that were worked elsewhere. Standard input holds frames, and each frame a list of calls as script reads it.
 // For each, standard output gets the refusal of its last call or, where that is accepted, the programme of the office that
 // it named.
-// A frame that is cut short or longer than 65,536 ends the run.
+// A frame that is cut short or longer than 65,536 ends the run, and so does a read that fails.
 #![tactic(auto)]
 
 ghost use Rattle.std.specs.Prelude.{◌≤◌, IfOk, length};
@@ -36,6 +36,7 @@ fn run<R: Read, W: Write>(input: &mut R, output: &mut W) -> io::Result<Option<io
     frames::answered::<LONGEST_LISTING, _, _, _>(input, output, answer)
 }
 
+// A read that fails ends the run as the end of the input does, and its error is dropped.
 fn main(rt: HostRuntime) -> io::Result<()> {
     run(&mut rt.stdin(), &mut rt.stdout())?;
     Ok(())
