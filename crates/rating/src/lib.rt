@@ -122,7 +122,7 @@ impl<'a> Ranged<'a> {
     }
 
     // ---- the numbers of what it has, from 1 on. Each range ends at the count and one: with `1..=n` a plan of 16 segments takes 0.2
-    // million instructions more, 4.2 for 4.0, and its bar is the reference's 4.16.
+    // million instructions more, 4.18 for 3.96, and its bar is the reference's 4.16.
 
     pub fn segments(&self) -> Range<usize>
         ensures { result ≡ record { start = 1; end = segments_of self.now.district.now + 1 } }

@@ -9,5 +9,5 @@ use Rattle.fill.proofs.limits_of.Goals as goal
 pub returns : goal.returns
 unfolding limit_list
 returns c =
-    each_listed_is (limit_in c.args.d.district.now) c.by_resource.result most_resources c.by_resource.ensures.places
+    each_listed_is (limit_in c.args.d.district.now) c.by_resource.result most_resources (search rules)
     (λ r low high. let there = c.by_resource.ensures.each r low high in search rules)

@@ -27,6 +27,6 @@ fill_shares-requires-2-clause-past c = past _ c.args.d.in_range c.fill_uses.ensu
 
 pub returns : goal.returns
 returns c =
-    filled_by _ c.args.d.in_range c.fill_uses.ensures c.limits_of-self.ensures c.fill_leaders.ensures c.fill_benefits.ensures
+    filled_by _ c.args.d.in_range c.fill_uses.ensures c.limits_of-self.ensures c.leaders_of-self.ensures c.fill_benefits.ensures
     (c.fill_shares.ensures divide_up rounded_up (λ a b v h e. let up : v ≡ div_ceil a b = search rules in up ∙ div_ceil_is a b h))
     (c.fill_shares-2.ensures ◌/◌ rounded_down (λ a b v h e. search rules))

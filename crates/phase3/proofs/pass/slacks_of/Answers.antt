@@ -8,7 +8,7 @@ by_resource-requires-clause-callable c = λ r low high. let small = sums_le c.ar
 
 pub returns : goal.returns
 returns c = record {
-  places = c.by_resource.ensures.places;
+  places = search rules;
   each = λ r low high.
       let small = sums_le c.args.planning.now.running r low high in
       let there = c.by_resource.ensures.each r low high in

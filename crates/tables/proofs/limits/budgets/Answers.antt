@@ -4,6 +4,6 @@ use Rattle.tables.proofs.limits.budgets.Goals as goal
 
 pub returns : goal.returns
 returns c = record {
-  places = c.by_resource.ensures.places;
+  places = search rules;
   each = λ r lr hr. let there = c.by_resource.ensures.each r lr hr in search rules;
 }
