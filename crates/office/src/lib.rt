@@ -41,6 +41,7 @@ pub fn alter(o: &mut Office, e: Edit) -> Answer
 }
 
 // A record of the meter is handed on; the unit stays.
+#[tactic(auto, unfolding(rules::specs::Offices::office_outcome))]
 pub fn send(o: &mut Office, s: Sent) -> Answer
     ensures { Sends o.old s (reply result o.new) }
 {

@@ -1,7 +1,7 @@
 -- How a reply of an office, beside the other, is the station's, and how a call is refused.
 use Prim.Native.Nat.{ℕ, zero, suc}
 use mathlib.Core.Path.{◌≡◌, refl, sym, ap, ap₂, subst, ◌∙◌}
-use mathlib.Core.Bool.{false, true≢false}
+use mathlib.Core.Bool.{false}
 use mathlib.Core.List.{List}
 use Rattle.rules.specs.Answers.{no_such_office, answer_of, Answer, Refused}
 use Rattle.rules.specs.Lists.{Call, outcome_of}
@@ -187,5 +187,5 @@ module _ (s : Station) (n : ℕ) (w : Which) (named : n ≡ office_number w) whe
               λ m e. same_station w t s (own_office w s o ∙ sent_refused (office_in w s) sent (record { answer = answer; office = o }) sends m e) (other_office w s o);
           named = for_named (λ v. Sends (office_in v s) sent (record { answer = answer; office = office_in v t })) n w named (rw own_office sends);
           untouched = for_named (λ v. office_in (other v) t ≡ office_in (other v) s) n w named (other_office w s o);
-          nobody = λ e. absurd (true≢false (sym (named_office n w named) ∙ e));
+          nobody = λ e. let is = named_office n w named in cc;
         }

@@ -79,6 +79,7 @@ fn own_mut(s: &mut Station, w: Which) -> &mut Office
 // ---- load
 
 // A unit with the shared tables of the district, and nothing to plan.
+#[tactic(auto, using(stations::proofs::NoSegments::tables_unplanned), unfolding(rules::specs::Calls::unit_of))]
 fn with_tables(d: &District) -> Unit
     ensures { result ≡ unit_of (shared_tables d.now) }
 {
