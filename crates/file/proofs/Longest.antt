@@ -1,7 +1,7 @@
 -- The longest file is that of a district with every count at its greatest. No number is wider in any other.
 use Prim.Native.Nat.{ℕ, zero, suc, ◌+◌, ◌-◌, ◌≤◌}
-use mathlib.Core.Path.{◌≡◌, refl, sym, ◌∙◌}
-use mathlib.Core.Bool.{Bool, true, false, true≢false}
+use mathlib.Core.Path.{◌≡◌, refl, ◌∙◌}
+use mathlib.Core.Bool.{Bool, true, false}
 use mathlib.Core.List.{List, [], ◌∷◌, ◌++◌}
 use native.Mathlib.Omega.{arith}
 use lib.Dec.{ltb}
@@ -48,7 +48,7 @@ le_same false a b a' b' h k = k
 
 le_imp : (t t' : Bool) (x x' : Field) → Imp t t' → Le x x' → Le (pick t x absent) (pick t' x' absent)
 le_imp true true x x' i h = h
-le_imp true false x x' i h = absurd (true≢false (sym (i.imp refl)))
+le_imp true false x x' i h = absurd (cc (i.imp refl))
 le_imp false t' x x' i h = le_absent (pick t' x' absent)
 
 imp_refl : (t : Bool) → Imp t t
@@ -95,7 +95,7 @@ module _ (d : District) (ok : InRange leader_form d) where
     where
       go : (a b : Bool) → Imp a b → (x y : List ℕ) → length x ≤ length y → length (pick a x []) ≤ length (pick b y [])
       go true true i x y h = h
-      go true false i x y h = absurd (true≢false (sym (i.imp refl)))
+      go true false i x y h = absurd (cc (i.imp refl))
       go false b i x y h = omega arith
 
   total_top : (form m n : ℕ) → total form m d n ≤ total form m most_counts n
