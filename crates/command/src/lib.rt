@@ -183,6 +183,7 @@ fn read_arguments(bytes: &[u8], n: usize) -> Option<[usize; 4]>
 {
     let mut numbers = [0; 4];
     let mut rest = bytes;
+    // A loop: each number is read from what the one before it left.
     for number in &mut numbers[..n] {
         (*number, rest) = first_number(rest)?;
     }

@@ -50,6 +50,7 @@ fn put_segment(out: &mut [u8], i: usize, numbers: &Numbers) -> usize
     at + put_numbers(&mut out[at..], numbers)
 }
 
+// A line for each segment. A loop, as in `put_numbers`.
 fn put_segments(out: &mut [u8], segments: &[Numbers]) -> usize
     requires { length (lines_from (length segments.now) 1 (segment_line (numbers_at segments.now))) ≤ length out.old }
     ensures { Put (lines_from (length segments.now) 1 (segment_line (numbers_at segments.now))) out.old out.new result }

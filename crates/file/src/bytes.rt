@@ -15,7 +15,7 @@ pub fn put(out: &mut [u8], width: usize, value: usize)
     requires { width ≤ length out.old }
     ensures { out.new ≡ bytes_of width value ++ drop width out.old }
 {
-    // `to_le_bytes` has eight bytes, and would ask that the width is no more.
+    // `to_le_bytes` has eight bytes, and would ask that the width is no more. A loop, which hands the rest on.
     let mut rest = value;
     for byte in out[..width].iter_mut() {
         *byte = (rest % 256) as u8;

@@ -21,7 +21,7 @@ use std::array;
 use tables::{COLUMNS, ENTRIES, LimitList, Size, USE_ENTRIES, UsageTable, by_resource};
 
 // Each place of a list, counted from 0, gets what is made of its number. tables::by_resource has this loop for an array of its
-// own, from 1 on: its clauses are of numbers of resources, these of any list.
+// own, from 1 on: its clauses are of numbers of resources, these of any list. A loop, since `fill_with` hands no number.
 fn fill_each<T: Copy, F: Fn(usize) -> T>(list: &mut [T], entry: F)
     requires { (n : ℕ) → n < length list.old → F.pre entry n }
     ensures { (f : ℕ → T) → ((n : ℕ) (v : T) → n < length list.old → F.post entry n v → v ≡ f n) → list.new ≡ listed_from (length list.old) 0 f }

@@ -38,7 +38,7 @@ const KEPT: usize = command::LONGEST_LINE + 1;
 // The byte that ends a line.
 const LINE_FEED: u8 = b'\n';
 
-// The desk, and the number of the office that calls name. That events led to the desk stands in the clauses that need it: a
+// The desk, and the number of the office that calls name, as it was typed: each call reads it. That events led to the desk stands in the clauses that need it: a
 // ghost field has to be a proposition, which a list of events is not (tried). Truncated it would give demand 3 only after a
 // proof that demand 3 is one.
 #[derive(Drop)]
@@ -212,6 +212,7 @@ fn feed<H: Files + RandomSource, W: Write>(
     requires { ByEvents c.old }
     ensures { Fed c.old line.old.items bytes.now line.new.items c.new }
 {
+    // A loop: each byte changes the line or the console, and of what a chain's closure changes a proof knows nothing.
     for &byte in bytes {
         if byte == LINE_FEED {
             answer(rt, output, c, line.as_slice());

@@ -1,4 +1,5 @@
--- Laws of chains over the numbers a to b: what `find` and `find_map` over `a..=b` find.
+-- Laws of chains over the numbers a to b: what `find` and `find_map` over `a..=b` find. Those of reasons are of `a..b`,
+-- which is another kind of range.
 use Prim.Native.Nat.{ℕ, ◌+◌, ◌-◌, ◌≤◌, ◌<◌}
 use mathlib.Core.Path.{◌≡◌, sym, ap, subst, ◌∙◌}
 use mathlib.Core.Bool.{Bool, true, false}

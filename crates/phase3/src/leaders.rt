@@ -33,7 +33,8 @@ impl Changed<'_> {
         }
     }
 
-    // Segment m has nothing, or no leader, or one that has something.
+    // Segment m has nothing, or no leader, or one that has something. Not by LeaderList's is_led: the programme after a change is
+    // no array, which that one takes.
     #[tactic(auto, unfolding(rules::specs::Phases::heeds, rules::specs::Phases::led))]
     fn heeds_leader(&self, leaders: LeaderList<'_>, m: usize) -> bool
         requires { (1 ≤ m) × (m ≤ most_segments) }

@@ -85,7 +85,7 @@ impl<'a> Look<'a> {
         None
     }
 
-    // The first change of both segments that counts, by the strategy of each.
+    // The first change of both segments that counts, by the strategy of each. A loop, as first_with's.
     fn search(&'a self, row: &mut Row, asked: &mut usize) -> Option<Change>
         requires { SearchingAt self.now row.old 0 }
         ensures found { FoundAt self.now.pair.now result }

@@ -220,7 +220,8 @@ impl<'a> Treatment<'a> {
 
     // What is left of a gain at the start and at the end of each year, summed over the years. All of it is there when
     // year 1 starts. A loop, which hands the end of a year on to the next. A `fold` would carry the same two numbers as a pair,
-    // `|(total, start), t| { let end = self.survival(k, t); (total + start + end, end) }`, and take it apart behind.
+    // `|(total, start), t| { let end = self.survival(k, t); (total + start + end, end) }`, and take it apart behind. The range is
+    // written out: over `years()` the proof did not close.
     fn survivals(&self, k: usize) -> usize
         requires { Distress k }
         ensures { result ≡ sum (years_of self.now.ranged.district.now) (both_ends self.now.ranged.district.now self.now.segment self.now.strategy k) }

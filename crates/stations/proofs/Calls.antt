@@ -55,7 +55,7 @@ or_none : (n : ℕ) → or_later n 0 ≡ n
 or_none zero = refl
 or_none (suc n) = refl
 
--- where there is no refusal, there was none before
+-- where there is no refusal, there was none before (convert, which does not stand on this, has it in a law of its own)
 pub earlier_none : (n m : ℕ) → or_later n m ≡ 0 → n ≡ 0
 earlier_none zero m e = refl
 earlier_none (suc n) m e = e
