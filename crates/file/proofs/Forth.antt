@@ -257,12 +257,13 @@ pub loads_as : (file : List ℕ) → load_refusal file ≡ 0 → (Bytes file →
 unfolding load_refusal district_in decode
 loads_as file e = let k = encode_decode file _ [] (found_as (form_in file) (form_in_lem file) file e) in (k.0, k.1)
 
--- what loads in a form in which the file is read as it is in its own, loads from the file, and is in the file's ranges
-pub load_own : (form : ℕ) (file : List ℕ) → decode_as form file ≡ decode file → (r : Result District Refusal) → refusal_in r ≡ load_refusal_as form file → IfOk r (λ d. d ≡ district_as form file)
-    → (refusal_in r ≡ load_refusal file) × IfOk r (λ d. d ≡ district_in file) × IfOk r (λ d. in_range d ≡ true)
+-- what loads in a form in which the file is read as it is in its own, loads from the file, and is in the file's ranges; d is
+-- the district that comes with what is answered
+pub load_own : {A : Type 0} (d : A → District) (form : ℕ) (file : List ℕ) → decode_as form file ≡ decode file → (r : Result A Refusal) → refusal_in r ≡ load_refusal_as form file → IfOk r (λ a. d a ≡ district_as form file)
+    → (refusal_in r ≡ load_refusal file) × IfOk r (λ a. d a ≡ district_in file) × IfOk r (λ a. in_range (d a) ≡ true)
 unfolding load_refusal district_in
-load_own form file e (Ok d) f g =
+load_own d form file e (Ok a) f g =
     let z : 0 ≡ load_refusal_of (decode file) = rw e at f in
-    let q : d ≡ loaded_of (decode file) = rw e at g in
+    let q : d a ≡ loaded_of (decode file) = rw e at g in
     (z, q, rw q (loads_as file (sym z)).1)
-load_own form file e (Err refusal) f g = (rw e at f, tt, tt)
+load_own d form file e (Err refusal) f g = (rw e at f, tt, tt)

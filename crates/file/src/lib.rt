@@ -21,24 +21,44 @@ use rules::places::DISTRICT_PLACES;
 use rules::records::{LONGEST_FILE, RECORDS};
 use rules::{Answer, District, Refusal};
 
-// A file of the form given. One of the other form is refused at its first kind. A loop: a `try_fold` over what is left of
-// the file would write to the district in its closure, and of what a chain's closure changes a proof knows nothing.
-pub fn load_as(form: Form, file: &[u8]) -> Result<District, Refusal>
+// A file of the form given, into a district that is lent: each record writes all of its places, so a file that is read to its
+// end leaves nothing of what stood there, and one that is refused leaves what it came to. A file of the other form is refused at
+// its first kind. A loop: a `try_fold` over what is left of the file would write to the district in its closure, and of what a
+// chain's closure changes a proof knows nothing.
+fn read_as(form: Form, file: &[u8], d: &mut District) -> Result<(), Refusal>
     ensures refusal { refusal_in result ≡ load_refusal_as (form_number form) file.now }
-    ensures district { IfOk result (λ d. d ≡ district_as (form_number form) file.now) }
+    ensures district { IfOk result (λ _. d.new ≡ district_as (form_number form) file.now) }
 {
-    let mut d = [0usize; DISTRICT_PLACES];
     let mut rest = file;
     for n in 0..RECORDS {
-        rest = records::nth(form, n).read(&mut d, rest)?;
+        rest = records::nth(form, n).read(d, rest)?;
     }
     if !rest.is_empty() {
         return Err(Refusal::BytesFollow);
     }
+    Ok(())
+}
+
+// A file of either form, into a district that is lent.
+pub fn read(file: &[u8], d: &mut District) -> Result<(), Refusal>
+    ensures refusal { refusal_in result ≡ load_refusal file.now }
+    ensures district { IfOk result (λ _. d.new ≡ district_in file.now) }
+    ensures ranged { IfOk result (λ _. in_range d.new ≡ true) }
+{
+    read_as(forms::form_in(file), file, d)
+}
+
+// The district of a file of the form given.
+pub fn load_as(form: Form, file: &[u8]) -> Result<District, Refusal>
+    ensures refusal { refusal_in result ≡ load_refusal_as (form_number form) file.now }
+    ensures district { IfOk result (λ d. d ≡ district_as (form_number form) file.now) }
+{
+    let mut d = [0; DISTRICT_PLACES];
+    read_as(form, file, &mut d)?;
     Ok(d)
 }
 
-// A file of either form.
+// The district of a file of either form.
 pub fn load(file: &[u8]) -> Result<District, Refusal>
     ensures refusal { refusal_in result ≡ load_refusal file.now }
     ensures district { IfOk result (λ d. d ≡ district_in file.now) }

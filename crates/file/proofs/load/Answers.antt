@@ -6,5 +6,5 @@ use Rattle.file.proofs.load.Goals as goal
 pub returns : goal.returns
 returns c =
     let l = c.load_as in
-    let k = load_own (form_number c.form_in.result) c.args.file.now c.form_in.ensures l.result l.ensures.refusal l.ensures.district in
+    let k = load_own (λ d. d) (form_number c.form_in.result) c.args.file.now c.form_in.ensures l.result l.ensures.refusal l.ensures.district in
     record { refusal = k.0; district = k.1; ranged = k.2 }

@@ -6,7 +6,7 @@ use Rattle.rules.specs.File.{read_records, decode_as}
 use Rattle.rules.specs.Format.{file_records}
 use Rattle.grammar.specs.Places.{start_of}
 use Rattle.grammar.specs.Slots.{form_number}
-use Rattle.file.proofs.load_as.Given as goal
+use Rattle.file.proofs.read_as.Given as goal
 
 abbrev pub invariant-loop-n : goal.invariant-loop-n
 invariant-loop-n l =

@@ -1,15 +1,14 @@
--- `load_as` meets its contract: what the file is read as is what the rest of it is read as, after the values so far.
+-- `read_as` meets its contract: what the file is read as is what the rest of it is read as, after the values so far.
 use Prim.Native.Nat.{ℕ, suc, ◌+◌, ◌-◌, ◌<◌}
 use mathlib.Core.Path.{◌≡◌, refl, sym, ap, ◌∙◌}
 use mathlib.Core.List.{List, [], ◌++◌}
 use native.Mathlib.Omega.{arith}
-use lib.ListN.{length, take, drop, length-replicate}
+use lib.ListN.{length, take, drop}
 use lib.Seq.{take_all, take-add}
 use borrow.Author.Tests.{tests}
 use Rattle.std.proofs.Common.{rules}
 use Rattle.std.proofs.lemmas.Result.{err_from_is_err_and}
 use Rattle.rules.specs.Answers.{refusal_number, bytes_follow}
-use Rattle.rules.specs.District.{district_places}
 use Rattle.rules.specs.File.{refused, found, read_record, read_records, decode_as}
 use Rattle.rules.specs.Format.{slot_of, file_records, Slot}
 use Rattle.grammar.specs.Places.{start_of}
@@ -18,8 +17,8 @@ use Rattle.grammar.proofs.Slots.{start_next}
 use Rattle.file.specs.Readings.{Finds}
 use Rattle.file.proofs.Refusals.{refusal_found, refusal_refused, district_found}
 use Rattle.file.proofs.Steps.{less, records_found, records_refused, records_end, records_over}
-use Rattle.file.proofs.load_as.Goals as goal
-use Rattle.file.proofs.load_as.Goals.{After-loop-n}
+use Rattle.file.proofs.read_as.Goals as goal
+use Rattle.file.proofs.read_as.Goals.{After-loop-n}
 
 -- what is read of the n-th record says of those from it on
 module _ (form n place : ℕ) (slot : Slot) (d bs : List ℕ) (h : n < file_records) (e : slot ≡ slot_of form n) (p : place ≡ start_of n) where
@@ -58,7 +57,7 @@ whole c h = let l = c.loop-n in ended c ∙ records_end (form_number c.args.form
 
 pub loop-n-init : goal.loop-n-init
 unfolding decode_as
-loop-n-init c = (refl, length-replicate {A = ℕ} district_places 0)
+loop-n-init c = (refl, search rules)
 
 pub loop-n-preserved : goal.loop-n-preserved
 loop-n-preserved c =
