@@ -2,17 +2,17 @@
 use Prim.Native.Nat.{ℕ, zero, suc, ◌+◌, ◌-◌, ◌*◌, ◌≤◌, ◌<◌}
 use mathlib.Core.Path.{◌≡◌, refl, sym, ap, ◌∙◌}
 use mathlib.Core.Bool.{true, false}
-use mathlib.Core.List.{List, [], ◌∷◌, ◌++◌}
+use mathlib.Core.List.{List, [], ◌∷◌, ◌++◌, append-nil}
 use native.Mathlib.Numerals.{add-one}
 use native.Mathlib.Omega.{arith}
-use lib.ListN.{length, get_or, take, drop, set, length-append, length-drop}
-use lib.Seq.{take-suc-set, drop-set-add}
+use lib.ListN.{length, get_or, take, drop, set, replicate, length-append, length-drop}
+use lib.Seq.{append_snoc, take-suc-set, drop-set-add}
 use Rattle.base.proofs.Bytes.{length_bytes}
 use Rattle.base.proofs.Choice.{picks, pick_yes, pick_no, pick_all}
 use Rattle.base.specs.Bytes.{bytes_of, number_of}
 use Rattle.rules.specs.District.{District}
 use Rattle.rules.specs.File.{refused, found, value, widths, size, read_numbers, kind_in, read_record, read_records, number_bytes, header_bytes, record_bytes, records_bytes}
-use Rattle.rules.specs.Format.{present, field_at, inside, slot_of, file_records, Slot}
+use Rattle.rules.specs.Format.{absent, ranged, present, field_at, inside, slot_of, file_records, Slot}
 use Rattle.rules.specs.declared.Field.{Field}
 use Rattle.rules.specs.Answers.{cut_short, other_kind, other_length, out_of_range, bytes_follow}
 use Rattle.grammar.specs.Places.{start_of, Ready}
@@ -52,6 +52,15 @@ module _ (m : ℕ) (d : District) (s : Slot) (n : ℕ) (vs bs : List ℕ) (f : F
   pub number_bad : inside f x ≡ false → read_numbers (suc m) d s n vs bs ≡ refused out_of_range
   unfolding read_numbers
   number_bad t = sym (pick_no _ _ _ _ (rw fe at (rw xe at t)) refl)
+
+-- a record that is not there: each of its numbers is 0, and has no bytes
+pub numbers_none : (m : ℕ) (d : District) (s : Slot) (n : ℕ) (vs bs : List ℕ) → present d s ≡ false → read_numbers m d s n vs bs ≡ found (vs ++ replicate m 0) bs
+unfolding read_numbers field_at ranged
+numbers_none zero d s n vs bs t = ap (λ (l : List ℕ). found l bs) (sym (append-nil vs))
+numbers_none (suc m) d s n vs bs t =
+    number_good m d s n vs bs absent 0 (pick_no _ _ _ _ t refl) refl refl
+    ∙ numbers_none m d s (n + 1) (vs ++ 0 ∷ []) bs t
+    ∙ ap (λ (l : List ℕ). found l bs) (append_snoc vs 0 (replicate m 0))
 
 -- a value more
 pub stored : (d : List ℕ) (place i x : ℕ) → place + i < length d → take (i + 1) (drop place (set d (place + i) x)) ≡ take i (drop place d) ++ x ∷ []

@@ -28,7 +28,7 @@ impl Placed {
         ensures { let read = read_numbers self.slot.places (take self.place d.old) (slot_in self.slot) 0 [] file.now in MatchResult result (λ rest. Finds read self.place self.slot.places d.old d.new rest.now) (λ refusal. read ≡ refused (refusal_number refusal)) }
     {
         let mut rest = file;
-        // A loop, as in load_as: the district is written, and read for each next number.
+        // A loop, as in read_as: the district is written, and read for each next number.
         for i in 0..self.slot.places {
             let f = grammar::field_at(d, self.slot, i);
             let (number, next) = rest.split_at(f.width);
@@ -42,12 +42,13 @@ impl Placed {
         Ok(rest)
     }
 
-    // The record that stands first, where the district has it.
+    // The record that stands first, where the district has it. Else its numbers are zeros, and it has no bytes.
     pub fn read<'a>(self, d: &mut District, file: &'a [u8]) -> Result<&'a [u8], Refusal>
         ensures { let read = read_record (take self.place d.old) (slot_in self.slot) file.now in MatchResult result (λ rest. Finds read self.place self.slot.places d.old d.new rest.now) (λ refusal. read ≡ refused (refusal_number refusal)) }
     {
         if !grammar::is_present(d, self.slot) {
-            return self.read_numbers(d, file);
+            d[self.place..self.place + self.slot.places].fill(0);
+            return Ok(file);
         }
         let Some((header, body)) = file.split_at_checked(4) else {
             return Err(Refusal::CutShort);

@@ -1,18 +1,20 @@
 -- `read` meets its contract: the tests that led to each answer say which case of the definition holds.
-use Prim.Native.Nat.{ℕ, ◌≤◌}
+use Prim.Native.Nat.{ℕ, ◌+◌, ◌-◌, ◌≤◌}
 use mathlib.Core.Path.{◌≡◌, sym, ap, ◌∙◌}
 use mathlib.Core.Bool.{true, false}
-use mathlib.Core.List.{List}
+use mathlib.Core.List.{List, []}
 use native.Mathlib.Omega.{arith}
-use lib.ListN.{length, take, drop}
+use lib.ListN.{length, take, drop, replicate}
 use lib.Seq.{take-take}
 use Rattle.std.proofs.lemmas.List.{drop-take}
+use Rattle.std.proofs.lemmas.List.Edits.{length-between}
+use Rattle.std.proofs.lemmas.Slice.{overwrites}
 use Rattle.base.proofs.Buffers.{whole_tail}
 use Rattle.base.specs.Bytes.{number_of}
-use Rattle.rules.specs.File.{size, kind_in}
+use Rattle.rules.specs.File.{found, size, kind_in}
 use Rattle.rules.specs.Format.{present}
 use Rattle.grammar.specs.Slots.{slot_in}
-use Rattle.file.proofs.Steps.{record_none, record_short, record_other, record_unlike, record_cut, record_there, widths_none, widths_take}
+use Rattle.file.proofs.Steps.{numbers_none, record_none, record_short, record_other, record_unlike, record_cut, record_there, widths_take}
 use Rattle.file.proofs.records.Placed.read.Goals as goal
 use Rattle.file.proofs.records.Placed.read.Goals.{After-number-kind, Then-not-is_present, Else-not-is_present}
 
@@ -43,15 +45,23 @@ due c e = sym (kind c) ∙ e ∙ c.kind_number-due.ensures
 full : (c : After-number-kind) → c.number-length.result ≡ c.payload-size.result → let p = c.args.self in number_of (take 2 c.args.file.now) ≡ size (take p.place c.args.d.now) (slot_in p.slot)
 full c e = sym (len c) ∙ e ∙ sized c
 
-pub read_numbers-requires : goal.read_numbers-requires
-read_numbers-requires c =
-    let p = c.args.self in
-    omega (arith, widths_none p.slot.places (take p.place c.args.d.now) (slot_in p.slot) 0 (none (goal.at.read_numbers-requires c).Then-not-is_present))
-
 pub returns-then-not-is_present : goal.returns-then-not-is_present
 returns-then-not-is_present c =
     let p = c.args.self in
-    rw (record_none (take p.place c.args.d.now) (slot_in p.slot) c.args.file.now (none (goal.at.returns-then-not-is_present c).Then-not-is_present)) c.read_numbers.ensures
+    let d = c.args.d.now in
+    let file = c.args.file.now in
+    let none = none (goal.at.returns-then-not-is_present c).Then-not-is_present in
+    let places : p.place + p.slot.places - p.place ≡ p.slot.places = omega arith in
+    let room : p.place + p.slot.places ≤ length d = omega (arith, p.ready.room) in
+    let part = length-between d p.place (p.place + p.slot.places) room ∙ places in
+    let zeros = c.fill.ensures.after (λ y q. q) ∙ ap (λ (n : ℕ). replicate n 0) part in
+    rw (places, zeros) (record {
+      same =
+          record_none (take p.place d) (slot_in p.slot) file none
+          ∙ numbers_none p.slot.places (take p.place d) (slot_in p.slot) 0 [] file none
+          ∙ ap (λ (l : List ℕ). found l file) (sym (search (overwrites, arith)));
+      before = search (overwrites, arith);
+    })
 
 pub returns-in_default : goal.returns-in_default
 returns-in_default c =
@@ -76,8 +86,8 @@ returns-then-body-size c =
     let at = goal.at.returns-then-body-size c in
     record_cut (take p.place c.args.d.now) (slot_in p.slot) c.args.file.now (there at.Else-not-is_present) (long at.After-number-kind) (due at.After-number-kind c.if-kind-due.false) (full at.After-number-kind c.if-length-size.false) (omega (arith, sized at.After-number-kind, c.in-Some.ensures.cases.4))
 
-pub read_numbers-requires-2 : goal.read_numbers-requires-2
-read_numbers-requires-2 c = omega (arith, sized (goal.at.read_numbers-requires-2 c).After-number-kind)
+pub read_numbers-requires : goal.read_numbers-requires
+read_numbers-requires c = omega (arith, sized (goal.at.read_numbers-requires c).After-number-kind)
 
 pub returns : goal.returns
 returns c =
@@ -85,4 +95,4 @@ returns c =
     let at = goal.at.returns c in
     let file = c.args.file.now in
     let read = record_there (take p.place c.args.d.now) (slot_in p.slot) file (there at.Else-not-is_present) (long at.After-number-kind) (due at.After-number-kind c.if-kind-due.false) (full at.After-number-kind c.if-length-size.false) (omega (arith, sized at.After-number-kind, c.in-Some.ensures.cases.4)) in
-    rw (read, ← c.in-Some.ensures.cases.2) c.read_numbers-2.ensures
+    rw (read, ← c.in-Some.ensures.cases.2) c.read_numbers.ensures
