@@ -346,14 +346,15 @@ impl<'a> Treatment<'a> {
         reaches(self.first_ratings(), required)
     }
 
+    // The overall requirement before the minima, since it asks for the ratings of one year alone.
     #[tactic(auto, using(base::proofs::Choice::picks), unfolding(rules::specs::Rating::permitted))]
     fn permitted(&self) -> bool
         requires { self.now.segment ≤ segments_of self.now.ranged.district.now }
         ensures { result ≡ permitted self.now.ranged.district.now self.now.segment self.now.strategy }
     {
         !barred(self.ranged.district, self.segment, self.strategy)
-            && self.minima_reached()
             && self.overall_reached()
+            && self.minima_reached()
     }
 
     // ---- candidates
