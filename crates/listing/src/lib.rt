@@ -121,7 +121,7 @@ fn put_results(out: &mut [u8], p: &Programme) -> usize
 }
 
 // The programme of a district of `n` segments.
-fn put_listing(out: &mut [u8], p: &Programme, n: usize) -> usize
+pub fn put_listing(out: &mut [u8], p: &Programme, n: usize) -> usize
     requires { longest_listing ≤ length out.old }
     ensures { Put (listing p.now n) out.old out.new result }
 {

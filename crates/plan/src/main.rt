@@ -10,17 +10,19 @@ ghost use Rattle.plan.specs.Printed.{printed};
 
 use input::MOST_READ;
 use listing::LONGEST_LISTING;
+use rules::places::{DISTRICT_PLACES, SEGMENT_COUNT};
 use std::io;
 use std::io::{Read, Write};
 
 // What is printed for a file, to the front of `out`.
-#[tactic(auto, unfolding(crate::specs::Printed::printed, listing::specs::Listing::planned))]
+#[tactic(auto, unfolding(crate::specs::Printed::printed, listing::specs::Listing::planned, listing::specs::Listing::shown))]
 fn answer(file: &[u8], out: &mut [u8]) -> usize
     requires { longest_listing ≤ length out.old }
     ensures { Put (printed file.now) out.old out.new result }
 {
-    match unit::of_file(file) {
-        Ok(u) => listing::put_shown(out, &u),
+    let mut d = [0usize; DISTRICT_PLACES];
+    match unit::plan_file(file, &mut d) {
+        Ok(p) => listing::put_listing(out, &p, d[SEGMENT_COUNT]),
         Err(refusal) => listing::put_refusal(out, refusal),
     }
 }

@@ -41,7 +41,7 @@ fn phases(t: TableView<'_>, shares: &[u64; USE_ENTRIES], bound: u64) -> Programm
 }
 
 // The programme of a district in the file's ranges.
-fn programme_of(d: Ranged<'_>) -> Programme
+pub fn programme_of(d: Ranged<'_>) -> Programme
     ensures { let d = d.entry.district.now in result ≡ programme_of (table_of d) (leader_of d) }
 {
     let mut arrays = Arrays::EMPTY;

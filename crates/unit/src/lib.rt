@@ -13,8 +13,9 @@ ghost use Rattle.theorems.specs.Columns.{EveryPage};
 ghost use Rattle.theorems.specs.GoodBudget.{GoodBudget, NoneGreater};
 ghost use Rattle.theorems.specs.Reasons.{EveryReason, OneHolds};
 ghost use Rattle.theorems.specs.Scale.{RatingsOnScale};
-ghost use Rattle.unit.specs.Loaded.{reply_in};
+ghost use Rattle.unit.specs.Loaded.{reply_in, planned_unit};
 
+use rating::Ranged;
 use rules::{Answer, District, Edit, Programme, Reason, Refusal, Unit};
 
 // A unit that holds the district, with programme and ceiling worked out afresh.
@@ -63,6 +64,16 @@ pub fn of_file(bytes: &[u8]) -> Result<Unit, Refusal>
     ensures { reply_in result ≡ load_of fresh_unit bytes.now }
 {
     Ok(hold(file::load(bytes)?))
+}
+
+// The programme of that unit alone, for a caller who needs no unit. Its district is read into the one lent, which holds no
+// district after a refusal.
+#[tactic(auto, using(grammar::proofs::InRanges::in_ranges, crate::proofs::Settled::settled), unfolding(rules::specs::Calls::load_of))]
+pub fn plan_file(bytes: &[u8], d: &mut District) -> Result<Programme, Refusal>
+    ensures { reply_in (planned_unit result d.new) ≡ load_of fresh_unit bytes.now }
+{
+    file::read(bytes, d)?;
+    Ok(planner::programme_of(Ranged { district: d }))
 }
 
 // Bar, unbar, set limit, set rating and set leader.
