@@ -66,8 +66,8 @@ pub fn of_file(bytes: &[u8]) -> Result<Unit, Refusal>
     Ok(hold(file::load(bytes)?))
 }
 
-// The programme of that unit alone, for a caller who needs no unit. Its district is read into the one lent, which holds no
-// district after a refusal.
+// The programme of that unit alone, for a caller who needs no unit: its district is left in the one that is lent, where nothing is
+// copied, and its ranges are tested by the reading alone. After a refusal, what is lent is no district.
 #[tactic(auto, using(grammar::proofs::InRanges::in_ranges, crate::proofs::Settled::settled), unfolding(rules::specs::Calls::load_of))]
 pub fn plan_file(bytes: &[u8], d: &mut District) -> Result<Programme, Refusal>
     ensures { reply_in (planned_unit result d.new) ≡ load_of fresh_unit bytes.now }
