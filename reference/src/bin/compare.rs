@@ -1,12 +1,12 @@
 //! Compares other programs with this library, case by case:
 //! `compare [--plan PATH] [--page PATH] [--panel PATH] [--codec PATH] [--vectors PATH] [--up PATH] [--down PATH]
-//! [--deck PATH] --count N --seed S`.
+//! [--deck PATH] [--pack PATH] [--unpack PATH] --count N --seed S`.
 //!
 //! The cases are dealt out among the programs given. A case is made from the
 //! seed and its number alone. Where answers differ, the case's files and both
 //! answers stay in the work folder. With `--turned FILE` the stored cases of `up`
-//! and `down` in that file are run as well, and with `--decks FILE` those of
-//! `deck`, in front of the others.
+//! and `down` in that file are run as well, with `--decks FILE` those of `deck`,
+//! and with `--texts FILE` those of `pack` and `unpack`, in front of the others.
 
 use reference::calls::Call;
 use reference::console::Console;
@@ -21,7 +21,7 @@ use reference::station::{same_tables, Station};
 use reference::tables::Tables;
 use reference::turn::{self, Way};
 use reference::unit::{plan, Plan};
-use reference::{calls, deck, decks, example, file, frames, lists, page, rating};
+use reference::{calls, deck, decks, example, file, frames, lists, pack, page, rating, text, texts, unpack};
 use std::collections::{BTreeMap, BTreeSet, VecDeque};
 use std::fs;
 use std::io::{Read, Write};
@@ -33,6 +33,7 @@ use std::time::Duration;
 
 const USAGE: &str = "usage: compare [--plan PATH] [--page PATH] [--panel PATH] [--codec PATH] [--vectors PATH]
                [--up PATH] [--down PATH] [--turned FILE] [--deck PATH] [--decks FILE]
+               [--pack PATH] [--unpack PATH] [--texts FILE]
                [--count N] [--seed S] [--work DIR] [--case K]
 ";
 const PATIENCE: Duration = Duration::from_secs(120);
@@ -58,6 +59,7 @@ enum Kind {
     Panel,
     Turn(Way),
     Deck,
+    Text(text::Way),
 }
 
 impl Kind {
@@ -71,10 +73,12 @@ impl Kind {
             Kind::Turn(Way::Up) => "up",
             Kind::Turn(Way::Down) => "down",
             Kind::Deck => "deck",
+            Kind::Text(text::Way::Pack) => "pack",
+            Kind::Text(text::Way::Unpack) => "unpack",
         }
     }
 
-    /// How many of 21 cases it gets when all eight are there.
+    /// How many of 25 cases it gets when all ten are there.
     fn weight(self) -> usize {
         match self {
             Kind::Plan => 5,
@@ -84,6 +88,7 @@ impl Kind {
             Kind::Panel => 2,
             Kind::Turn(_) => 2,
             Kind::Deck => 2,
+            Kind::Text(_) => 2,
         }
     }
 }
@@ -116,8 +121,8 @@ struct Run {
 
 /// The number of differences.
 fn run(arguments: &[String]) -> Result<u64, String> {
-    let kinds = ["plan", "page", "panel", "codec", "vectors", "up", "down", "deck"];
-    let others = ["turned", "decks", "count", "seed", "work", "case"];
+    let kinds = ["plan", "page", "panel", "codec", "vectors", "up", "down", "deck", "pack", "unpack"];
+    let others = ["turned", "decks", "texts", "count", "seed", "work", "case"];
     let given = Given::read(arguments, &[&kinds[..], &others].concat())?;
     let (seed, count) = (given.number("seed", 1)?, given.number("count", 300)?);
     let cases = match given.text("case") {
@@ -146,6 +151,9 @@ fn run(arguments: &[String]) -> Result<u64, String> {
     if let (Some(path), Some(program)) = (given.text("decks"), programs.get(&Kind::Deck)) {
         run.stored_decks(program, path)?;
     }
+    if let Some(path) = given.text("texts") {
+        run.stored_texts(&programs, path)?;
+    }
     let mut files: Vec<(u64, Vec<u8>)> = Vec::new();
     let mut lists: Vec<(u64, Vec<u8>)> = Vec::new();
     for case in cases {
@@ -156,6 +164,7 @@ fn run(arguments: &[String]) -> Result<u64, String> {
             Kind::Panel => run.panel_case(&programs[&kind], case)?,
             Kind::Turn(way) => run.turn_case(way, &programs[&kind], case)?,
             Kind::Deck => run.deck_case(&programs[&kind], case)?,
+            Kind::Text(way) => run.text_case(way, &programs[&kind], case)?,
             Kind::Codec => files.push((case, make::any_frame(&mut Random::for_case(seed, case)))),
             Kind::Vectors => lists.push((case, lists::any_list(&mut Random::for_case(seed, case)))),
         }
@@ -173,7 +182,9 @@ fn run(arguments: &[String]) -> Result<u64, String> {
 fn programs(given: &Given) -> Result<BTreeMap<Kind, PathBuf>, String> {
     let mut programs = BTreeMap::new();
     let turns = [Kind::Turn(Way::Up), Kind::Turn(Way::Down), Kind::Deck];
-    for kind in [Kind::Plan, Kind::Page, Kind::Codec, Kind::Vectors, Kind::Panel].into_iter().chain(turns) {
+    let texts = [text::Way::Pack, text::Way::Unpack].map(Kind::Text);
+    let first = [Kind::Plan, Kind::Page, Kind::Codec, Kind::Vectors, Kind::Panel];
+    for kind in first.into_iter().chain(turns).chain(texts) {
         if let Some(path) = given.text(kind.name()) {
             // Programs are run from other folders too, so the path must be whole.
             let path = fs::canonicalize(path).map_err(|error| format!("{path}: {error}"))?;
@@ -302,6 +313,39 @@ impl Run {
             } else {
                 self.tally(Kind::Deck).differed += 1;
                 println!("difference: deck, line {line} of {path}");
+            }
+        }
+        Ok(())
+    }
+
+    fn text_case(&mut self, way: text::Way, program: &Path, case: u64) -> Result<(), String> {
+        let mut random = Random::for_case(self.seed, case);
+        let tally = self.tally(Kind::Text(way));
+        let bytes = match way {
+            text::Way::Pack => texts::any_text(&mut random),
+            text::Way::Unpack => texts::any_file(&mut random),
+        };
+        match way {
+            text::Way::Pack => text_features(tally, &bytes),
+            text::Way::Unpack => unpacked_features(tally, &bytes),
+        }
+        self.file_case(Kind::Text(way), program, case, &bytes, &text::answer(way, &bytes))
+    }
+
+    /// The stored cases of `pack` and `unpack`, each through its program where that
+    /// is given.
+    fn stored_texts(&mut self, programs: &BTreeMap<Kind, PathBuf>, path: &str) -> Result<(), String> {
+        let text = fs::read_to_string(path).map_err(|error| format!("{path}: {error}"))?;
+        for (line, way, bytes, expected) in text::cases(&text)? {
+            let kind = Kind::Text(way);
+            if let Some(program) = programs.get(&kind) {
+                self.tally(kind).see("stored");
+                if call(program, Path::new("."), &bytes)? == expected {
+                    self.agreed(kind);
+                } else {
+                    self.tally(kind).differed += 1;
+                    println!("difference: {}, line {line} of {path}", kind.name());
+                }
             }
         }
         Ok(())
@@ -470,6 +514,37 @@ fn transcoded(tally: &mut Tally, frame: &[u8]) -> Vec<u8> {
         Err(refusal) => {
             tally.see(format!("refused {}", refusal.number()));
             vec![refusal.number()]
+        }
+    }
+}
+
+/// Notes what a text has that is worth having tested: what is made of it, or the
+/// words of its complaint.
+fn text_features(tally: &mut Tally, text: &[u8]) {
+    match pack::pack(text) {
+        Ok(file) => {
+            tally.see(if file[2] == 8 { "packed with leaders" } else { "packed" });
+            tally.see_if("N=0", file[4] == 0);
+            tally.see_if("longest file", file.len() == file::LONGEST || file.len() == file::LONGEST_PLAIN);
+            tally.see_if("longest text", text.len() == pack::TEXT_MOST);
+            tally.see_if("last line without its end", text.last() != Some(&b'\n'));
+        }
+        Err(complaint) => tally.see(texts::sort_of(&complaint)),
+    }
+}
+
+/// The same of a file to be unpacked.
+fn unpacked_features(tally: &mut Tally, bytes: &[u8]) {
+    match unpack::unpack(bytes) {
+        Ok(text) => {
+            tally.see(if text.starts_with("led") { "unpacked with leaders" } else { "unpacked" });
+            tally.see_if("N=0", bytes[4] == 0);
+            tally.see_if("longest file", bytes.len() == file::LONGEST || bytes.len() == file::LONGEST_PLAIN);
+        }
+        Err(refused) => {
+            tally.see(format!("refused {}", refused.refusal.number()));
+            tally.see_if("of the form with leaders", bytes.len() >= 4 && bytes[2..4] == file::LED.to_le_bytes());
+            tally.see_if("more than 4096 bytes", bytes.len() > unpack::FILE_MOST);
         }
     }
 }

@@ -6,14 +6,14 @@
 
 use reference::refusal::Refusal;
 use reference::unit::Unit;
-use reference::{calls, console, deck, file, frames, listing, options::Given, page, rating, turn};
+use reference::{calls, console, deck, file, frames, listing, options::Given, page, rating, text, turn};
 use std::panic::{catch_unwind, AssertUnwindSafe};
 use std::path::Path;
 use std::process::ExitCode;
 use std::sync::atomic::{AtomicUsize, Ordering};
 use std::{fs, io};
 
-const USAGE: &str = "usage: stored --crates DIR --computed FILE --turned FILE --decks FILE --work DIR\n";
+const USAGE: &str = "usage: stored --crates DIR --computed FILE --turned FILE --decks FILE --texts FILE --work DIR\n";
 
 static PANICS: AtomicUsize = AtomicUsize::new(0);
 
@@ -41,20 +41,20 @@ fn main() -> ExitCode {
 }
 
 fn first_different(arguments: &[String]) -> Result<Option<String>, String> {
-    let given = Given::read(arguments, &["crates", "computed", "turned", "decks", "work"])?;
+    let given = Given::read(arguments, &["crates", "computed", "turned", "decks", "texts", "work"])?;
     let (crates, work) = (Path::new(given.needed("crates")?), Path::new(given.needed("work")?));
     let error = |error: io::Error| error.to_string();
     let read = |name: &str| fs::read(crates.join(name)).map_err(error);
 
     let file = read("plan/stdin")?;
     let worked = [answer(|| listing::answer(&file))];
-    if let Some(at) = differs(worked, &[text(&read("plan/stdout")?)]) {
+    if let Some(at) = differs(worked, &[lossy(&read("plan/stdout")?)]) {
         return Ok(Some(format!("plan {at}")));
     }
 
     let file = read("page/stdin")?;
     let worked = [answer(|| page::answer(&file))];
-    if let Some(at) = differs(worked, &[text(&read("page/stdout")?)]) {
+    if let Some(at) = differs(worked, &[lossy(&read("page/stdout")?)]) {
         return Ok(Some(format!("page {at}")));
     }
 
@@ -68,7 +68,7 @@ fn first_different(arguments: &[String]) -> Result<Option<String>, String> {
 
     let cards = read("deck/stdin")?;
     let worked = [answer(|| deck::answer(&cards))];
-    if let Some(at) = differs(worked, &[text(&read("deck/stdout")?)]) {
+    if let Some(at) = differs(worked, &[lossy(&read("deck/stdout")?)]) {
         return Ok(Some(format!("deck {at}")));
     }
 
@@ -79,9 +79,27 @@ fn first_different(arguments: &[String]) -> Result<Option<String>, String> {
         }
     }
 
+    let cases = text::cases(&fs::read_to_string(given.needed("texts")?).map_err(error)?)?;
+    for (line, way, input, stored) in cases {
+        if differs([answer(|| hex(&text::answer(way, &input)))], &[hex(&stored)]).is_some() {
+            return Ok(Some(format!("line {line} of texts.txt")));
+        }
+    }
+
+    for (name, way) in [("pack", text::Way::Pack), ("unpack", text::Way::Unpack)] {
+        // Looked at where the proved program is there.
+        if crates.join(name).join("src").is_dir() {
+            let input = read(&format!("{name}/stdin"))?;
+            let worked = [answer(|| hex(&text::answer(way, &input)))];
+            if differs(worked, &[hex(&read(&format!("{name}/stdout"))?)]).is_some() {
+                return Ok(Some(name.to_string()));
+            }
+        }
+    }
+
     let lists = split(&read("vectors/stdin")?);
     let worked = lists.iter().map(|list| answer(|| calls::worked(list)));
-    if let Some(at) = differs(worked, &listings(&text(&read("vectors/stdout")?))) {
+    if let Some(at) = differs(worked, &listings(&lossy(&read("vectors/stdout")?))) {
         return Ok(Some(format!("list {at} of vectors")));
     }
 
@@ -96,10 +114,10 @@ fn first_different(arguments: &[String]) -> Result<Option<String>, String> {
     let worked = answer(|| {
         let mut output = Vec::new();
         let done = console::run(&mut &input[..], &mut output, work);
-        done.map_or_else(|error| error.to_string(), |()| text(&output))
+        done.map_or_else(|error| error.to_string(), |()| lossy(&output))
     });
     if let Some(worked) = worked {
-        if let Some(at) = differs(by_line(&worked).into_iter().map(Some), &by_line(&text(&read("panel/stdout")?))) {
+        if let Some(at) = differs(by_line(&worked).into_iter().map(Some), &by_line(&lossy(&read("panel/stdout")?))) {
             return Ok(Some(format!("line {at} of panel")));
         }
     }
@@ -129,7 +147,7 @@ fn answer(work: impl FnOnce() -> String) -> Option<String> {
     catch_unwind(AssertUnwindSafe(work)).ok()
 }
 
-fn text(bytes: &[u8]) -> String {
+fn lossy(bytes: &[u8]) -> String {
     String::from_utf8_lossy(bytes).into_owned()
 }
 
