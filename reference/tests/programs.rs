@@ -73,6 +73,29 @@ fn deck_prints_the_example() {
     assert_eq!(output_of(deck, &[], &[b' '; 65_536]), b"refused 19\n");
 }
 
+/// A text and back, a complaint, a refusal, and what is read of a long input.
+#[test]
+fn pack_and_unpack_answer() {
+    let [pack, unpack] = [env!("CARGO_BIN_EXE_pack"), env!("CARGO_BIN_EXE_unpack")];
+    let text = output_of(unpack, &[], &card_bytes());
+    assert!(text.starts_with(b"district 2 2 2 1 1 1 # segments, strategies, ") && text.ends_with(b"\nend\n"));
+    assert_eq!(output_of(pack, &[], &text), card_bytes());
+    assert_eq!(output_of(pack, &[], b""), b"line 1: the end is missing ('district' is due)\n");
+    let ends = b"refused 1\nrecord 1 (district): the file ends within it\n";
+    assert_eq!(output_of(unpack, &[], b""), ends);
+    let long = [&text[..], &[b' '; 70_000]].concat();
+    assert_eq!(output_of(pack, &[], &long[..65_536]), card_bytes());
+    for length in [65_537, 70_000] {
+        assert_eq!(output_of(pack, &[], &long[..length]), b"the text is longer than 65536 bytes\n");
+    }
+    let long = [card_bytes(), vec![0; 10_000]].concat();
+    assert_eq!(output_of(unpack, &[], &long), b"refused 5\n4009 bytes follow the end\n");
+    // A complaint is no file, and a refusal no text.
+    let complaint = output_of(pack, &[], b"x");
+    assert_eq!(output_of(unpack, &[], &complaint), b"refused 2\nrecord 1: kind 25966 stands where 1 is due\n");
+    assert_eq!(output_of(pack, &[], ends), b"line 1: 'refused' is not the word due ('district')\n");
+}
+
 #[test]
 fn panel_answers() {
     let panel = env!("CARGO_BIN_EXE_panel");
@@ -214,4 +237,29 @@ fn compare_runs_the_stored_files() {
         let (fine, text) = run(up, down);
         assert!(!fine && text.contains(", line "), "{text}");
     }
+}
+
+/// Generated and stored texts and files through `pack` and `unpack`, and a wrong
+/// program is found by either.
+#[test]
+fn compare_runs_texts() {
+    let compare = env!("CARGO_BIN_EXE_compare");
+    let texts = concat!(env!("CARGO_MANIFEST_DIR"), "/texts.txt");
+    let work = std::env::temp_dir().join(format!("reference-{}-texts", std::process::id()));
+    let work = work.to_str().unwrap();
+    let run = |pack: &str, unpack: &str, more: &[&str]| {
+        let programs = ["--pack", pack, "--unpack", unpack, "--work", work];
+        let output = Command::new(compare).args(programs).args(more).output().unwrap();
+        (output.status.success(), String::from_utf8(output.stdout).unwrap())
+    };
+    let [pack, unpack, up] = [env!("CARGO_BIN_EXE_pack"), env!("CARGO_BIN_EXE_unpack"), env!("CARGO_BIN_EXE_up")];
+    for more in [&["--count", "40"][..], &["--count", "0", "--texts", texts]] {
+        let (fine, text) = run(pack, unpack, more);
+        assert!(fine && text.ends_with(" cases, 0 differences\n") && !text.contains("compared 0 "), "{text}");
+        for (pack, unpack) in [(unpack, unpack), (pack, pack), (up, unpack), (pack, up)] {
+            let (fine, text) = run(pack, unpack, more);
+            assert!(!fine && text.contains("difference: ") && !text.ends_with(" 0 differences\n"), "{text}");
+        }
+    }
+    std::fs::remove_dir_all(work).unwrap();
 }

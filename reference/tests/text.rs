@@ -92,7 +92,7 @@ fn the_card_with_one_line_changed() {
         assert_eq!(pack(&joined(&lines)), wanted, "{example}");
         seen += 1;
     }
-    assert_eq!(seen, 33);
+    assert_eq!(seen, 35);
 }
 
 #[test]
@@ -128,30 +128,31 @@ fn the_file_with_one_byte_changed() {
     let mut seen = 0;
     for example in &blocks[6] {
         let (changed, wanted) = example.split_once(" → ").unwrap();
-        let words: Vec<&str> = changed.split_whitespace().collect();
         let mut bytes = card_bytes();
-        match words[..] {
-            ["no", "byte", "is", "left"] => bytes.clear(),
-            ["the", "first", many, "are", "left"] => bytes.truncate(many.parse().unwrap()),
-            ["a", "byte", "0", "follows"] => bytes.push(0),
-            ["10,000", "bytes", "0", "follow"] => bytes.extend(vec![0; 10_000]),
-            ["byte", at, "is", byte] => bytes[at.parse::<usize>().unwrap() - 1] = byte.parse().unwrap(),
-            ["byte", "83", "is", "0", "to", "20"] => {
-                for rating in 0..=20 {
-                    bytes[82] = rating;
-                    let text = String::from_utf8(joined(&blocks[0])).unwrap();
-                    assert_eq!(unpack(&bytes), Ok(text.replace(" 15 # segment", &format!(" {rating} # segment"))));
-                }
-                seen += 1;
-                continue;
+        if changed.starts_with("byte 83 is 0 to 20 ") {
+            for rating in 0..=20 {
+                bytes[82] = rating;
+                let text = String::from_utf8(joined(&blocks[0])).unwrap();
+                assert_eq!(unpack(&bytes), Ok(text.replace(" 15 # segment", &format!(" {rating} # segment"))));
             }
-            _ => panic!("{example}"),
+            seen += 1;
+            continue;
+        }
+        for change in changed.trim_end().split(", ") {
+            match change.split(' ').collect::<Vec<_>>()[..] {
+                ["no", "byte", "is", "left"] => bytes.clear(),
+                ["the", "first", many, "are", "left"] => bytes.truncate(many.parse().unwrap()),
+                ["a", "byte", "0", "follows"] => bytes.push(0),
+                ["10,000", "bytes", "0", "follow"] => bytes.extend(vec![0; 10_000]),
+                ["byte", at, "is", byte] => bytes[at.parse::<usize>().unwrap() - 1] = byte.parse().unwrap(),
+                _ => panic!("{example}"),
+            }
         }
         let (first, second) = wanted.split_once("    ").unwrap();
         assert_eq!(unpack::answer(&bytes), format!("{first}\n{second}\n"), "{example}");
         seen += 1;
     }
-    assert_eq!(seen, 16);
+    assert_eq!(seen, 18);
     let mut led = up(&card_bytes()).unwrap();
     led[84] = 2;
     let place = "record 8 (segment 2), number 8: 2 is not 0 to 1";
