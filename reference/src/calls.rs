@@ -9,7 +9,8 @@
 //! room, cut to that of the longest page; 9 why; 10 an index reading and 11 a
 //! mile marker, whose first number is the record's bits; 12 a lost sample; 13
 //! roughness; 14 set leader; 16 an edit that waits at the console of its first number;
-//! 17 a step. Of why and of roughness only the refusal is answered. Survey
+//! 17 a step; 18 a choice of blocks, whose first number says how many numbers follow,
+//! each of 4 bytes. Of why and of roughness only the refusal is answered. Survey
 //! points, 7, and naming an office, 15, are no calls of an office. They count as a
 //! show of the one that stands in them, as does any other kind.
 //! The edit that waits follows as 17 bytes more, its kind and numbers those of the
@@ -45,6 +46,7 @@ pub enum Call {
     SetLeader(u32, u32),
     Queue(u32, Edit),
     Step,
+    Blocks(Vec<u32>),
 }
 
 impl Call {
@@ -77,6 +79,10 @@ impl Call {
                 Call::of(*edit).write(office, out);
             }
             Call::Step => head(17, [0; 3]),
+            Call::Blocks(row) => {
+                head(18, [row.len() as u32, 0, 0]);
+                out.extend(row.iter().flat_map(|number| number.to_le_bytes()));
+            }
         }
     }
 
@@ -131,6 +137,12 @@ impl Call {
                 return Some((office, edit.map_or(Call::Show, |edit| Call::Queue(a, edit)), &rest[HEAD..]));
             }
             17 => return Some((if office == 1 { 1 } else { 2 }, Call::Step, rest)),
+            18 => {
+                let numbers = rest.get(..4 * a as usize)?;
+                let four = |one: &[u8]| u32::from_le_bytes([one[0], one[1], one[2], one[3]]);
+                let row = numbers.chunks_exact(4).map(four).collect();
+                return Some((office, Call::Blocks(row), &rest[numbers.len()..]));
+            }
             _ => Call::Show,
         };
         Some((office, call, rest))
@@ -161,6 +173,10 @@ impl Call {
             Call::Lost => unit.lost(),
             Call::Roughness => unit.roughness().map(|_| ()),
             Call::SetLeader(i, leader) => unit.set_leader((*i).into(), (*leader).into()),
+            Call::Blocks(row) => {
+                let row: Vec<u64> = row.iter().map(|&number| number.into()).collect();
+                unit.choose_blocks(&row)
+            }
         }
     }
 }

@@ -11,10 +11,13 @@
 //! - `queue C EDIT` has an edit, written as the command that makes it at once, wait at
 //!   console C for the office that calls name now. What is no edit there makes the line
 //!   no command. `step` carries one out, and names no office.
+//! - `blocks` chooses none. `blocks FIRST LAST PART.. / FIRST LAST PART.. ..` has any
+//!   number of blocks, as many parts for each as there are resources now, and a stroke
+//!   between two blocks; other lines of that word are no command.
 //! - A number is one to 20 digits (zeros in front are fine) within 64 bits.
 //! - The bits of a reading or a marker are a number within 32 bits.
 //! - A line is blank if it holds only blanks, tabs and carriage returns.
-//! - A line of more than 512 bytes (its line feed not counted) is an unknown
+//! - A line of more than 4,096 bytes (its line feed not counted) is an unknown
 //!   command, even a blank one, unless it begins with `#`.
 //! - The last line may lack its line feed.
 //! - A load reads at most 4,096 bytes of its file. No valid file is longer
@@ -35,7 +38,7 @@ use std::io::{self, BufRead, Read, Write};
 use std::os::unix::ffi::OsStrExt;
 use std::path::Path;
 
-pub const LINE_MOST: usize = 512;
+pub const LINE_MOST: usize = 4_096;
 pub const PATH_MOST: usize = 255;
 pub const FILE_MOST: u64 = 4_096;
 
@@ -52,8 +55,8 @@ pub fn run(input: &mut dyn BufRead, output: &mut dyn Write, base: &Path) -> io::
     Ok(())
 }
 
-/// The next line without its line feed. Of a long one only the first 513
-/// bytes are kept, which is enough to know that it is too long.
+/// The next line without its line feed. Of a long one only a byte more than a
+/// line may have is kept, which is enough to know that it is too long.
 fn next_line(input: &mut dyn BufRead) -> io::Result<Option<Vec<u8>>> {
     let mut line = Vec::new();
     let mut seen = false;
@@ -119,6 +122,10 @@ impl Console {
         if let Some(waiting) = line.strip_prefix(b"queue ") {
             return self.queue(waiting);
         }
+        if let Some(blocks) = line.strip_prefix(b"blocks ") {
+            let row = row(blocks, 2 + self.desk.station.resources())?;
+            return Some(answered(self.edit(|unit| unit.choose_blocks(&row))));
+        }
         let (command, numbers) = words(line)?;
         let asked = match (command, &numbers[..]) {
             (b"show", []) => self.held().map(shown),
@@ -142,6 +149,7 @@ impl Console {
                 Ok(OK.to_string())
             }
             (b"step", []) => Ok(stepped(self.desk.step())),
+            (b"blocks", []) => self.edit(|unit| unit.choose_blocks(&[])),
             (command, numbers) => {
                 let edit = edit(command, numbers)?;
                 self.edit(|unit| edit.make(unit))
@@ -164,7 +172,7 @@ impl Console {
         call(self.desk.station.office_mut(self.office)?)
     }
 
-    /// An edit that does not wait, or a record.
+    /// An edit that does not wait, a record, or a choice of blocks.
     fn edit(&mut self, call: impl FnOnce(&mut Unit) -> Result<(), Refusal>) -> Result<String, Refusal> {
         self.call(call).map(|()| OK.to_string())
     }
@@ -237,6 +245,21 @@ fn stepped(step: Option<Step>) -> String {
 fn words(line: &[u8]) -> Option<(&[u8], Vec<u64>)> {
     let mut words = line.split(|&byte| byte == b' ');
     Some((words.next()?, words.map(number).collect::<Option<_>>()?))
+}
+
+/// The numbers of blocks that stand in a line, each of this size, with a stroke
+/// between two of them; none where something else stands there.
+fn row(blocks: &[u8], size: usize) -> Option<Vec<u64>> {
+    let words: Vec<&[u8]> = blocks.split(|&byte| byte == b' ').collect();
+    let mut row = Vec::new();
+    for block in words.split(|word| *word == b"/") {
+        let numbers = block.iter().map(|word| number(word)).collect::<Option<Vec<u64>>>()?;
+        if numbers.len() != size {
+            return None;
+        }
+        row.extend(numbers);
+    }
+    Some(row)
 }
 
 /// The edit that a command is; none where it is another, or none.

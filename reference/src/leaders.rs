@@ -7,12 +7,12 @@ use crate::file;
 use crate::vectors::{led, small};
 
 /// A strategy: its requirement in units and its gain.
-fn takes(units: u32, gain: i8) -> (Vec<u32>, i8) {
+pub fn takes(units: u32, gain: i8) -> (Vec<u32>, i8) {
     (vec![1_000 * units], gain)
 }
 
 /// Segments have miles, bars and a leader.
-fn district(limit: u32, strategies: &[(Vec<u32>, i8)], segments: &[(u16, u16, u8)]) -> District {
+pub fn district(limit: u32, strategies: &[(Vec<u32>, i8)], segments: &[(u16, u16, u8)]) -> District {
     let strategies: Vec<(&[u32], i8, u8)> =
         strategies.iter().map(|(requirements, gain)| (&requirements[..], *gain, 100)).collect();
     let sizes: Vec<(u16, u8, u16)> = segments.iter().map(|&(miles, bars, _)| (100 * miles, 1, bars)).collect();

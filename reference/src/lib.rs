@@ -3,9 +3,11 @@
 //! It is the yardstick for another implementation: programs here make
 //! districts, damaged files and lists of calls, run both sides and compare.
 
+pub mod blocks;
 pub mod calls;
 pub mod ceiling;
 pub mod console;
+pub mod counties;
 pub mod deck;
 pub mod decks;
 pub mod desk;

@@ -17,9 +17,10 @@ pub fn any_list(random: &mut Random) -> Vec<u8> {
         return random.bytes(length);
     }
     let count = random.size(0, 40);
-    let calls = match random.below(10) {
+    let calls = match random.below(12) {
         0..=2 => by_both(random, count),
-        3..=6 => at_consoles(random, 2 * count),
+        3..=5 => at_consoles(random, 2 * count),
+        6..=8 => in_blocks(random, count),
         _ => by_one(random, count),
     };
     cut(random, encode_by(&calls))
@@ -105,6 +106,71 @@ pub fn at_consoles(random: &mut Random, count: usize) -> Vec<(u32, Call)> {
             (office, call)
         })
         .collect()
+}
+
+/// A list of so many calls in which offices choose blocks: loads of districts with
+/// some segments, choices for what is held and for what was held before, limits around
+/// what parts add to, other edits that wait and that don't, and the other calls
+/// between them.
+pub fn in_blocks(random: &mut Random, count: usize) -> Vec<(u32, Call)> {
+    let mut desk = Desk::fresh();
+    // What each office has chosen last.
+    let mut rows: [Vec<u32>; 2] = Default::default();
+    (0..count)
+        .map(|at| {
+            let office = if random.chance(2) { *random.pick(&NO_OFFICES) } else { random.size(1, 2) as u32 };
+            let held = held(&desk.station, office);
+            let own = usize::from(office == 2);
+            let call = match random.below(100) {
+                0..=89 if at < 2 => Call::Load(settled_file(random, &held, at == 0)),
+                0..=5 => Call::Load(settled_file(random, &held, false)),
+                6..=29 => Call::Blocks(make::choice(random, &held)),
+                30..=36 => Call::Blocks(random.pick(&rows).clone()),
+                37..=40 => Call::Blocks(Vec::new()),
+                41..=45 => Call::Queue(random.size(1, 4) as u32, waiting(random, &held)),
+                46..=50 => Call::Step,
+                51..=58 => Call::Show,
+                59..=66 => set_leader(random, held.segments.len()),
+                67..=84 => {
+                    let (resource, limit) = limit_at_parts(random, &rows[own], &held);
+                    Call::SetLimit(resource, limit)
+                }
+                _ => call(random, &held, true),
+            };
+            if let Call::Blocks(row) = &call {
+                rows[own].clone_from(row);
+            }
+            let _ = call.make(office, &mut desk);
+            (office, call)
+        })
+        .collect()
+}
+
+/// A resource, and what the parts of a row add to there as its limit, or one less,
+/// or more.
+pub fn limit_at_parts(random: &mut Random, row: &[u32], held: &District) -> (u32, u32) {
+    let r = random.size(0, held.limits.len() - 1);
+    let parts = row.chunks(2 + held.limits.len()).filter_map(|block| block.get(2 + r));
+    let given: u64 = parts.map(|&part| u64::from(part)).sum();
+    let limit = *random.pick(&[given.saturating_sub(1), given, 2 * given]);
+    (r as u32 + 1, limit.min(LIMIT_MOST.into()) as u32)
+}
+
+/// A file with up to nine segments for an office of a unit that holds these tables,
+/// or with tables of its own.
+fn settled_file(random: &mut Random, held: &District, fresh: bool) -> Vec<u8> {
+    let segments = random.size(1, 9);
+    let mut made = match fresh {
+        true => {
+            let shape = make::small_shape(random, 0, 4);
+            make::district(random, make::Shape { segments, ..shape })
+        }
+        false => make::resettled(random, held, segments),
+    };
+    if random.chance(40) {
+        make::set_leaders(random, &mut made);
+    }
+    file::encode(&made)
 }
 
 /// Numbers that are no console, some of which are one in their low bytes.

@@ -410,6 +410,86 @@ pub fn set_leaders(random: &mut Random, district: &mut District) {
     }
 }
 
+/// A row of numbers that chooses blocks for a district: most often one that is
+/// followed, with parts that use each limit up, or leave some of it.
+pub fn choice(random: &mut Random, district: &District) -> Vec<u32> {
+    let mut blocks = runs(random, district);
+    for &limit in &district.limits {
+        let parts = parts(random, limit, blocks.len());
+        blocks.iter_mut().zip(parts).for_each(|(block, part)| block.push(part));
+    }
+    if random.chance(20) {
+        spoil(random, &mut blocks);
+    }
+    let mut row = blocks.concat();
+    if random.chance(3) {
+        let length = random.size(0, row.len() + 2);
+        row.resize(length, 1);
+    }
+    row
+}
+
+/// Runs of segments, each with its first and its last. Most often there are at most
+/// four, and no leader lies outside its segment's run.
+fn runs(random: &mut Random, district: &District) -> Vec<Vec<u32>> {
+    let count = district.segments.len();
+    let splits = |end: usize| {
+        let behind = &district.segments[end..];
+        behind.iter().any(|segment| (1..=end).contains(&usize::from(segment.leader)))
+    };
+    let free = random.chance(85);
+    let most = if random.chance(90) { 3 } else { 6 };
+    let mut ends: Vec<usize> = (1..count).filter(|&end| !free || !splits(end)).collect();
+    while ends.len() > most || !ends.is_empty() && random.chance(25) {
+        ends.remove(random.size(0, ends.len() - 1));
+    }
+    ends.push(count);
+    let firsts = std::iter::once(1).chain(ends.iter().map(|end| end + 1));
+    firsts.zip(&ends).map(|(first, &last)| vec![first as u32, last as u32]).collect()
+}
+
+/// Parts of a limit: as much as there is, a little more, some of it, all of it for one.
+fn parts(random: &mut Random, limit: u32, count: usize) -> Vec<u32> {
+    let limit = u64::from(limit);
+    let given = match random.below(20) {
+        0 => limit + 1,
+        1..=5 => limit * random.within(30, 100) / 100,
+        _ => limit,
+    };
+    let weights: Vec<u64> = match random.below(6) {
+        0 => vec![1; count],
+        1 => (0..count).map(|_| *random.pick(&[0, 1])).collect(),
+        _ => (0..count).map(|_| random.within(1, 100)).collect(),
+    };
+    let all = weights.iter().sum::<u64>().max(1);
+    let mut parts: Vec<u64> = weights.iter().map(|weight| given * weight / all).collect();
+    // What rounding has left goes to the last.
+    parts[count - 1] += given - parts.iter().sum::<u64>();
+    parts.into_iter().map(|part| part as u32).collect()
+}
+
+/// Makes one thing of the blocks wrong, most often so that they are not followed.
+fn spoil(random: &mut Random, blocks: &mut Vec<Vec<u32>>) {
+    let at = random.size(0, blocks.len() - 1);
+    let far = *random.pick(&[0, 1, 64, 65, 256, u32::MAX]);
+    match random.below(9) {
+        0 => blocks[at][0] += 1,
+        1 => blocks[at][0] = blocks[at][0].saturating_sub(1),
+        2 => blocks[at][1] += 1,
+        3 => blocks[at][1] = blocks[at][1].saturating_sub(1),
+        4 => blocks.swap(0, at),
+        5 => drop(blocks.remove(at)),
+        // An empty one, behind this one.
+        6 => {
+            let mut empty = vec![0; blocks[at].len()];
+            (empty[0], empty[1]) = (blocks[at][1] + 1, blocks[at][1]);
+            blocks.insert(at + 1, empty);
+        }
+        7 => *blocks[at].last_mut().unwrap() = far,
+        _ => blocks[at][random.size(0, 1)] = far,
+    }
+}
+
 /// The same district, in half of the cases with leaders.
 fn perhaps_led(random: &mut Random, mut district: District) -> District {
     if random.chance(50) {
@@ -1073,12 +1153,92 @@ fn edit_line(random: &mut Random, most: [usize; 6]) -> String {
     }
 }
 
+/// Blocks: choices for what an office holds, and for what it held before, edits and
+/// loads between them, and what is shown.
+fn blocking_script(random: &mut Random) -> Script {
+    let shape = Shape { segments: random.size(2, 9), ..small_shape(random, 0, 4) };
+    let tables = district(random, shape);
+    let mut made = vec![perhaps_led(random, tables.clone())];
+    for _ in 0..random.size(1, 3) {
+        let segments = random.size(0, 9);
+        let other = resettled(random, &tables, segments);
+        made.push(perhaps_led(random, other));
+    }
+    let files: Vec<(String, Vec<u8>)> =
+        made.iter().enumerate().map(|(at, one)| (format!("d{at}.bin"), file::encode(one))).collect();
+    let most = [9, shape.strategies, 0, shape.distress_types, 0, shape.resources];
+    let mut text = b"load d0.bin\n".to_vec();
+    let (mut held, mut row) = (0, Vec::new());
+    for _ in 0..random.size(10, 50) {
+        let line = match random.below(100) {
+            0..=29 => {
+                row = choice(random, &made[held]);
+                blocks_line(random, &row, 2 + shape.resources)
+            }
+            30..=46 => {
+                let (resource, limit) = lists::limit_at_parts(random, &row, &made[held]);
+                format!("limit {resource} {limit}")
+            }
+            47..=59 => edit_line(random, most),
+            60..=66 => {
+                held = random.size(0, made.len() - 1);
+                format!("load d{held}.bin")
+            }
+            67..=72 => format!("office {}", random.pick(&["1", "2", "1", "2", "1", "3"])),
+            73..=76 => format!("queue {} {}", random.within(1, 4), edit_line(random, most)),
+            77..=79 => "step".to_string(),
+            80..=83 => "page".to_string(),
+            84..=87 => format!("why {} {}", numeral(random, 9), numeral(random, shape.strategies as u64)),
+            _ => "show".to_string(),
+        };
+        text.extend(format!("{line}\nshow\n").into_bytes());
+    }
+    text.extend(b"export last.bin\nload last.bin\nshow\n");
+    Script { text, files, folders: vec!["folder".to_string()] }
+}
+
+/// A row of blocks of this size as a command, now and then written otherwise than it
+/// has to be, or none.
+fn blocks_line(random: &mut Random, row: &[u32], size: usize) -> String {
+    if random.chance(8) {
+        return "blocks".to_string();
+    }
+    let mut row: Vec<u64> = row.iter().map(|&number| number.into()).collect();
+    if !row.is_empty() && random.chance(8) {
+        widen(random, &mut row, size);
+    }
+    let block = |block: &[u64]| block.iter().map(u64::to_string).collect::<Vec<_>>().join(" ");
+    let line = row.chunks(size).map(block).collect::<Vec<_>>().join(" / ");
+    match random.below(30) {
+        0 => format!("blocks {}", line.replace(" / ", " ")),
+        1 => format!("blocks {}", line.replace(" / ", "/")),
+        2 => format!("blocks {line} /"),
+        3 => format!("blocks / {line}"),
+        4 => format!("blocks {line} 0"),
+        5 => format!("blocks {line} "),
+        6 => format!("blocks {}", vec![&line[..]; random.size(2, 60)].join(" / ")),
+        7 => format!("blocks {}", line.replace(' ', " 000000000000000000")),
+        _ => format!("blocks {line}"),
+    }
+}
+
+/// Numbers of 64 bits in a row: parts that add to more than that, one that is the
+/// right one in its low 32 bits alone, or a last segment behind which there is none.
+fn widen(random: &mut Random, row: &mut [u64], size: usize) {
+    match random.below(3) {
+        0 => row.iter_mut().skip(size - 1).step_by(size).for_each(|part| *part = 1 << 63),
+        1 => row[random.size(0, row.len() - 1)] += 1 << 32,
+        _ => row.iter_mut().skip(1).step_by(size - 1).take(2).zip([u64::MAX, 0]).for_each(|(at, new)| *at = new),
+    }
+}
+
 pub fn script(random: &mut Random) -> Script {
     match random.below(100) {
-        0..=19 => return sharing_script(random),
-        20..=39 => return queueing_script(random),
-        40..=59 => return asking_script(random),
-        60..=71 => return metering_script(random),
+        0..=16 => return sharing_script(random),
+        17..=33 => return queueing_script(random),
+        34..=50 => return blocking_script(random),
+        51..=65 => return asking_script(random),
+        66..=75 => return metering_script(random),
         _ => {}
     }
     let mut files = Vec::new();
@@ -1280,6 +1440,15 @@ fn odd_line(random: &mut Random) -> Vec<u8> {
                 b"step ",
                 b"Step",
                 b"steps",
+                b"blocks ",
+                b"blocks 1",
+                b"blocks /",
+                b"blocks 1 1",
+                b"blocks x",
+                b"Blocks",
+                b"block",
+                b" blocks",
+                b"queue 1 blocks",
                 b"lost 0",
                 b"lost ",
                 b"roughness 1",
@@ -1291,7 +1460,7 @@ fn odd_line(random: &mut Random) -> Vec<u8> {
             .to_vec(),
         4 => {
             // Around the longest line: blank, then not.
-            let length = random.size(510, 515);
+            let length = random.size(4_094, 4_099);
             vec![*random.pick(b" x"); length]
         }
         5 => {

@@ -18,8 +18,24 @@ pub struct Outcome {
 }
 
 pub fn run(tables: &Tables) -> Outcome {
-    let mut programme = Programme { choice: vec![0; tables.segments.len()], used: vec![0; tables.resources], tables };
+    let mut programme = Programme::empty(tables);
     let steps = programme.step_down();
+    finish(programme, steps)
+}
+
+/// Phases 2 and 3 alone, from a list of strategies that are candidates, are within
+/// the limits together and respect leaders.
+pub fn go_on(tables: &Tables, strategies: &[u8]) -> Outcome {
+    let mut programme = Programme::empty(tables);
+    for (i, strategy) in strategies.iter().enumerate() {
+        let option = tables.segments[i].strategy.iter().position(|one| one == strategy);
+        programme.choose(i, option.expect("a strategy that is no candidate"));
+    }
+    finish(programme, 0)
+}
+
+/// Phases 2 and 3, behind so many steps.
+fn finish(mut programme: Programme, steps: u64) -> Outcome {
     let pickups = programme.pick_up();
     let total_after_phase_two = programme.total();
     let (changes, tried) = programme.improve();
@@ -41,7 +57,12 @@ struct Programme<'a> {
     used: Vec<u64>,
 }
 
-impl Programme<'_> {
+impl<'a> Programme<'a> {
+    /// Nothing for every segment.
+    fn empty(tables: &'a Tables) -> Programme<'a> {
+        Programme { choice: vec![0; tables.segments.len()], used: vec![0; tables.resources], tables }
+    }
+
     fn total(&self) -> i64 {
         let chosen = self.choice.iter().zip(&self.tables.segments);
         chosen.map(|(&option, segment)| segment.benefit[option]).sum()

@@ -29,6 +29,11 @@ impl Station {
         Ok(&mut self.offices[place(number)?])
     }
 
+    /// The number of resources, which both offices have.
+    pub fn resources(&self) -> usize {
+        self.offices[0].district().limits.len()
+    }
+
     /// Loads a file into an office. Other tables than those held are taken only
     /// while the other office has no segments; it then holds them too, and its
     /// limits are back at 0. A file that is refused for itself changes no tables.

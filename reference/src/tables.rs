@@ -32,6 +32,11 @@ impl Tables {
         let leaders = district.segments.iter().map(|segment| usize::from(segment.leader).checked_sub(1)).collect();
         Tables { resources, room, segments, leaders }
     }
+
+    /// The strategies of all segments, for the place of each one's choice among its options.
+    pub fn strategies(&self, choice: &[usize]) -> Vec<u8> {
+        self.segments.iter().zip(choice).map(|(segment, &option)| segment.strategy[option]).collect()
+    }
 }
 
 impl Options {

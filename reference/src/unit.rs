@@ -1,6 +1,8 @@
-//! What one office of the planning unit holds: its district and plan, a roughness
-//! meter beside them, and the calls on these. `station` has both offices.
+//! What one office of the planning unit holds: its district with its choice of
+//! blocks and the plan, a roughness meter beside them, and the calls on these.
+//! `station` has both offices.
 
+use crate::blocks;
 use crate::ceiling;
 use crate::district::*;
 use crate::file;
@@ -24,13 +26,22 @@ pub struct Plan {
     pub changes: u64,
 }
 
-/// Works programme and ceiling out for a district.
+/// Works the ordinary programme and the ceiling out for a district.
 pub fn plan(district: &District) -> Plan {
+    plan_in(district, &[])
+}
+
+/// The same where blocks are chosen by a row of numbers: in these, if the row is
+/// followed.
+pub fn plan_in(district: &District, row: &[u64]) -> Plan {
     let tables = Tables::fill(district);
-    let outcome = phases::run(&tables);
+    let outcome = match blocks::followed(row, district) {
+        Some(blocks) => blocks::run(&tables, &blocks),
+        None => phases::run(&tables),
+    };
     let mut strategies = [0; MOST_SEGMENTS];
-    for (i, segment) in tables.segments.iter().enumerate() {
-        strategies[i] = segment.strategy[outcome.choice[i]];
+    for (i, strategy) in tables.strategies(&outcome.choice).into_iter().enumerate() {
+        strategies[i] = strategy;
     }
     Plan {
         strategies,
@@ -46,6 +57,8 @@ pub fn plan(district: &District) -> Plan {
 #[derive(Clone, Debug, PartialEq, Eq)]
 pub struct Unit {
     district: District,
+    /// The choice of blocks; no numbers for none.
+    blocks: Vec<u64>,
     plan: Plan,
     meter: Meter,
 }
@@ -53,7 +66,7 @@ pub struct Unit {
 impl Unit {
     pub fn fresh() -> Unit {
         let district = District::fresh();
-        Unit { plan: plan(&district), district, meter: Meter::fresh() }
+        Unit { plan: plan(&district), district, blocks: Vec::new(), meter: Meter::fresh() }
     }
 
     pub fn district(&self) -> &District {
@@ -62,8 +75,23 @@ impl Unit {
 
     pub fn load(&mut self, bytes: &[u8]) -> Result<(), Refusal> {
         self.district = file::decode(bytes)?;
+        self.blocks.clear();
         self.replan();
         Ok(())
+    }
+
+    /// Chooses the blocks that the district is planned in, till the next load that is
+    /// accepted; no numbers choose none. Any row is taken, also one that is not
+    /// followed now.
+    pub fn choose_blocks(&mut self, row: &[u64]) -> Result<(), Refusal> {
+        self.blocks = row.to_vec();
+        self.replan();
+        Ok(())
+    }
+
+    /// Whether the plan held was made in blocks.
+    pub fn in_blocks(&self) -> bool {
+        blocks::followed(&self.blocks, &self.district).is_some()
     }
 
     /// Puts this district in place of the one held.
@@ -173,7 +201,7 @@ impl Unit {
     }
 
     fn replan(&mut self) {
-        self.plan = plan(&self.district);
+        self.plan = plan_in(&self.district, &self.blocks);
     }
 
     fn segment_and_strategy(&self, segment: u64, strategy: u64) -> Result<(usize, usize), Refusal> {

@@ -4,13 +4,14 @@
 //! implementation is run on the same frames.
 
 use crate::calls::{encode, encode_by, Call};
+use crate::counties::{self, five, HALVES};
 use crate::desk::{Edit, PLACES};
 use crate::district::*;
 use crate::make::{self, Shape, WIDEST};
 use crate::offices::{self, bare, changed, north, south};
 use crate::random::Random;
-use crate::unit::{plan, Plan};
-use crate::{example, file, frames, leaders, lists, page};
+use crate::unit::{plan, plan_in, Plan};
+use crate::{blocks, example, file, frames, leaders, lists, page};
 
 /// Room for every file without leaders.
 const ROOM: u32 = file::LONGEST_PLAIN as u32;
@@ -70,6 +71,11 @@ fn scripts() -> Vec<Vec<u8>> {
     waiting_through_loads(&mut cases);
     waiting_as_bytes(&mut cases);
     lists_at_consoles(&mut cases);
+    planned_in_blocks(&mut cases);
+    rows_not_followed(&mut cases);
+    blocks_kept_and_dropped(&mut cases);
+    blocks_as_bytes(&mut cases);
+    lists_in_blocks(&mut cases);
     cases.scripts
 }
 
@@ -1285,6 +1291,229 @@ fn lists_at_consoles(cases: &mut Cases) {
     }
 }
 
+/// Districts planned in blocks: by hand, and such that blocks decide, in each phase.
+fn planned_in_blocks(cases: &mut Cases) {
+    for (district, row) in counties::districts() {
+        cases.after(&district, &[Call::Blocks(row)]);
+        cases.district(&district);
+    }
+    cases.after(&five(), &[Call::Blocks(HALVES.to_vec())]);
+    cases.after(&counties::sixteen(), &[Call::Blocks(counties::quarters())]);
+    let middle = |random: &mut Random| make::small_shape(random, 12, 4);
+    type Wanted = fn(&Plan, &Plan) -> bool;
+    let wanted: [(u64, usize, Wanted); 8] = [
+        (1_000, 4, |plan, ordinary| plan.strategies != ordinary.strategies),
+        (1_001, 4, |plan, ordinary| plan.total > ordinary.total),
+        (1_002, 4, |plan, ordinary| plan.total < ordinary.total),
+        (1_003, 3, |plan, ordinary| plan.steps > ordinary.steps + 1),
+        (1_004, 3, |plan, ordinary| plan.steps > 0 && plan.steps + 1 < ordinary.steps),
+        (1_005, 3, |plan, _| plan.steps > 0 && plan.pickups > 0 && plan.changes > 0),
+        (1_006, 3, |plan, _| plan.pickups > 1),
+        (1_007, 3, |plan, _| plan.changes > 1),
+    ];
+    for (seed, count, wanted) in wanted {
+        for (district, row) in found_in_blocks(seed, count, middle, wanted) {
+            cases.after(&district, &[Call::Blocks(row)]);
+        }
+    }
+    let wide = |_: &mut Random| Shape {
+        segments: 40,
+        strategies: 6,
+        years: 3,
+        distress_types: 3,
+        pavement_types: 2,
+        resources: 5,
+    };
+    for (district, row) in found_in_blocks(1_008, 2, wide, |plan, ordinary| plan.strategies != ordinary.strategies) {
+        cases.after(&district, &[Call::Blocks(row)]);
+    }
+}
+
+/// Rows that are followed, and such that are not: too many blocks, an empty one, segments left out, there twice, in
+/// another order or not there at all, parts that add to more than a limit, leaders outside, and numbers that make no
+/// whole blocks.
+fn rows_not_followed(cases: &mut Cases) {
+    let four = [1, 1, 0, 0, 2, 2, 10, 10, 3, 3, 10, 10];
+    let rows: Vec<Vec<u32>> = vec![
+        HALVES.to_vec(),
+        [&four[..], &[4, 5, 20, 20]].concat(),
+        [&four[..], &[4, 4, 10, 10, 5, 5, 10, 10]].concat(),
+        // An empty one: in the middle, in front and behind; two of them; and more than empty.
+        vec![1, 2, 10, 50, 3, 2, 0, 0, 3, 5, 40, 50],
+        vec![1, 0, 0, 0, 1, 2, 10, 50, 3, 5, 40, 50],
+        vec![1, 2, 10, 50, 3, 5, 40, 50, 6, 5, 0, 0],
+        vec![1, 2, 10, 50, 3, 1, 0, 0, 2, 5, 40, 50],
+        // Segments left out: the first, the last, one between.
+        vec![2, 2, 0, 50, 3, 5, 40, 50],
+        vec![1, 2, 10, 50, 3, 4, 40, 50],
+        vec![1, 1, 0, 50, 3, 5, 40, 50],
+        vec![1, 2, 10, 50],
+        // Twice: one of them, all of them. In another order.
+        vec![1, 2, 10, 50, 2, 5, 40, 50],
+        vec![1, 3, 10, 50, 3, 5, 40, 50],
+        vec![1, 5, 10, 50, 1, 5, 40, 50],
+        vec![3, 5, 40, 50, 1, 2, 10, 50],
+        // Not there: before the first, behind the last, far behind.
+        vec![0, 2, 10, 50, 3, 5, 40, 50],
+        vec![1, 2, 10, 50, 3, 6, 40, 50],
+        vec![1, 2, 10, 50, 3, 261, 40, 50],
+        vec![257, 258, 10, 50, 259, 261, 40, 50],
+        vec![1, 2, 10, 50, 3, u32::MAX, 40, 50],
+        // Parts below the limits; one more than a limit, of the first and of the second resource; far more.
+        vec![1, 2, 10, 0, 3, 5, 0, 0],
+        vec![1, 2, 10, 50, 3, 5, 41, 50],
+        vec![1, 2, 11, 50, 3, 5, 40, 50],
+        vec![1, 2, 10, 50, 3, 5, 40, 51],
+        vec![1, 2, 10, 51, 3, 5, 0, 50],
+        vec![1, 2, 10, 101, 3, 5, 40, 0],
+        vec![1, 2, 10, 50, 3, 5, u32::MAX, 50],
+        vec![1, 2, 1 << 31, 50, 3, 5, 1 << 31, 50],
+        // All of it in one block, and a little more.
+        vec![1, 5, 40, 100],
+        vec![1, 5, 51, 100],
+        // No whole blocks, and blocks of another count of resources.
+        vec![1],
+        vec![1, 5],
+        vec![1, 5, 40],
+        HALVES[..7].to_vec(),
+        [&HALVES[..], &[0]].concat(),
+        [&HALVES[..], &[0; 3]].concat(),
+        vec![1, 2, 10, 3, 5, 40],
+        vec![1, 2, 10, 50, 0, 3, 5, 40, 50, 0],
+        HALVES.repeat(10),
+    ];
+    for row in rows {
+        cases.after(&five(), &[Call::Blocks(row)]);
+    }
+    // Four blocks of the most resources that would be followed, and another one.
+    let fifth = [&[5, 5][..], &[0; MOST_RESOURCES]].concat();
+    cases.after(&counties::sixteen(), &[Call::Blocks([counties::quarters(), fifth].concat())]);
+    // A leader outside: in another block, before and behind it; inside: at both ends of the block.
+    for leaders in
+        [[0, 0, 1, 0, 0], [0, 0, 2, 0, 0], [0, 0, 0, 0, 2], [0, 1, 0, 3, 3], [0, 0, 0, 3, 4], [0, 1, 1, 3, 4]]
+    {
+        cases.after(&led(five(), &leaders), &[Call::Blocks(HALVES.to_vec())]);
+    }
+    // No segment, one, and the most.
+    for row in [vec![], vec![1, 0, 0, 0], vec![1, 1, 0, 0], vec![0, 0, 0, 0]] {
+        cases.after(&bare(five()), &[Call::Blocks(row.clone())]);
+        cases.list(&[Call::Blocks(row)]);
+    }
+    let all = plain(&[100], &[(10, &[1_000])], &[(1, 0); MOST_SEGMENTS]);
+    cases.after(&all, &[Call::Blocks(vec![1, 16, 25, 17, 32, 25, 33, 48, 25, 49, 64, 25])]);
+    cases.after(&all, &[Call::Blocks(vec![1, 16, 25, 17, 32, 25, 33, 48, 25, 49, 65, 25])]);
+}
+
+/// A choice holds for all plans till the next load that is accepted, also where it is not followed for a while.
+fn blocks_kept_and_dropped(cases: &mut Cases) {
+    let halves = Call::Blocks(HALVES.to_vec());
+    // Edits: limits below the parts and back, a leader outside and back, and what changes the plan in the blocks.
+    let edits = [
+        Call::SetLimit(1, 49),
+        Call::SetLimit(1, 50),
+        Call::SetLimit(2, 99),
+        Call::SetLimit(2, 1_000),
+        Call::SetLeader(4, 2),
+        Call::SetLeader(4, 3),
+        Call::SetLeader(3, 1),
+        Call::SetLeader(3, 0),
+        Call::Bar(1, 1),
+        Call::Bar(3, 1),
+        Call::Unbar(1, 1),
+        Call::SetRating(2, 1, 45),
+        Call::Unbar(3, 1),
+        Call::SetRating(4, 1, 50),
+        Call::SetRating(9, 1, 50),
+        Call::SetLimit(1, 50),
+    ];
+    for count in 0..=edits.len() {
+        cases.after(&five(), &[std::slice::from_ref(&halves), &edits[..count], &[Call::Show]].concat());
+    }
+    // Not followed on arrival, but later.
+    cases.after(&five(), &[Call::SetLimit(1, 49), halves.clone()]);
+    cases.after(&five(), &[Call::SetLimit(1, 49), halves.clone(), Call::SetLimit(1, 50)]);
+    // None, another one, and one behind another.
+    let other = Call::Blocks(vec![1, 4, 40, 100, 5, 5, 0, 0]);
+    let none = Call::Blocks(Vec::new());
+    for calls in [
+        [&halves, &none],
+        [&none, &halves],
+        [&halves, &other],
+        [&other, &halves],
+        [&halves, &Call::Blocks(vec![1])],
+        [&Call::Blocks(vec![1]), &halves],
+    ] {
+        let calls: Vec<Call> = calls.into_iter().cloned().collect();
+        cases.after(&five(), &calls);
+        cases.after(&five(), &[&calls[..], &[Call::SetLimit(1, 60)]].concat());
+    }
+    // Loads: the same file, another one, refused ones; the other office's, and its choice.
+    let [mine, theirs] = [(1, load(&five())), (2, load(&led(five(), &[0, 1])))];
+    let both = [mine.clone(), theirs.clone(), (1, halves.clone()), (2, other.clone())];
+    cases.by_and_shown(&both);
+    for call in [
+        mine,
+        theirs,
+        (2, load(&bare(five()))),
+        (1, Call::Load(Vec::new())),
+        (1, load(&card())),
+        (2, load(&card())),
+        (3, load(&five())),
+        (2, Call::SetLimit(1, 10)),
+        (2, none.clone()),
+        (3, none.clone()),
+        (1, none),
+        (0, other),
+        (1, Call::Export(ROOM)),
+        (1, Call::Page(u32::MAX)),
+        (1, Call::Why(1, 1)),
+        (1, Call::Marker(1)),
+    ] {
+        cases.by_and_shown(&[&both[..], &[call]].concat());
+    }
+    // A load drops it for good.
+    cases.list(&[load(&five()), halves.clone(), load(&five()), Call::SetLimit(1, 60)]);
+    cases.list(&[load(&five()), halves.clone(), load(&bare(five())), load(&five())]);
+    // An edit that waits is carried out on what its office has chosen by then.
+    let waits = (1, Call::Queue(1, Edit::SetLimit(1, 60)));
+    for count in 1..=4 {
+        let calls = [waits.clone(), (1, halves.clone()), (2, Call::Step), (1, load(&five()))];
+        cases.by_and_shown(&[&[(1, load(&five()))], &calls[..count]].concat());
+    }
+}
+
+/// A row stands behind its call, and the next call behind the row.
+fn blocks_as_bytes(cases: &mut Cases) {
+    let start = encode(&[load(&five())]);
+    let halves = encode(&[Call::Blocks(HALVES.to_vec())]);
+    let show = encode(&[Call::Show]);
+    let claims = |count: u32| [&halves[..5], &count.to_le_bytes(), &halves[9..]].concat();
+    // Cut within the call, within the row, and a byte before its end; numbers that the call has no use for.
+    for length in [16, 17, 18, 21, 48] {
+        cases.scripts.push([&start[..], &halves[..length]].concat());
+    }
+    cases.scripts.push([&start[..], &halves[..9], &[7; 8], &halves[17..]].concat());
+    // More numbers than follow, and fewer.
+    for count in [0, 4, 7, 9, 1 << 30, u32::MAX] {
+        cases.scripts.push([&start[..], &claims(count)].concat());
+        cases.scripts.push([&start[..], &claims(count), &show].concat());
+    }
+    cases.scripts.push([&start[..], &halves, &show].concat());
+    cases.by(&[(1, load(&five())), (3, Call::Blocks(HALVES.to_vec())), (1, Call::Show)]);
+    cases.by(&[(1, load(&five())), (2, Call::Blocks(HALVES.to_vec())), (1, Call::Bar(1, 1))]);
+    for office in [0, 3, 257] {
+        cases.by(&[(1, load(&five())), (office, Call::Blocks(HALVES.to_vec()))]);
+        cases.by(&[(office, Call::Blocks(Vec::new()))]);
+    }
+}
+
+/// Many calls by both, in blocks and not, and what each shows behind them.
+fn lists_in_blocks(cases: &mut Cases) {
+    for (seed, count) in [(740, 20), (741, 40), (742, 60), (743, 80), (744, 120), (745, 160), (746, 200)] {
+        cases.by_and_shown(&lists::in_blocks(&mut Random::new(seed), count));
+    }
+}
+
 // ---- districts
 
 /// Districts whose pages are stored with the console, by the names of their files.
@@ -1497,6 +1726,31 @@ fn found_led(
         let plan = plan(&district);
         if plan != unled && wanted(&plan, &unled) {
             kept.push(district);
+        }
+    }
+    kept
+}
+
+/// The same of districts with a row of blocks that is followed: the plan in blocks, and the ordinary one.
+fn found_in_blocks(
+    seed: u64,
+    count: usize,
+    shape: impl Fn(&mut Random) -> Shape,
+    wanted: impl Fn(&Plan, &Plan) -> bool,
+) -> Vec<(District, Vec<u32>)> {
+    let mut random = Random::new(seed);
+    let mut kept = Vec::new();
+    while kept.len() < count {
+        let shape = shape(&mut random);
+        let mut district = make::district(&mut random, shape);
+        if random.chance(30) {
+            make::set_leaders(&mut random, &mut district);
+        }
+        let row = make::choice(&mut random, &district);
+        let numbers: Vec<u64> = row.iter().map(|&number| number.into()).collect();
+        let followed = blocks::followed(&numbers, &district).is_some_and(|blocks| blocks.len() > 1);
+        if followed && wanted(&plan_in(&district, &numbers), &plan(&district)) {
+            kept.push((district, row));
         }
     }
     kept

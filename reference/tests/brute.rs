@@ -8,7 +8,7 @@ use reference::district::District;
 use reference::make;
 use reference::random::Random;
 use reference::rating;
-use reference::unit::plan;
+use reference::unit::{plan, plan_in};
 use reference::vectors::{led, small};
 
 /// For each segment nothing and each permitted strategy: number, benefit, uses.
@@ -40,6 +40,17 @@ fn all_picks(rows: &[Vec<Row>]) -> Vec<Vec<usize>> {
 }
 
 fn check(district: &District) -> bool {
+    let changed = check_in(district, &[]);
+    let shown = plan(district);
+    if wants_fit(district, &rows(district)) {
+        assert_eq!(shown.total, shown.ceiling);
+    }
+    assert!(shown.steps <= (district.segments.len() * district.strategies.len()) as u64);
+    changed
+}
+
+/// What holds of a plan in blocks as well.
+fn check_in(district: &District, choice: &[u64]) -> bool {
     let rows = rows(district);
     let within = |pick: &[usize]| {
         (0..district.limits.len()).all(|r| {
@@ -49,8 +60,8 @@ fn check(district: &District) -> bool {
     };
     let total = |pick: &[usize]| -> i64 { pick.iter().zip(&rows).map(|(&at, row)| row[at].1).sum() };
 
-    let shown = plan(district);
-    let (n, s) = (district.segments.len(), district.strategies.len());
+    let shown = plan_in(district, choice);
+    let n = district.segments.len();
     let chosen: Option<Vec<usize>> =
         (0..n).map(|i| rows[i].iter().position(|row| row.0 == usize::from(shown.strategies[i]))).collect();
     let chosen = chosen.expect("only permitted strategies are taken");
@@ -77,10 +88,6 @@ fn check(district: &District) -> bool {
         // Where total and ceiling agree no programme has more.
         assert!(total(&pick) <= shown.total || shown.total < shown.ceiling);
     }
-    if wants_fit(district, &rows) {
-        assert_eq!(shown.total, shown.ceiling);
-    }
-    assert!(shown.steps <= (n * s) as u64);
     assert!(shown.total_after_phase_two >= 0);
     assert!(shown.changes as i64 <= shown.total - shown.total_after_phase_two);
     shown.changes > 0
@@ -141,6 +148,33 @@ fn districts_with_leaders() {
         changed += u32::from(check(&district));
     }
     assert!(changed > 100, "only {changed} had changes");
+}
+
+/// In blocks a plan is as good beside its rivals as an ordinary one, also where it is
+/// another; equal figures where money isn't short are for ordinary plans only.
+#[test]
+fn districts_in_blocks() {
+    let mut random = Random::new(35);
+    let (mut decided, mut below) = (0, 0);
+    for case in 0..6_000 {
+        let mut shape = make::small_shape(&mut random, 4, 3);
+        let mut district = match case % 2 {
+            0 => make::district(&mut random, shape),
+            _ => {
+                shape.segments = 4;
+                make::busy_district(&mut random, shape)
+            }
+        };
+        if random.chance(40) {
+            make::set_leaders(&mut random, &mut district);
+        }
+        let row: Vec<u64> = make::choice(&mut random, &district).into_iter().map(u64::from).collect();
+        check_in(&district, &row);
+        let (shown, ordinary) = (plan_in(&district, &row), plan(&district));
+        decided += u32::from(shown.strategies != ordinary.strategies);
+        below += u32::from(shown.total < ordinary.total);
+    }
+    assert!(decided > 30 && below > 5, "{decided} {below}");
 }
 
 /// Benefits above 0 are asked of leaders, and not of their followers alone: all

@@ -154,6 +154,49 @@ fn consoles() {
     }
 }
 
+/// Blocks of as many parts as there are resources, whether or not they are followed, as
+/// many as a line has room for; and what an office that there is not is answered.
+#[test]
+fn blocks() {
+    let in_blocks = CARD_LISTING.replace("steps 1", "steps 0");
+    let input = b"blocks\nload card.bin\nblocks 1 1 60 / 2 2 40\nshow\nlimit 1 99\nlimit 1 130\nshow\nblocks 1 2 131\nshow\n\
+        blocks 1 1 60 / 2 2 40\nblocks\nshow\nblocks 1 1 60 / 2 2 40\nload card.bin\nshow\noffice 3\nblocks\nblocks 1 2 3\n\
+        blocks 1 2\nblocks 1 2 3 4\n";
+    let expected = format!(
+        "ok\nok\nok\n{in_blocks}ok\nok\n{in_blocks}ok\n{CARD_LISTING}ok\nok\n{CARD_LISTING}ok\nok\n{CARD_LISTING}\
+         ok\nrefused 16\nrefused 16\nunknown command\nunknown command\n"
+    );
+    assert_eq!(answers("blocks", input), expected);
+    let many =
+        |count: usize| format!("blocks {}\n", vec!["18446744073709551615 0 00000000000000000009"; count].join(" / "));
+    for count in [1, 4, 5, 24, 25, 80] {
+        assert_eq!(answers("many", many(count).as_bytes()), "ok\n");
+    }
+    // 510 blocks in a line of 4,096 bytes, and of one more.
+    let longest = |zeros: usize| format!("blocks {}0 0 0{}\n", "0 0 0 / ".repeat(509), "0".repeat(zeros));
+    assert_eq!(longest(12).len(), 4_096 + 1);
+    assert_eq!(answers("longest", longest(12).as_bytes()), "ok\n");
+    assert_eq!(answers("longer", longest(13).as_bytes()), "unknown command\n");
+    // Sixteen resources: four blocks of them are a line of more than 512 bytes. A fifth is read, and no plan follows.
+    let folder = folder("sixteen");
+    fs::write(folder.join("sixteen"), file::encode(&reference::counties::sixteen())).unwrap();
+    let quarters = reference::counties::quarters();
+    let block = |at: usize| quarters[18 * at..18 * at + 18].iter().map(u32::to_string).collect::<Vec<_>>().join(" ");
+    let blocks = [0, 1, 2, 3].map(block).join(" / ");
+    let fifth = block(3);
+    let input =
+        format!("load sixteen\nblocks {blocks}\nshow\nblocks {blocks} / {fifth}\nshow\nblocks {blocks} {fifth}\n");
+    assert!(blocks.len() > 512);
+    let mut output = Vec::new();
+    console::run(&mut input.as_bytes(), &mut output, &folder).unwrap();
+    let text = String::from_utf8(output).unwrap();
+    let answers: Vec<&str> = text.lines().collect();
+    assert_eq!(answers[..6], ["ok", "ok", "1 1", "2 1", "3 1", "4 1"]);
+    assert_eq!(answers[8..14], ["steps 0 1 0", "ok", "1 1", "2 1", "3 1", "4 1"]);
+    assert_eq!(answers[16..], ["steps 0 0 0", "unknown command"]);
+    fs::remove_dir_all(&folder).unwrap();
+}
+
 #[test]
 fn refusals_and_failures() {
     let folder = folder("failures");
@@ -290,6 +333,30 @@ fn lines_that_are_no_commands() {
         "queue 1 queue 1 bar 1 1",
         "Queue 1 bar 1 1",
         "queues 1 bar 1 1",
+        "queue 1 blocks",
+        "blocks ",
+        " blocks",
+        "Blocks",
+        "block",
+        "blocks /",
+        "blocks 1",
+        "blocks 1 1",
+        "blocks 1 1 1 1",
+        "blocks 1 1 1 ",
+        "blocks  1 1 1",
+        "blocks 1 1 x",
+        "blocks 1 1 -1",
+        "blocks 1 1 18446744073709551616",
+        "blocks 1 1 1 /",
+        "blocks / 1 1 1",
+        "blocks 1 1 1 / ",
+        "blocks 1 1 1 / 1",
+        "blocks 1 1 1 // 2 2 1",
+        "blocks 1 1 1 / / 2 2 1",
+        "blocks 1 1 1/2 2 1",
+        "blocks 1 1 1 /2 2 1",
+        "blocks 1 1 1 2 2 1",
+        "blocks 1 / 1 / 1",
         "step 1",
         "step ",
         " step",
@@ -324,8 +391,8 @@ fn lines_that_are_no_commands() {
 #[test]
 fn long_lines() {
     let line = |byte: u8, length: usize| [vec![byte; length], b"\nlimit 1 1\n".to_vec()].concat();
-    assert_eq!(answers("512", &line(b' ', 512)), "ok\n");
-    assert_eq!(answers("513", &line(b' ', 513)), "unknown command\nok\n");
+    assert_eq!(answers("4096", &line(b' ', 4_096)), "ok\n");
+    assert_eq!(answers("4097", &line(b' ', 4_097)), "unknown command\nok\n");
     assert_eq!(answers("many", &line(b'x', 300_000)), "unknown command\nok\n");
     assert_eq!(answers("remark", &line(b'#', 300_000)), "ok\n");
     let load = |length: usize| [b"load ".to_vec(), vec![b'p'; length]].concat();

@@ -4,10 +4,13 @@
 
 mod common;
 
+use reference::counties::{five, HALVES};
 use reference::district::*;
+use reference::file;
 use reference::make;
 use reference::random::Random;
-use reference::unit::plan;
+use reference::unit::{plan, plan_in, Unit};
+use reference::vectors::led;
 use reference::why::why;
 
 struct Rules<'a> {
@@ -345,10 +348,77 @@ impl Rules<'_> {
     }
 }
 
+/// The blocks that a row says, each as a district, in the words of the rule: none
+/// where the ordinary plan is made instead.
+fn blocks(d: &District, row: &[u64]) -> Option<Vec<District>> {
+    let (n, resources) = (d.segments.len(), d.limits.len());
+    if row.is_empty() || row.len() % (2 + resources) != 0 {
+        return None;
+    }
+    // The numbers of each block's segments, and its parts. More than all segments need not be counted.
+    let said: Vec<(Vec<u64>, &[u64])> =
+        row.chunks(2 + resources).map(|one| ((one[0]..=one[1]).take(n + 1).collect(), &one[2..])).collect();
+    let more_than_four = said.len() > 4;
+    let one_is_empty = said.iter().any(|(segments, _)| segments.is_empty());
+    let numbers: Vec<u64> = said.iter().flat_map(|(segments, _)| segments.clone()).collect();
+    if more_than_four || one_is_empty || numbers != (1..=n as u64).collect::<Vec<_>>() {
+        return None;
+    }
+    for (r, &limit) in d.limits.iter().enumerate() {
+        let given: u128 = said.iter().map(|(_, parts)| u128::from(parts[r])).sum();
+        if given > u128::from(limit) {
+            return None;
+        }
+    }
+    for (segments, _) in &said {
+        for &i in segments {
+            let leader = u64::from(d.segments[i as usize - 1].leader);
+            if leader != 0 && !segments.contains(&leader) {
+                return None;
+            }
+        }
+    }
+    let alone = |(segments, parts): &(Vec<u64>, &[u64])| {
+        let mut alone = District { segments: Vec::new(), ..d.clone() };
+        alone.limits = parts.iter().map(|&part| u32::try_from(part).unwrap()).collect();
+        for &i in segments {
+            let mut segment = d.segments[i as usize - 1].clone();
+            let place = segments.iter().position(|&one| one == u64::from(segment.leader));
+            segment.leader = place.map_or(0, |place| place as u8 + 1);
+            alone.segments.push(segment);
+        }
+        alone
+    };
+    Some(said.iter().map(alone).collect())
+}
+
+/// All three phases of each block, and the lists joined.
+fn joined(blocks: &[District]) -> (Programme, u64) {
+    let (mut all, mut sum) = (Programme::new(), 0);
+    for block in blocks {
+        let rules = Rules { d: block };
+        let (mut programme, steps) = rules.phase_one();
+        rules.phase_two(&mut programme);
+        while let Some(changed) = rules.first_change(&programme) {
+            programme = changed;
+        }
+        all.extend(programme);
+        sum += steps;
+    }
+    (all, sum)
+}
+
 fn check(district: &District) {
+    check_in(district, &[]);
+}
+
+fn check_in(district: &District, row: &[u64]) {
     let rules = Rules { d: district };
-    let shown = plan(district);
-    let (mut programme, steps) = rules.phase_one();
+    let shown = plan_in(district, row);
+    let (mut programme, steps) = match blocks(district, row) {
+        Some(blocks) => joined(&blocks),
+        None => rules.phase_one(),
+    };
     assert_eq!(shown.steps, steps);
     assert_eq!(shown.pickups, rules.phase_two(&mut programme));
     assert_eq!(i128::from(shown.total_after_phase_two), rules.total(&programme));
@@ -419,6 +489,219 @@ fn districts_with_leaders() {
         decided += u32::from(plan(&district) != unled);
     }
     assert!(decided > 1_000, "only {decided} differ");
+}
+
+/// Districts planned in blocks, and rows that are not followed.
+#[test]
+fn districts_in_blocks() {
+    let mut random = Random::new(25);
+    let (mut in_blocks, mut decided) = (0, 0);
+    for case in 0..3_000 {
+        let mut shape = make::small_shape(&mut random, 8, 4);
+        let mut district = match case % 3 {
+            0 => make::district(&mut random, shape),
+            1 => make::telling_district(&mut random),
+            _ => {
+                shape.segments += 1;
+                make::busy_district(&mut random, shape)
+            }
+        };
+        if random.chance(30) {
+            make::set_leaders(&mut random, &mut district);
+        }
+        let row: Vec<u64> = make::choice(&mut random, &district).into_iter().map(u64::from).collect();
+        check_in(&district, &row);
+        in_blocks += u32::from(blocks(&district, &row).is_some());
+        decided += u32::from(plan_in(&district, &row).strategies != plan(&district).strategies);
+    }
+    assert!(in_blocks > 1_500 && decided > 100, "{in_blocks} {decided}");
+}
+
+/// An office that holds the district and has chosen these blocks.
+fn chosen(district: &District, row: &[u64]) -> Unit {
+    let mut unit = Unit::fresh();
+    unit.load(&file::encode(district)).unwrap();
+    assert_eq!(unit.choose_blocks(row), Ok(()));
+    unit
+}
+
+/// Whether the row is followed, in the words of the rule and as the library has it; the plan is right either way.
+fn follows(district: &District, row: &[u64]) -> bool {
+    check_in(district, row);
+    let unit = chosen(district, row);
+    assert_eq!(unit.show(), &plan_in(district, row));
+    assert_eq!(unit.in_blocks(), blocks(district, row).is_some(), "{row:?}");
+    unit.in_blocks()
+}
+
+/// Each condition by itself, at its edge, with numbers of any 64 bits. The district has five segments, limits of 50
+/// and 100, and two numbers in front of two parts for each block.
+#[test]
+fn conditions_on_blocks() {
+    const MOST: u64 = u64::MAX;
+    let (half, quarter) = (1 << 63, 1 << 62);
+    let past = |number: u64| number + (1 << 32);
+    let halves: Vec<u64> = HALVES.iter().map(|&number| number.into()).collect();
+    let followed: [&[u64]; 7] = [
+        // The parts add to just the limits, to less, and to nothing; a part of 0.
+        &[1, 2, 10, 50, 3, 5, 40, 50],
+        &[1, 2, 10, 49, 3, 5, 39, 50],
+        &[1, 2, 0, 0, 3, 5, 0, 0],
+        &[1, 2, 50, 0, 3, 5, 0, 100],
+        // One block, two of which one has one segment, and four.
+        &[1, 5, 50, 100],
+        &[1, 4, 40, 90, 5, 5, 10, 10],
+        &[1, 1, 5, 10, 2, 2, 10, 20, 3, 3, 15, 30, 4, 5, 20, 40],
+    ];
+    followed.iter().for_each(|row| assert!(follows(&five(), row), "{row:?}"));
+    let ordinary: [&[u64]; 39] = [
+        // More than four: five, each with one segment and its share; and an empty one behind four.
+        &[1, 1, 10, 20, 2, 2, 10, 20, 3, 3, 10, 20, 4, 4, 10, 20, 5, 5, 10, 20],
+        &[1, 1, 5, 10, 2, 2, 10, 20, 3, 3, 15, 30, 4, 5, 20, 40, 6, 5, 0, 0],
+        // One is empty: in front, between, behind, and all of them.
+        &[1, 0, 0, 0, 1, 2, 10, 50, 3, 5, 40, 50],
+        &[1, 2, 10, 50, 3, 2, 0, 0, 3, 5, 40, 50],
+        &[1, 2, 10, 50, 3, 5, 40, 50, 6, 5, 0, 0],
+        &[1, 0, 0, 0],
+        &[0, 0, 0, 0],
+        // Not each of 1 to 5: the first is left out, the last, one between, all but one; one that there is not.
+        &[2, 2, 10, 50, 3, 5, 40, 50],
+        &[1, 2, 10, 50, 3, 4, 40, 50],
+        &[1, 2, 10, 50, 4, 5, 40, 50],
+        &[1, 1, 50, 100],
+        &[0, 2, 10, 50, 3, 5, 40, 50],
+        &[1, 2, 10, 50, 3, 6, 40, 50],
+        // Not once: one of them twice, all of them twice. Not in order.
+        &[1, 3, 10, 50, 3, 5, 40, 50],
+        &[1, 5, 10, 50, 1, 5, 40, 50],
+        &[3, 5, 40, 50, 1, 2, 10, 50],
+        // Far away; and numbers that are the right ones in their low 32 bits alone.
+        &[1, 2, 10, 50, 3, MOST, 40, 50],
+        &[1, MOST, 50, 100],
+        &[MOST, 5, 50, 100],
+        &[MOST, MOST, 50, 100],
+        &[past(1), past(5), 50, 100],
+        &[1, past(5), 50, 100],
+        &[1, past(2), 10, 50, past(3), 5, 40, 50],
+        // One behind the greatest number is none: not 0, from where the others would go on.
+        &[1, MOST, 10, 50, 0, 5, 40, 50],
+        &[0, MOST, 10, 50, 0, 5, 40, 50],
+        &[1, 2, 10, 50, 3, MOST, 20, 20, 0, 5, 20, 30],
+        // Parts add to one more than the first limit, the second, the first though none is above it.
+        &[1, 2, 10, 50, 3, 5, 41, 50],
+        &[1, 2, 10, 51, 3, 5, 40, 50],
+        &[1, 5, 51, 100],
+        &[1, 2, 50, 0, 3, 5, 50, 0],
+        // They add to 0, to 50 and to 100 in 64 bits, and to 50 in 32.
+        &[1, 2, half, 0, 3, 5, half, 0],
+        &[1, 2, MOST, 0, 3, 5, 51, 0],
+        &[1, 2, 0, half, 3, 5, 0, half + 100],
+        &[1, 1, quarter, 0, 2, 2, quarter, 0, 3, 3, quarter, 0, 4, 5, quarter, 0],
+        &[1, 5, past(50), 100],
+        &[1, 2, past(10), 50, 3, 5, 40, 50],
+        // Other lengths: numbers are missing, there is one too many, and blocks of one resource and of three.
+        &[1, 5],
+        &[1, 2, 10, 3, 5, 40],
+        &[1, 2, 10, 50, 0, 3, 5, 40, 50, 0],
+    ];
+    ordinary.iter().for_each(|row| assert!(!follows(&five(), row), "{row:?}"));
+    for length in (0..8).filter(|&length| length != 4) {
+        assert!(!follows(&five(), &halves[..length]));
+    }
+    assert!(!follows(&five(), &[&halves[..], &[0]].concat()));
+    assert!(!follows(&five(), &halves.repeat(30)));
+    // A leader in the block before, and in the own one: its first, its last but one.
+    for (leaders, inside) in [
+        ([0, 0, 1, 0, 0], false),
+        ([0, 0, 2, 0, 0], false),
+        ([0, 0, 0, 0, 2], false),
+        ([0, 1, 0, 3, 1], false),
+        ([0, 1, 0, 3, 3], true),
+        ([0, 1, 0, 3, 4], true),
+    ] {
+        assert_eq!(follows(&led(five(), &leaders), &halves), inside, "{leaders:?}");
+    }
+    // Without segments none are followed, and with some none are not either.
+    let bare = District { segments: Vec::new(), ..five() };
+    for row in [&[][..], &[1, 0, 0, 0], &[1, 0, 50, 100], &[0, 0, 0, 0], &[1, 1, 0, 0]] {
+        assert!(!follows(&bare, row));
+    }
+}
+
+/// One block with all of every limit: the ordinary programme and steps, and nothing is left to pick up or to change.
+#[test]
+fn one_block_is_the_ordinary_programme() {
+    let mut random = Random::new(26);
+    let mut changed = 0;
+    for case in 0..1_000 {
+        let shape = make::small_shape(&mut random, 8, 4);
+        let mut district = match case % 2 {
+            0 => make::telling_district(&mut random),
+            _ => make::busy_district(&mut random, make::Shape { segments: shape.segments + 1, ..shape }),
+        };
+        if random.chance(30) {
+            make::set_leaders(&mut random, &mut district);
+        }
+        let ordinary = plan(&district);
+        let row =
+            [1, district.segments.len() as u64].into_iter().chain(district.limits.iter().map(|&limit| limit.into()));
+        let unit = chosen(&district, &row.collect::<Vec<u64>>());
+        let shown = unit.show();
+        assert!(unit.in_blocks());
+        assert_eq!(
+            (shown.strategies, shown.total, shown.ceiling),
+            (ordinary.strategies, ordinary.total, ordinary.ceiling)
+        );
+        assert_eq!((shown.steps, shown.pickups, shown.changes), (ordinary.steps, 0, 0));
+        assert_eq!(shown.total_after_phase_two, ordinary.total);
+        changed += u32::from(ordinary.changes > 0);
+    }
+    assert!(changed > 100, "{changed}");
+}
+
+/// A choice stays while it is not followed: each edit, and each load that is refused, asks anew.
+#[test]
+fn blocks_off_and_on() {
+    let row: Vec<u64> = HALVES.iter().map(|&number| number.into()).collect();
+    let mut unit = chosen(&five(), &row);
+    let in_halves = unit.show().clone();
+    assert!(unit.in_blocks() && in_halves != plan(&five()));
+    let edits: [(fn(&mut Unit), bool); 14] = [
+        (|unit| unit.set_limit(1, 49).unwrap(), false),
+        (|unit| unit.set_limit(2, 99).unwrap(), false),
+        (|unit| unit.set_limit(1, 50).unwrap(), false),
+        (|unit| unit.set_limit(2, 100).unwrap(), true),
+        (|unit| unit.set_leader(3, 2).unwrap(), false),
+        (|unit| unit.set_leader(4, 3).unwrap(), false),
+        (|unit| unit.set_leader(3, 0).unwrap(), true),
+        (|unit| unit.set_leader(4, 0).unwrap(), true),
+        (|unit| unit.bar(1, 1).unwrap(), true),
+        (|unit| unit.unbar(1, 1).unwrap(), true),
+        (|unit| unit.set_rating(2, 1, 50).unwrap(), true),
+        (|unit| unit.set_rating(2, 1, five().segments[1].ratings[0].into()).unwrap(), true),
+        (|unit| assert!(unit.set_limit(3, 0).is_err()), true),
+        (|unit| assert!(unit.load(&[]).is_err()), true),
+    ];
+    for (at, (edit, expected)) in edits.into_iter().enumerate() {
+        edit(&mut unit);
+        check_in(unit.district(), &row);
+        assert_eq!(unit.show(), &plan_in(unit.district(), &row));
+        assert_eq!(unit.in_blocks(), expected, "edit {at}");
+    }
+    assert_eq!(unit.show(), &in_halves);
+    // Another choice takes its place, also one that is not followed; none ends it, and so does the same file.
+    unit.choose_blocks(&[1, 5]).unwrap();
+    assert_eq!(unit.show(), &plan(&five()));
+    unit.set_limit(1, 50).unwrap();
+    assert!(!unit.in_blocks());
+    unit.choose_blocks(&row).unwrap();
+    unit.choose_blocks(&[]).unwrap();
+    assert_eq!(unit.show(), &plan(&five()));
+    unit.choose_blocks(&row).unwrap();
+    assert_eq!(unit.show(), &in_halves);
+    unit.load(&file::encode(&five())).unwrap();
+    unit.set_limit(1, 50).unwrap();
+    assert_eq!(unit.show(), &plan(&five()));
 }
 
 /// Every value at the end of its range that makes products large.

@@ -277,7 +277,7 @@ fn answered(unit: &mut Unit, call: &Call) -> String {
         Call::Marker(bits) => format!("{:?}", unit.marker(bits)),
         Call::Lost => format!("{:?}", unit.lost()),
         Call::Roughness => format!("{:?}", unit.roughness()),
-        Call::Queue(..) | Call::Step => unreachable!("the lists here have no consoles"),
+        Call::Queue(..) | Call::Step | Call::Blocks(_) => unreachable!("the lists here have none of these"),
     }
 }
 

@@ -20,7 +20,7 @@ use reference::refusal::Refusal;
 use reference::station::{same_tables, Station};
 use reference::tables::Tables;
 use reference::turn::{self, Way};
-use reference::unit::{plan, Plan};
+use reference::unit::{plan, Plan, Unit};
 use reference::{calls, deck, decks, example, file, frames, lists, pack, page, rating, text, texts, unpack};
 use std::collections::{BTreeMap, BTreeSet, VecDeque};
 use std::fs;
@@ -455,7 +455,11 @@ impl Run {
             let held = console.held();
             if let (b"show", Ok(unit)) = (line, held) {
                 tally.see("show");
-                features(tally, unit.district(), unit.show());
+                if unit.in_blocks() {
+                    tally.see("show in blocks");
+                } else {
+                    features(tally, unit.district(), unit.show());
+                }
             } else if let (b"page", Ok(unit)) = (line, held) {
                 page_features(tally, unit.district(), unit.show());
             } else {
@@ -470,6 +474,7 @@ impl Run {
                 tally.see(match words[0] {
                     _ if line == b"roughness" => format!("roughness: {}", words.join(" ")),
                     _ if line.starts_with(b"queue ") => format!("queue: {}", words.join(" ")),
+                    _ if line.starts_with(b"blocks") => format!("blocks: {}", words.join(" ")),
                     "console" => {
                         format!("step: {}", text.split_whitespace().skip(2).collect::<Vec<_>>().join(" "))
                     }
@@ -594,6 +599,7 @@ fn worked(tally: &mut Tally, list: &[u8]) -> Vec<u8> {
     tally.see(if printed.starts_with("refused") { printed.trim_end() } else { "planned" });
     office_features(tally, &calls);
     desk_features(tally, &calls);
+    block_features(tally, &calls);
     printed.into_bytes()
 }
 
@@ -662,6 +668,38 @@ fn desk_features(tally: &mut Tally, calls: &[(u32, Call)]) {
             }
         };
         seen.insert(feature);
+    }
+    seen.into_iter().for_each(|feature| tally.see(feature));
+}
+
+/// Notes what a list has that concerns blocks: choices that are followed and that are
+/// not, what the plan is then, and edits that make one followed or not.
+fn block_features(tally: &mut Tally, calls: &[(u32, Call)]) {
+    let mut desk = Desk::fresh();
+    let mut seen = BTreeSet::new();
+    for (office, call) in calls {
+        let followed = |desk: &Desk| desk.station.office((*office).into()).is_ok_and(Unit::in_blocks);
+        let before = followed(&desk);
+        let _ = call.make(*office, &mut desk);
+        let after = followed(&desk);
+        match call {
+            Call::Blocks(row) if row.is_empty() => seen.insert("no blocks chosen"),
+            Call::Blocks(_) if after => seen.insert("blocks followed"),
+            Call::Blocks(_) => seen.insert("blocks not followed"),
+            Call::Load(_) if before && !after => seen.insert("blocks dropped by a load"),
+            _ if before && !after => seen.insert("blocks not followed behind an edit"),
+            _ if after && !before => seen.insert("blocks followed behind an edit"),
+            _ => false,
+        };
+        if let (true, Ok(unit)) = (after, desk.station.office((*office).into())) {
+            let ordinary = plan(unit.district());
+            if unit.show() != &ordinary {
+                seen.insert("blocks decide");
+            }
+            if unit.show().strategies != ordinary.strategies {
+                seen.insert("blocks decide the programme");
+            }
+        }
     }
     seen.into_iter().for_each(|feature| tally.see(feature));
 }

@@ -4,7 +4,7 @@ use reference::district::District;
 use reference::make::{self, Shape};
 use reference::options::Given;
 use reference::random::Random;
-use reference::{example, file, frames, leaders, offices, reasons, vectors};
+use reference::{counties, example, file, frames, leaders, offices, reasons, vectors};
 use std::fs;
 use std::io::{self, BufWriter, Write};
 use std::path::Path;
@@ -17,6 +17,7 @@ const USAGE: &str = "usage:
   generate series  --seed S --out DIR             districts that grow in N, in S and in R
   generate example                                the report's example problem, to standard output
   generate deck                                   the same as a deck of cards, to standard output
+  generate blocks  --out DIR                      the files that are stored for blocks, for the console
   generate leaders --out DIR                      the files with leaders that are stored, for the console
   generate offices --out DIR                      the files of two offices that are stored, for the console
   generate reasons --out DIR                      the districts whose reasons are stored, for the console
@@ -50,6 +51,7 @@ fn run(arguments: &[String]) -> Result<(), String> {
         "reasons" => named(encoded(reasons::districts()), Path::new(given.needed("out")?)),
         "leaders" => named(leaders::files(), Path::new(given.needed("out")?)),
         "offices" => named(offices::files(), Path::new(given.needed("out")?)),
+        "blocks" => named(counties::files(), Path::new(given.needed("out")?)),
         "vectors" => io::stdout().write_all(&vectors::frames()),
         _ => return Err(format!("unknown argument {what}")),
     }

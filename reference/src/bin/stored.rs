@@ -5,7 +5,7 @@
 //! It is what a wrong reading of the rules is held against: see `wrong/`.
 
 use reference::refusal::Refusal;
-use reference::unit::Unit;
+use reference::unit::{plan_in, Unit};
 use reference::{calls, console, deck, file, frames, listing, options::Given, page, rating, text, turn};
 use std::panic::{catch_unwind, AssertUnwindSafe};
 use std::path::Path;
@@ -200,7 +200,8 @@ fn unhex(text: &str) -> Vec<u8> {
 
 /// A line `CASE: ANSWER`, where the case ends with a file in hexadecimal: what
 /// the library makes of it, and what stands there. Ratings, survivals and
-/// effects are those of segment 1 under strategy 1, for distress type 1.
+/// effects are those of segment 1 under strategy 1, for distress type 1. A row of
+/// blocks has a comma between two numbers.
 fn computed(line: &str) -> Option<(Option<String>, String)> {
     let (case, wanted) = line.split_once(": ").filter(|_| !line.starts_with('#'))?;
     let words: Vec<&str> = case.split(' ').collect();
@@ -213,6 +214,10 @@ fn computed(line: &str) -> Option<(Option<String>, String)> {
             ["fresh"] => hex(&file::encode(district)),
             ["places", _] => numbers(unit.show().strategies),
             ["after", _] => unit.show().total_after_phase_two.to_string(),
+            ["after", row, _] => {
+                let row: Vec<u64> = row.split(',').filter_map(|number| number.parse().ok()).collect();
+                plan_in(district, &row).total_after_phase_two.to_string()
+            }
             ["export", length, _] => lent(length, |buffer| unit.export(buffer)),
             ["page", length, _] => lent(length, |buffer| unit.page(buffer)),
             ["ratings", _] => numbers((0..=district.years).map(|t| rating::rating(district, one().0, one().1, 0, t))),
