@@ -5,6 +5,7 @@
 use crate::district::{District, LENGTH_MOST, MOST_RESOURCES, WIDTH_MOST};
 use crate::file;
 use crate::leaders::{district, takes};
+use crate::offices::bare;
 use crate::vectors::small;
 
 /// Five segments of a mile each, two resources, and ten units of both for each segment: all of it fits.
@@ -60,5 +61,6 @@ pub fn quarters() -> Vec<u32> {
 
 /// The files that the stored console loads.
 pub fn files() -> Vec<(&'static str, Vec<u8>)> {
-    vec![("county", file::encode(&five())), ("sixteen", file::encode(&sixteen()))]
+    let of = |name, district: District| (name, file::encode(&district));
+    vec![of("county", five()), of("vacant", bare(five())), of("sixteen", sixteen())]
 }
