@@ -4,12 +4,13 @@ use Rattle.std.specs.Prelude.{ℕ, zero, suc, List, [], ◌++◌, leb, ltb, leng
 use Rattle.rules.specs.District.{District, segments_of, strategies_of, distresses_of, resources_of, with_limit, with_bar, without_bar, with_rating, with_leader, fresh_district}
 use Rattle.rules.specs.Format.{inside, limit_range, rating_range}
 use Rattle.rules.specs.File.{Read, refused, found, decode, encode}
-use Rattle.rules.specs.Plan.{plan_of}
+use Rattle.rules.specs.Blocks.{choice_of, no_blocks, plan_by}
 use Rattle.rules.specs.Page.{page, page_length}
 use Rattle.rules.specs.Reasons.{reason_for}
 use Rattle.rules.specs.Answers.{no_such_segment, no_such_number, new_out_of_range, buffer_too_short, no_room_for_page, leader_not_below, unless, one_to, answer_of, accepting, Answered, Answer}
 use Rattle.rules.specs.declared.Edit.{Edit}
 use Rattle.rules.specs.declared.Edit.TheVariants.{Bar, Unbar, SetLimit, SetRating, SetLeader}
+use Rattle.rules.specs.declared.Choice.{Choice}
 use Rattle.rules.specs.declared.Programme.{Programme}
 use Rattle.rules.specs.declared.Unit.{Unit}
 use Rattle.rules.specs.declared.Reason.{Reason}
@@ -73,9 +74,13 @@ loaded_of (found d rest) = d
 unfoldable pub district_in : List ℕ → District
 district_in file = loaded_of (decode file)
 
--- a unit is its district and the plan for it
+-- a unit is its district, the blocks chosen, and the plan by them
+unfoldable pub unit_with : Choice → District → Unit
+unit_with x d = record { district = d; choice = x; programme = plan_by x d }
+
+-- where none are chosen
 unfoldable pub unit_of : District → Unit
-unit_of d = record { district = d; programme = plan_of d }
+unit_of d = unit_with no_blocks d
 
 unfoldable pub fresh_unit : Unit
 fresh_unit = unit_of fresh_district
@@ -85,15 +90,20 @@ pub record Reply : Type 0 where
   pub answer : Answer
   pub unit : Unit
 
--- accepted, the call returns 0 and the district replaces the one held
-unfoldable pub answered : Unit → ℕ → District → Reply
-answered u n d = record { answer = answer_of n 0; unit = accepting n (unit_of d) u }
+-- accepted, the call returns 0, and choice and district replace those held
+unfoldable pub answered : Unit → ℕ → Choice → District → Reply
+answered u n x d = record { answer = answer_of n 0; unit = accepting n (unit_with x d) u }
 
+-- a load ends the choice of blocks (document 02, request 13), and an edit keeps it
 unfoldable pub load_of : Unit → List ℕ → Reply
-load_of u file = answered u (load_refusal file) (district_in file)
+load_of u file = answered u (load_refusal file) no_blocks (district_in file)
 
 unfoldable pub alter_of : Unit → Edit → Reply
-alter_of u e = answered u (edit_refusal u.district e) (edited u.district e)
+alter_of u e = answered u (edit_refusal u.district e) u.choice (edited u.district e)
+
+-- nothing refuses a row, be it one that can be followed or not
+unfoldable pub choose_of : Unit → List ℕ → Reply
+choose_of u row = answered u 0 (choice_of row) u.district
 
 -- ---- export, page, show and why, which leave the unit as it is
 

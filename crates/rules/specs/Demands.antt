@@ -12,11 +12,12 @@ use Rattle.rules.specs.Rating.{permitted, benefit, within_limits, total_of}
 use Rattle.rules.specs.Table.{Table, table_of}
 use Rattle.rules.specs.Phases.{strategy_at, within, heeds, pick_up, change}
 use Rattle.rules.specs.Page.{page_length}
-use Rattle.rules.specs.Plan.{reduced, filled, improved, programme_of}
+use Rattle.rules.specs.Plan.{filled, improved, programme_of}
+use Rattle.rules.specs.Blocks.{followed, block_district, block_table, block_reduced, begun, programme_by}
 use Rattle.rules.specs.Answers.{no_such_points, window_empty, Accepted, Refused}
 use Rattle.rules.specs.Survey.{block_of, points_of, survey_refusal, survey_of}
-use Rattle.rules.specs.Calls.{load_refusal, district_in, load_of, Export, export_of, show_of}
-use Rattle.rules.specs.Lists.{Call, Load, Alter, ExportTo, PageTo, Show, AskWhy, refusal_of, altered, lent_to, outcome_of, district_after, unit_after}
+use Rattle.rules.specs.Calls.{load_refusal, district_in, unit_of, load_of, Export, export_of, show_of}
+use Rattle.rules.specs.Lists.{Call, Load, Alter, ChooseBlocks, ExportTo, PageTo, Show, AskWhy, refusal_of, altered, chosen, lent_to, outcome_of, district_after, choice_after, unit_after}
 use Rattle.rules.specs.Meter.{Heard, heard_with, heard_after, window_of, mays_points, roughness_refusal, points_at, roughness_of}
 use Rattle.rules.specs.Offices.{Held, OfficeCall, Plan, Send, AskRoughness, office_refusal, lent_bytes, office_outcome, held_after, unit_calls, sent_in}
 use Rattle.rules.specs.declared.Programme.{Programme}
@@ -28,16 +29,18 @@ use Rattle.rules.specs.declared.Unit.{Unit}
 unfoldable pub returned : District → Call → ℕ
 returned d (Load file) = 0
 returned d (Alter e) = 0
+returned d (ChooseBlocks row) = 0
 returned d (ExportTo buffer) = length (encode d)
 returned d (PageTo buffer) = page_length d
 returned d Show = 0
 returned d (AskWhy i j) = 0
 
--- of a unit in any state and any call; the programme that goes with the district held is Calls.unitOf's, and Demand 2 has it after any list
+-- of a unit in any state and any call; the programme that goes with district and choice is Calls.unit_with's, and Demand 2 has it after any list
 pub record Settled (u : Unit) (c : Call) : Type 0 where
-  -- a call that nothing refuses gives a full result, and the unit then holds the district as the call alters it;
+  -- a call that nothing refuses gives a full result, and the unit then holds district and choice as the call alters them;
   pub accepted : refusal_of u.district c ≡ 0 → (outcome_of u c).answer ≡ Accepted (returned u.district c)
   pub held : refusal_of u.district c ≡ 0 → (outcome_of u c).unit.district ≡ altered u.district c
+  pub choice : refusal_of u.district c ≡ 0 → (outcome_of u c).unit.choice ≡ chosen u.choice c
   -- any other gives the number of the first condition, and unit and lent bytes stay as they were
   pub refused :
       (n : ℕ) → refusal_of u.district c ≡ suc n
@@ -71,15 +74,24 @@ file_in file buffer = record { answer = Accepted (length file); buffer = file ++
 -- of the unit after any list of calls
 pub record ByTheRules (cs : List Call) : Type 0 where
   pub district : (unit_after cs).district ≡ district_after cs
-  pub programme : show_of (unit_after cs) ≡ programme_of (table_of (district_after cs)) (leader_of (district_after cs))
+  pub choice : (unit_after cs).choice ≡ choice_after cs
+  pub programme : show_of (unit_after cs) ≡ programme_by (choice_after cs) (district_after cs)
   pub finished :
-      Finished (table_of (district_after cs)) (leader_of (district_after cs)) (reduced (table_of (district_after cs)) (leader_of (district_after cs)))
+      Finished (table_of (district_after cs)) (leader_of (district_after cs)) (begun (choice_after cs) (district_after cs))
+  -- so it is of each block, whether it is followed or not
+  pub blocks :
+      (b : ℕ)
+      → Finished (block_table (choice_after cs) (district_after cs) b) (leader_of (block_district (choice_after cs) (district_after cs) b))
+      (block_reduced (choice_after cs) (district_after cs) b)
   -- its export, into any buffer with room, is the district's file,
   pub exported :
       (buffer : List ℕ) → length (encode (district_after cs)) ≤ length buffer
       → export_of (unit_after cs) buffer ≡ file_in (encode (district_after cs)) buffer
-  -- which gives the same district and the same programme when it is loaded into a unit in any state
-  pub reloaded : (u : Unit) → load_of u (encode (district_after cs)) ≡ record { answer = Accepted 0; unit = unit_after cs }
+  -- which gives the same district when it is loaded into a unit in any state, planned without blocks; and that plan is the one shown where no
+  -- blocks are followed
+  pub reloaded : (u : Unit) → load_of u (encode (district_after cs)) ≡ record { answer = Accepted 0; unit = unit_of (district_after cs) }
+  pub ordinary : show_of (unit_of (district_after cs)) ≡ programme_of (table_of (district_after cs)) (leader_of (district_after cs))
+  pub unblocked : followed (choice_after cs) (district_after cs) ≡ false → show_of (unit_after cs) ≡ show_of (unit_of (district_after cs))
 
 abbrev pub TheRules : Type 0
 TheRules = (cs : List Call) → ByTheRules cs

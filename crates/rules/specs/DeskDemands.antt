@@ -6,9 +6,9 @@ use Rattle.std.specs.Prelude.{Option, None, Some}
 use Rattle.base.specs.Choice.{pick}
 use Rattle.rules.specs.District.{District, shared_tables}
 use Rattle.rules.specs.Answers.{no_such_office, no_such_console, queue_full, Answer, Accepted, Refused}
-use Rattle.rules.specs.Calls.{unit_of, show_of}
+use Rattle.rules.specs.Calls.{unit_with, show_of}
 use Rattle.rules.specs.Offices.{Held}
-use Rattle.rules.specs.Stations.{other, Both, own, office_number, fresh_both, StationCall, station_outcome, station_from, station_after, districts_after, without}
+use Rattle.rules.specs.Stations.{other, Both, own, office_number, fresh_both, StationCall, station_outcome, station_from, station_after, districts_after, choices_after, without}
 use Rattle.rules.specs.Demands.{Sound, Shown}
 use Rattle.rules.specs.StationDemands.{StationClaim, nothing_more, Got, gets, got_by, throughout, leaves_tables, not_in_use}
 use Rattle.rules.specs.Desks.{console_number, next_to, Queues, queue_of, with_queue, with_turn, most_waiting, Arrival, arrival_of, Taken, taken, Desk, fresh_desk, carrying, step_of, Event, Arrive, Step, Ask, desk_by, answer_to, desk_from, desk_after, gathered, calls_at, calls_from, calls_in, carried_by, accepted_from, carried_from, steps_in}
@@ -153,7 +153,7 @@ pub record DeskClaim (es : List Event) : Type 0 where
   pub held : (desk_after es).held ≡ station_after (calls_in es)
   -- of each office the planning statements, after each step as after each other event;
   pub claim : (w : Which) → StationClaim (calls_in es) w
-  pub planned : (w : Which) → (own w (desk_after es).held).unit ≡ unit_of (desk_district w es)
+  pub planned : (w : Which) → (own w (desk_after es).held).unit ≡ unit_with (own w (choices_after (calls_in es))) (desk_district w es)
   pub sound : (w : Which) → Sound (desk_district w es) (show_of (own w (desk_after es).held).unit)
   pub shown : (w : Which) → Shown (desk_district w es) (show_of (own w (desk_after es).held).unit)
   -- what is shared of what both hold;

@@ -6,7 +6,7 @@
 --
 -- Segments i, strategies j, years t, distress types k, pavement types y and resources r are numbered from 1, here and in all the rules.
 -- Strategy 0 is nothing. Records, and the numbers of a record, are counted from 0 (Format, File).
-use Rattle.std.specs.Prelude.{ℕ, ◌+◌, ◌-◌, ◌*◌, Bool, ◌||◌, List, [], ◌∷◌, get_or, set, replicate, ℤ}
+use Rattle.std.specs.Prelude.{ℕ, ◌+◌, ◌-◌, ◌*◌, ◌^◌, Bool, ◌||◌, List, [], ◌∷◌, get_or, set, replicate, ℤ}
 use Rattle.base.specs.Choice.{pick}
 use Rattle.base.specs.Over.{between}
 use Rattle.base.specs.Same.{same}
@@ -203,6 +203,10 @@ bars_of d i = value_at d (bars_place i)
 unfoldable pub barred_in : District → ℕ → ℕ → Bool
 barred_in d i j = is_set (bars_of d i) (j - 1)
 
+-- those of every strategy that there is
+abbrev pub all_bars : District → ℕ
+all_bars d = 2 ^ strategies_of d - 1
+
 unfoldable pub rating_of : District → ℕ → ℕ → ℕ
 rating_of d i k = value_at d (rating_place i k)
 
@@ -220,6 +224,9 @@ with_bar d i j = set d (bars_place i) (set_bit (bars_of d i) (j - 1))
 
 abbrev pub without_bar : District → ℕ → ℕ → District
 without_bar d i j = set d (bars_place i) (clear_bit (bars_of d i) (j - 1))
+
+abbrev pub with_bars : District → ℕ → ℕ → District
+with_bars d i bars = set d (bars_place i) bars
 
 abbrev pub with_rating : District → ℕ → ℕ → ℕ → District
 with_rating d i k rating = set d (rating_place i k) rating

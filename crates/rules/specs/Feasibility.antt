@@ -3,10 +3,11 @@
 -- alone would say less.
 use Rattle.std.specs.Prelude.{ℕ, ◌≡◌, refl, Bool, true, false, ◌&&◌, List, [], ◌∷◌, map, pos, ◌≤ℤ◌, take}
 use Rattle.std.proofs.lemmas.Bool.{false≢true}
-use Rattle.rules.specs.District.{District}
+use Rattle.rules.specs.District.{District, leader_of}
 use Rattle.rules.specs.Rating.{candidate, within_limits, total_of}
+use Rattle.rules.specs.Table.{table_of}
 use Rattle.rules.specs.Phases.{strategy_at}
-use Rattle.rules.specs.Plan.{plan_of}
+use Rattle.rules.specs.Plan.{programme_of}
 use Rattle.rules.specs.Demands.{permitted_at, all_permitted, Feasible, leaders_respected, leader_worth, leaders_worth, Rival, Sound, strategy_in}
 use Rattle.rules.specs.Writer.{Roads, minus, strategy, nothing_demanded, segment, barring, district_of, district_with_leaders}
 use Rattle.rules.specs.Results.{result_of}
@@ -84,7 +85,7 @@ led = district_with_leaders one_leads (0 ∷ 1 ∷ [])
 abbrev pub programmes : List (List ℕ)
 programmes = (1 ∷ 0 ∷ []) ∷ (0 ∷ 1 ∷ []) ∷ (2 ∷ 1 ∷ []) ∷ (3 ∷ 1 ∷ []) ∷ (1 ∷ 3 ∷ []) ∷ []
 
-pub held : take 2 (plan_of led).strategies ≡ 1 ∷ 0 ∷ []
+pub held : take 2 (programme_of (table_of led) (leader_of led)).strategies ≡ 1 ∷ 0 ∷ []
 unfolding result_of
 held = refl
 

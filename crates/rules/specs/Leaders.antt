@@ -9,7 +9,7 @@ use Rattle.rules.specs.Writer.{Strategy, Roads, strategy, nothing_demanded, segm
 use Rattle.rules.specs.Results.{Shown, Case, given, shows, whys, in_row, result_of, WorkedCase, ◌⇒◌, Agree}
 
 -- segments of an area of 100, with what is barred on each
-abbrev roads : ℕ → List Strategy → List (List ℕ) → Roads
+abbrev pub roads : ℕ → List Strategy → List (List ℕ) → Roads
 roads limit strategies bars =
     record {
       years = 1;

@@ -6,6 +6,7 @@ pub mod Table
 pub mod Phases
 pub mod Ceiling
 pub mod Plan
+pub mod Blocks
 pub mod Page
 pub mod Reasons
 pub mod Answers
@@ -36,3 +37,4 @@ pub mod Converted
 pub mod Decks
 pub mod TwoOffices
 pub mod FourConsoles
+pub mod Blocked

@@ -2,7 +2,9 @@
 use Rattle.std.specs.Prelude.{ℕ, List, [], ◌∷◌}
 use Rattle.rules.specs.District.{District, fresh_district}
 use Rattle.rules.specs.Answers.{accepting, answer_of, Answer, Accepted}
-use Rattle.rules.specs.Calls.{load_refusal, export_refusal, page_refusal, bar_refusal, edit_refusal, edited, district_in, fresh_unit, load_of, alter_of, Export, export_of, page_of, Reply}
+use Rattle.rules.specs.Blocks.{choice_of, no_blocks}
+use Rattle.rules.specs.Calls.{load_refusal, export_refusal, page_refusal, bar_refusal, edit_refusal, edited, district_in, fresh_unit, load_of, alter_of, choose_of, Export, export_of, page_of, Reply}
+use Rattle.rules.specs.declared.Choice.{Choice}
 use Rattle.rules.specs.declared.Edit.{Edit}
 use Rattle.rules.specs.declared.Unit.{Unit}
 
@@ -10,6 +12,7 @@ use Rattle.rules.specs.declared.Unit.{Unit}
 pub data Call : Type 0 where
   Load : List ℕ → Call
   Alter : Edit → Call
+  ChooseBlocks : List ℕ → Call
   ExportTo : List ℕ → Call
   PageTo : List ℕ → Call
   Show : Call
@@ -19,6 +22,7 @@ pub data Call : Type 0 where
 unfoldable pub refusal_of : District → Call → ℕ
 refusal_of d (Load file) = load_refusal file
 refusal_of d (Alter e) = edit_refusal d e
+refusal_of d (ChooseBlocks row) = 0
 refusal_of d (ExportTo buffer) = export_refusal d buffer
 refusal_of d (PageTo buffer) = page_refusal d buffer
 refusal_of d Show = 0
@@ -30,6 +34,7 @@ refusal_of d (AskWhy i j) = bar_refusal d i j
 unfoldable pub altered : District → Call → District
 altered d (Load file) = district_in file
 altered d (Alter e) = edited d e
+altered d (ChooseBlocks row) = d
 altered d (ExportTo buffer) = d
 altered d (PageTo buffer) = d
 altered d Show = d
@@ -41,6 +46,25 @@ district_from d (c ∷ cs) = district_from (accepting (refusal_of d c) (altered 
 
 unfoldable pub district_after : List Call → District
 district_after cs = district_from fresh_district cs
+
+-- ---- and which blocks they choose, until the next load (document 02, request 13)
+
+unfoldable pub chosen : Choice → Call → Choice
+chosen x (Load file) = no_blocks
+chosen x (Alter e) = x
+chosen x (ChooseBlocks row) = choice_of row
+chosen x (ExportTo buffer) = x
+chosen x (PageTo buffer) = x
+chosen x Show = x
+chosen x (AskWhy i j) = x
+
+unfoldable pub choice_from : District → Choice → List Call → Choice
+choice_from d x [] = x
+choice_from d x (c ∷ cs) =
+    choice_from (accepting (refusal_of d c) (altered d c) d) (accepting (refusal_of d c) (chosen x c) x) cs
+
+unfoldable pub choice_after : List Call → Choice
+choice_after cs = choice_from fresh_district no_blocks cs
 
 -- ---- the unit after a list, from what each call does
 
@@ -54,6 +78,7 @@ pub record Outcome : Type 0 where
 unfoldable pub lent_to : Call → List ℕ
 lent_to (Load file) = file
 lent_to (Alter e) = []
+lent_to (ChooseBlocks row) = []
 lent_to (ExportTo buffer) = buffer
 lent_to (PageTo buffer) = buffer
 lent_to Show = []
@@ -69,6 +94,7 @@ written e u = record { answer = e.answer; unit = u; bytes = e.buffer }
 unfoldable pub outcome_of : Unit → Call → Outcome
 outcome_of u (Load file) = replied (load_of u file) file
 outcome_of u (Alter e) = replied (alter_of u e) []
+outcome_of u (ChooseBlocks row) = replied (choose_of u row) []
 outcome_of u (ExportTo buffer) = written (export_of u buffer) u
 outcome_of u (PageTo buffer) = written (page_of u buffer) u
 outcome_of u Show = record { answer = Accepted 0; unit = u; bytes = [] }

@@ -1,10 +1,9 @@
--- Document 01, "The three phases" and "The ceiling" together: what a show gives.
+-- Document 01, "The three phases" and "The ceiling" together: what a show gives. This is the ordinary plan; Blocks has that of document 02,
+-- request 13.
 use Rattle.std.specs.Prelude.{List, replicate, ℕ}
-use Rattle.base.specs.Choice.{pick}
 use Rattle.base.specs.Search.{Run}
-use Rattle.rules.specs.District.{District, most_segments, leader_of}
-use Rattle.rules.specs.File.{in_range}
-use Rattle.rules.specs.Table.{Table, table_of}
+use Rattle.rules.specs.District.{most_segments}
+use Rattle.rules.specs.Table.{Table}
 use Rattle.rules.specs.Phases.{total, start, phase1, phase2, phase3}
 use Rattle.rules.specs.Ceiling.{ceiling}
 use Rattle.rules.specs.declared.Programme.{Programme}
@@ -33,6 +32,10 @@ module _ (t : Table) (leader : ℕ → ℕ) where
           changes = improved.count;
         }
 
+  -- the programme in which the three phases end
+  abbrev pub ended : List ℕ
+  ended = (improved reduced).last
+
   unfoldable pub programme_of : Programme
   programme_of = programme_from reduced
 
@@ -47,8 +50,3 @@ no_programme =
       pickups = 0;
       changes = 0;
     }
-
--- What a unit works out. Every district that a list of calls leads to is in the file's ranges; a value of the type that is not has no
--- programme, so that each call is settled without a check by its caller.
-unfoldable pub plan_of : District → Programme
-plan_of d = pick (in_range d) (programme_of (table_of d) (leader_of d)) no_programme

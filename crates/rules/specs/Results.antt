@@ -3,6 +3,7 @@
 use Rattle.std.specs.Prelude.{ℕ, ◌≡◌, take, ℤ, pos}
 use Prim.Native.String.{String}
 use mathlib.Core.List.{List, [], ◌∷◌, ◌++◌, map, foldr}
+use Rattle.rules.specs.declared.Choice.{Choice}
 use Rattle.rules.specs.declared.Unit.{Unit}
 use Rattle.rules.specs.declared.Programme.{Programme}
 use Rattle.rules.specs.Calls.{Why}
@@ -20,6 +21,7 @@ use Rattle.rules.specs.Table
 use Rattle.rules.specs.Phases
 use Rattle.rules.specs.Ceiling
 use Rattle.rules.specs.Plan
+use Rattle.rules.specs.Blocks
 use Rattle.rules.specs.Page
 use Rattle.rules.specs.Reasons
 use Rattle.rules.specs.Answers
@@ -55,13 +57,22 @@ paged cs = after Paged cs
 
 -- asked without a call of a unit that holds a district in the file's ranges, with the plan for it
 unfoldable pub holding : District.District → Unit
-holding d = record { district = d; programme = Plan.programme_of (Table.table_of d) (District.leader_of d) }
+holding d =
+    record { district = d; choice = Blocks.no_blocks; programme = Plan.programme_of (Table.table_of d) (District.leader_of d) }
+
+-- the same with the plan by blocks
+unfoldable pub holding_by : Choice → District.District → Unit
+holding_by x d = record { district = d; choice = x; programme = Blocks.programme_by x d }
 
 abbrev pub given : Question → District.District → Case
 given q d = record { question = q; unit = holding d }
 
 abbrev pub planned : Writer.Roads → Case
 planned d = given Shown (Writer.district_of d)
+
+-- by the row of a choice
+abbrev pub in_blocks : List ℕ → District.District → Case
+in_blocks row d = record { question = Shown; unit = holding_by (Blocks.choice_of row) d }
 
 abbrev pub whys : District.District → Case
 whys d = given Whys d
@@ -113,7 +124,7 @@ result_in Effect u = Rating.effect u.district 1 1 ∷ []
 
 unfoldable pub result_of : Case → List ℤ
 unfolding
-    holding shown_by answered_in why_in reason_in for_each result_in
+    holding holding_by shown_by answered_in why_in reason_in for_each result_in
     Writer.file_of Writer.file_with_leaders Writer.district_with_leaders
     Bits.set_bit Bits.clear_bit
     Over.sum Over.sum_z Over.all Over.most Over.better_of Over.best Over.min_z Over.max_z Over.listed_from
@@ -140,16 +151,21 @@ unfolding
     Phases.pairs_of Phases.pairs_from Phases.first_pair Phases.change Phases.phase3
     Ceiling.down_share Ceiling.cost_by Ceiling.cost Ceiling.net Ceiling.margin Ceiling.ceiling_at Ceiling.priced Ceiling.priced_all
     Ceiling.prices_after Ceiling.ceiling
-    Plan.reduced Plan.filled Plan.improved Plan.programme_from Plan.programme_of Plan.no_programme Plan.plan_of
+    Plan.reduced Plan.filled Plan.improved Plan.programme_from Plan.programme_of Plan.no_programme
+    Blocks.choice_of Blocks.no_blocks Blocks.blocks_in Blocks.number_in Blocks.in_block Blocks.end_of Blocks.is_row Blocks.in_order Blocks.covering
+    Blocks.part_in Blocks.parts_fit Blocks.led_inside Blocks.leaders_inside Blocks.followed Blocks.with_parts Blocks.barred_outside
+    Blocks.block_district Blocks.block_table Blocks.block_reduced Blocks.block_list Blocks.block_steps Blocks.block_total Blocks.joined
+    Blocks.by_blocks Blocks.begun Blocks.programme_by Blocks.plan_by
     Page.right_aligned Page.line Page.miles Page.by_resource Page.heading Page.segment_row Page.total_row Page.limits_row Page.rows Page.lines
     Page.page Page.page_length
     Reasons.holds Reasons.hindrance Reasons.reason_for
     Answers.answer_of Answers.accepting
     Calls.load_refusal_of Calls.load_refusal Calls.export_refusal Calls.page_refusal Calls.loaded_of
-    Calls.district_in Calls.unit_of Calls.fresh_unit Calls.answered Calls.load_of Calls.alter_of
+    Calls.district_in Calls.unit_with Calls.unit_of Calls.fresh_unit Calls.answered Calls.load_of Calls.alter_of Calls.choose_of
     Calls.exported Calls.export_of Calls.page_of Calls.show_of Calls.explained Calls.why_of
     Survey.deduct_points Survey.block_of Survey.points_of Survey.survey_refusal Survey.survey_of
-    Lists.refusal_of Lists.altered Lists.district_from Lists.district_after Lists.lent_to Lists.outcome_of Lists.unit_from Lists.unit_after
+    Lists.refusal_of Lists.altered Lists.district_from Lists.district_after Lists.chosen Lists.choice_from Lists.choice_after
+    Lists.lent_to Lists.outcome_of Lists.unit_from Lists.unit_after
 result_of c = result_in c.question c.unit
 
 infix 70 ◌⇒◌

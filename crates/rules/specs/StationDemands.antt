@@ -8,11 +8,11 @@ use Rattle.rules.specs.District.{District, segments_of, shared_tables, same_tabl
 use Rattle.rules.specs.Format.{plain_form}
 use Rattle.rules.specs.File.{encode_as, encode}
 use Rattle.rules.specs.Answers.{no_such_office, tables_in_use, Answer, Accepted, Answered}
-use Rattle.rules.specs.Calls.{district_in, unit_of, show_of, why_of, Why}
-use Rattle.rules.specs.Lists.{Call, Load, Alter, ExportTo, PageTo, Show, AskWhy, district_after, unit_after}
+use Rattle.rules.specs.Calls.{district_in, unit_with, unit_of, show_of, why_of, Why}
+use Rattle.rules.specs.Lists.{Call, Load, Alter, ChooseBlocks, ExportTo, PageTo, Show, AskWhy, district_after, choice_after, unit_after}
 use Rattle.rules.specs.Meter.{heard_after, roughness_of}
 use Rattle.rules.specs.Offices.{Held, OfficeCall, Plan, Send, AskRoughness, office_outcome, sent_in}
-use Rattle.rules.specs.Stations.{other, Both, own, together, office_of, fresh_both, StationCall, call_of, call_by, brings_tables, with_tables, held_beside, station_refusal, StationOutcome, refused_all, station_outcome, station_after, districts_after, made_by, calls_by, without}
+use Rattle.rules.specs.Stations.{other, Both, own, together, office_of, fresh_both, StationCall, call_of, call_by, brings_tables, with_tables, held_beside, station_refusal, StationOutcome, refused_all, station_outcome, station_after, districts_after, choices_after, made_by, calls_by, without}
 use Rattle.rules.specs.Demands.{office_returned, office_altered, file_in, led_by_none, ByTheRules, Sound, Shown}
 use Rattle.rules.specs.declared.Unit.{Unit}
 use Rattle.rules.specs.declared.Programme.{Programme}
@@ -72,7 +72,7 @@ EveryStationFile = (b : Both Held) (w : Which) (file : List ℕ) → StationFile
 abbrev pub reload : District → Both Held → Which → StationOutcome
 reload d b w = load_by b w (encode d)
 
--- accepted, it gives the same district and programme, beside what the other then holds
+-- accepted, it gives the district, planned without blocks, beside what the other then holds
 abbrev pub reloaded_beside : District → Both Held → Which → Held → StationOutcome
 reloaded_beside d b w p =
     record { answer = Accepted 0; held = together w (record { unit = unit_of d; heard = (own w b).heard }) p; bytes = encode d }
@@ -91,12 +91,13 @@ pub record Reloads (d : District) (b : Both Held) (w : Which) : Type 0 where
 
 -- of office w
 pub record StationClaim (cs : List StationCall) (w : Which) : Type 0 where
-  -- its unit is the plan for its district, which follows from the calls of both;
-  pub planned : (own w (station_after cs)).unit ≡ unit_of (own w (districts_after cs))
+  -- its unit is the plan for its district by the blocks that it chose, and both follow from the calls of both;
+  pub planned : (own w (station_after cs)).unit ≡ unit_with (own w (choices_after cs)) (own w (districts_after cs))
   -- it is one that a list of calls on a unit of its own leads to, so that whatever holds after every such list holds of it;
   pub calls : List Call
   pub unit : (own w (station_after cs)).unit ≡ unit_after calls
   pub district : district_after calls ≡ own w (districts_after cs)
+  pub choice : choice_after calls ≡ own w (choices_after cs)
   pub rules : ByTheRules calls
   pub sound : Sound (own w (districts_after cs)) (show_of (own w (station_after cs)).unit)
   pub shown : Shown (own w (districts_after cs)) (show_of (own w (station_after cs)).unit)
@@ -124,6 +125,7 @@ pub data Told : Type 0 where
 unfoldable pub unit_tells : Unit → Call → Told
 unit_tells u (Load file) = nothing_more
 unit_tells u (Alter e) = nothing_more
+unit_tells u (ChooseBlocks row) = nothing_more
 unit_tells u (ExportTo buffer) = nothing_more
 unit_tells u (PageTo buffer) = nothing_more
 unit_tells u Show = programme (show_of u)

@@ -1,15 +1,17 @@
 -- Document 02, request 10: two offices on one unit, together a station. They share tables (District.shared_tables); segments, limits, bars, leaders,
--- programme and window each has for itself. Every call names its office by number; survey points, which is of no office,
+-- blocks, programme and window each has for itself. Every call names its office by number; survey points, which is of no office,
 -- names none.
 use Rattle.std.specs.Prelude.{ℕ, zero, suc, Bool, false, not, ◌&&◌, List, [], ◌∷◌, leb, eqb}
 use Rattle.std.specs.Prelude.{Option, None, Some}
 use Rattle.base.specs.Choice.{pick}
 use Rattle.rules.specs.District.{District, segments_of, fresh_district, shared_tables, same_tables}
 use Rattle.rules.specs.Answers.{no_such_office, tables_in_use, unless, or_later, accepting, Answer, Refused}
+use Rattle.rules.specs.declared.Choice.{Choice}
 use Rattle.rules.specs.declared.Which.{Which}
 use Rattle.rules.specs.declared.Which.TheVariants.{First, Second}
-use Rattle.rules.specs.Calls.{district_in, unit_of}
-use Rattle.rules.specs.Lists.{Call, Load, Alter, ExportTo, PageTo, Show, AskWhy, refusal_of, altered}
+use Rattle.rules.specs.Blocks.{no_blocks}
+use Rattle.rules.specs.Calls.{district_in, unit_with}
+use Rattle.rules.specs.Lists.{Call, Load, Alter, ChooseBlocks, ExportTo, PageTo, Show, AskWhy, refusal_of, altered, chosen}
 use Rattle.rules.specs.Offices.{Held, fresh_held, OfficeCall, Plan, Send, AskRoughness, office_refusal, lent_bytes, OfficeOutcome, office_outcome}
 
 -- ---- the two offices
@@ -62,6 +64,7 @@ call_by w c = call_of (office_number w) c
 unfoldable pub brings_tables : District → OfficeCall → Bool
 brings_tables d (Plan (Load file)) = not (same_tables d (district_in file))
 brings_tables d (Plan (Alter e)) = false
+brings_tables d (Plan (ChooseBlocks row)) = false
 brings_tables d (Plan (ExportTo buffer)) = false
 brings_tables d (Plan (PageTo buffer)) = false
 brings_tables d (Plan Show) = false
@@ -77,9 +80,9 @@ tables_refusal d e c = unless (not (brings_tables d c && leb 1 (segments_of e)))
 unfoldable pub refusal_beside : Held → Held → OfficeCall → ℕ
 refusal_beside o p c = or_later (office_refusal o c) (tables_refusal o.unit.district p.unit.district c)
 
--- with the shared tables of d, and nothing else to plan; the window stays
+-- with the shared tables of d, and nothing else to plan; the choice of blocks and the window stay
 abbrev pub with_tables : District → Held → Held
-with_tables d p = record { unit = unit_of (shared_tables d); heard = p.heard }
+with_tables d p = record { unit = unit_with p.unit.choice (shared_tables d); heard = p.heard }
 
 -- what the other office holds after a call that is not refused: new tables come to it too
 unfoldable pub held_beside : Held → Held → OfficeCall → Held
@@ -129,7 +132,11 @@ station_from b (c ∷ cs) = station_from (station_outcome b c).held cs
 unfoldable pub station_after : List StationCall → Both Held
 station_after cs = station_from fresh_both cs
 
--- ---- what the calls of both make of their districts
+-- ---- what the calls of both make of their districts, and which blocks they choose
+
+-- what refuses a call of office w on its unit
+abbrev pub plan_refusal : Which → Both District → Call → ℕ
+plan_refusal w b c = or_later (refusal_of (own w b) c) (tables_refusal (own w b) (own (other w) b) (Plan c))
 
 -- how a call of office w on its unit that is not refused alters them
 abbrev pub altered_both : Which → Both District → Call → Both District
@@ -138,8 +145,7 @@ altered_both w b c =
 
 unfoldable pub districts_by : Option Which → Both District → OfficeCall → Both District
 districts_by None b c = b
-districts_by (Some w) b (Plan c) =
-    accepting (or_later (refusal_of (own w b) c) (tables_refusal (own w b) (own (other w) b) (Plan c))) (altered_both w b c) b
+districts_by (Some w) b (Plan c) = accepting (plan_refusal w b c) (altered_both w b c) b
 districts_by (Some w) b (Send s) = b
 districts_by (Some w) b AskRoughness = b
 
@@ -149,6 +155,22 @@ districts_from b (c ∷ cs) = districts_from (districts_by (office_of c.office) 
 
 unfoldable pub districts_after : List StationCall → Both District
 districts_after cs = districts_from (record { first = fresh_district; second = fresh_district }) cs
+
+-- one office's load leaves the other's choice
+unfoldable pub choices_by : Option Which → Both District → Both Choice → OfficeCall → Both Choice
+choices_by None b x c = x
+choices_by (Some w) b x (Plan c) = accepting (plan_refusal w b c) (together w (chosen (own w x) c) (own (other w) x)) x
+choices_by (Some w) b x (Send s) = x
+choices_by (Some w) b x AskRoughness = x
+
+unfoldable pub choices_from : Both District → Both Choice → List StationCall → Both Choice
+choices_from b x [] = x
+choices_from b x (c ∷ cs) =
+    choices_from (districts_by (office_of c.office) b c.call) (choices_by (office_of c.office) b x c.call) cs
+
+unfoldable pub choices_after : List StationCall → Both Choice
+choices_after cs =
+    choices_from (record { first = fresh_district; second = fresh_district }) (record { first = no_blocks; second = no_blocks }) cs
 
 -- ---- the calls of one office
 

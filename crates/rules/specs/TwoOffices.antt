@@ -1,12 +1,13 @@
 -- Two offices on one unit (document 02, request 10), computed from these rules: refusals 16 and 17, what a load with other shared tables does to the
--- other office, and both ways in which one office changes an answer to the other. Worked by hand from the request.
+-- other office, and both ways in which one office changes an answer to the other; and the blocks that each chooses (request 13). Worked by hand
+-- from the requests.
 use Rattle.std.specs.Prelude.{ℕ, ◌+◌, ◌*◌, ◌≡◌, refl, Bool, true, false, ◌&&◌, List, [], ◌∷◌, ◌++◌, map, length, replicate, pos}
 use Rattle.base.specs.Over.{listed_from}
 use Rattle.base.specs.Same.{same}
 use Rattle.rules.specs.District.{District, most_segments, most_strategies, most_distresses, most_pavements, most_resources, per_strategy, per_pavement, per_segment, district_places, is_shared, shared_from, shared_tables, same_tables}
 use Rattle.rules.specs.Plan.{no_programme}
 use Rattle.rules.specs.Meter.{size_of, is_reading, reading_of, silence, sent_refusal, heard_with, hearing, sum_of, mean_reaches, mays_points, roughness_refusal, points_unless, roughness_of, points_at}
-use Rattle.rules.specs.Lists.{Load, Alter, ExportTo, Show, AskWhy}
+use Rattle.rules.specs.Lists.{Load, Alter, ChooseBlocks, ExportTo, Show, AskWhy}
 use Rattle.rules.specs.Offices.{Held, OfficeCall, Plan, Send, AskRoughness, fresh_held, office_refusal, lent_bytes, office_outcome}
 use Rattle.rules.specs.Stations.{other, office_number, Both, StationCall, call_of, fresh_both, brings_tables, tables_refusal, refusal_beside, held_beside, station_refusal, concluded, station_outcome, station_from, station_after, without}
 use Rattle.rules.specs.StationDemands.{nothing_more, programme, reason, points, Got, unit_tells, office_tells, gets, got_from, got_by, throughout, leaves_tables, not_in_use}
@@ -56,6 +57,9 @@ bar n i j = call_of n (Plan (Alter (Bar i j)))
 
 abbrev limit : ℕ → ℕ → ℕ → StationCall
 limit n r x = call_of n (Plan (Alter (SetLimit r x)))
+
+abbrev choose : ℕ → List ℕ → StationCall
+choose n row = call_of n (Plan (ChooseBlocks row))
 
 abbrev exports : ℕ → StationCall
 exports n = call_of n (Plan (ExportTo (replicate 100 0)))
@@ -183,6 +187,33 @@ pub asked_why :
 unfolding answers_to
 asked_why = refl
 
+-- ---- blocks
+
+-- two segments, of which each takes half the limit
+abbrev halves : Roads
+halves = sharing (40 ∷ []) (segment 100 20 (5 ∷ []) ∷ segment 100 20 (5 ∷ []) ∷ [])
+
+abbrev both_halves : Both Held
+both_halves = record { first = office halves; second = office halves }
+
+-- a row that is followed, one that is not, an empty one: nothing but the office's number refuses them
+pub choices :
+    map (λ c. (station_outcome both_halves c).answer)
+    (choose 1 (1 ∷ 2 ∷ 20 ∷ []) ∷ choose 2 (1 ∷ 2 ∷ 41 ∷ []) ∷ choose 1 [] ∷ choose 3 (1 ∷ 2 ∷ 20 ∷ []) ∷ [])
+    ≡ Accepted 0 ∷ Accepted 0 ∷ Accepted 0 ∷ Refused 16 ∷ []
+unfolding answers_to
+choices = refl
+
+-- the steps of both offices: in one block with half the limit a segment steps, in the plan of the office that chose it alone
+abbrev steps : Both Held → List ℕ
+steps b = b.first.unit.programme.steps ∷ b.second.unit.programme.steps ∷ []
+
+pub one_chooses :
+    map (λ n. steps (station_outcome both_halves (choose n (1 ∷ 2 ∷ 20 ∷ []))).held) (1 ∷ 2 ∷ 3 ∷ [])
+    ≡ (1 ∷ 0 ∷ []) ∷ (0 ∷ 1 ∷ []) ∷ (0 ∷ 0 ∷ []) ∷ []
+unfolding answers_to
+one_chooses = refl
+
 -- ---- how office w changes an answer to the other
 
 -- by a load of other tables: of two resources, after which the other may set the second limit
@@ -222,6 +253,7 @@ by_nothing =
     ∷ load 1 (file_of south)
     ∷ bar 1 1 1
     ∷ limit 1 1 9
+    ∷ choose 1 (1 ∷ 2 ∷ 9 ∷ [])
     ∷ call_of 1 (Send (Marker 7))
     ∷ exports 1
     ∷ load 3 (file_of longer)

@@ -45,10 +45,19 @@ pub struct Programme {
     pub changes: u64,
 }
 
-// The planning unit: the district held and the programme worked out for it.
+// A choice of blocks, a row of numbers: how many were handed in, and as many of them as the most blocks can have, with
+// zeros behind the last.
+#[derive(Clone, Copy)]
+pub struct Choice {
+    pub length: usize,
+    pub numbers: [usize; places::CHOICE_PLACES],
+}
+
+// The planning unit: the district held, the blocks chosen for it, and the programme worked out.
 #[derive(Clone, Copy)]
 pub struct Unit {
     pub district: District,
+    pub choice: Choice,
     pub programme: Programme,
 }
 

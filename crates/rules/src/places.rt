@@ -12,6 +12,11 @@ pub const MOST_PAVEMENTS: usize = 4;
 
 pub const MOST_RESOURCES: usize = 16;
 
+pub const MOST_BLOCKS: usize = 4;
+
+// The numbers of a choice of that many blocks: of each the first and the last segment and a part of every limit.
+pub const CHOICE_PLACES: usize = MOST_BLOCKS * (2 + MOST_RESOURCES);
+
 // The six counts.
 pub const SEGMENT_COUNT: usize = 0;
 
