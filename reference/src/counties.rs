@@ -43,6 +43,15 @@ pub fn districts() -> Vec<(District, Vec<u32>)> {
         // Four blocks, all with the same part, and none.
         (district(60, &two, &[mile; 4]), vec![1, 1, 15, 2, 2, 15, 3, 3, 15, 4, 4, 15]),
         (district(60, &two, &[mile; 4]), vec![1, 1, 0, 2, 2, 0, 3, 3, 0, 4, 4, 0]),
+        // By shares of the parts segment 1 steps to nothing; by those of the limits 2 would.
+        (
+            small(
+                &[100, 100],
+                &[(&[60_000, 20_000], 10, 100), (&[45_000, 85_000], 10, 100)],
+                &[(100, 1, 2), (100, 1, 1)],
+            ),
+            vec![1, 2, 60, 90],
+        ),
     ]
 }
 

@@ -40,6 +40,7 @@ fn by_hand() {
         (vec![1, 1, 1, 1], 40, [1, 2, 0]),
         (vec![2, 2, 1, 1], 50, [0, 0, 2]),
         (vec![1, 2, 2, 1], 50, [0, 3, 1]),
+        (vec![0, 2], 10, [1, 0, 0]),
     ];
     assert_eq!(districts().len(), expected.len());
     for ((district, row), expected) in districts().into_iter().zip(expected) {
@@ -51,6 +52,7 @@ fn by_hand() {
     let ordinary = |at: usize| figures(&plan(&districts()[at].0), districts()[at].0.segments.len());
     assert_eq!(ordinary(1), (vec![0, 2], 19, [2, 0, 0]));
     assert_eq!(ordinary(7), (vec![1, 0, 0, 2], 11, [1, 1, 0]));
+    assert_eq!(ordinary(12), (vec![1, 0], 10, [1, 0, 0]));
     assert_eq!(figures(&plan_in(&five(), &wide(&HALVES)), 5), (vec![1; 5], 50, [1, 1, 0]));
     assert_eq!(plan_in(&sixteen(), &wide(&quarters())).pickups, 1);
 }
@@ -63,7 +65,7 @@ fn total_after_phase_two() {
         .iter()
         .map(|(district, row)| plan_in(district, &wide(row)).total_after_phase_two / 10_000)
         .collect();
-    assert_eq!(after, [40, 19, 19, 18, 10, 25, 19, 11, 20, 40, 40, 45]);
+    assert_eq!(after, [40, 19, 19, 18, 10, 25, 19, 11, 20, 40, 40, 45, 10]);
 }
 
 /// Whether a row is followed, by the segments that its blocks have one by one.
