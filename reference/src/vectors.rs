@@ -1499,6 +1499,13 @@ fn blocks_as_bytes(cases: &mut Cases) {
         cases.scripts.push([&start[..], &claims(count), &show].concat());
     }
     cases.scripts.push([&start[..], &halves, &show].concat());
+    // A choice is no edit that could wait: 34 bytes are a show, and its row is read as what comes next.
+    let waits = [&[16, 1, 0, 0, 0, 2][..], &[0; 11]].concat();
+    for row in [vec![], HALVES.to_vec()] {
+        let choice = encode(&[Call::Blocks(row)]);
+        cases.scripts.push([&start[..], &waits, &choice].concat());
+        cases.scripts.push([&start[..], &waits, &choice, &show].concat());
+    }
     cases.by(&[(1, load(&five())), (3, Call::Blocks(HALVES.to_vec())), (1, Call::Show)]);
     cases.by(&[(1, load(&five())), (2, Call::Blocks(HALVES.to_vec())), (1, Call::Bar(1, 1))]);
     for office in [0, 3, 257] {
