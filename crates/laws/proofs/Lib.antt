@@ -7,3 +7,4 @@ pub mod Shares
 pub mod PickUps
 pub mod Changes
 pub mod Page
+pub mod Blocks
