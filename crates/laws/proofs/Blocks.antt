@@ -11,13 +11,13 @@ use Rattle.std.proofs.lemmas.Bool.{and_parts, false_from_ne_true}
 use Rattle.base.specs.Choice.{pick}
 use Rattle.base.specs.Over.{sum, all, between}
 use Rattle.base.proofs.All.{all_at}
-use Rattle.base.proofs.Choice.{between_in}
+use Rattle.base.proofs.Choice.{between_in, pick_all}
 use Rattle.base.proofs.Sums.{sum_part}
-use Rattle.rules.specs.District.{District, segments_of, resources_of, limit_of, leader_of}
+use Rattle.rules.specs.District.{District, segments_of, resources_of, limit_of, leader_of, all_bars, with_limit, with_bars}
 use Rattle.rules.specs.File.{in_range}
 use Rattle.rules.specs.Table.{table_of}
 use Rattle.rules.specs.Plan.{reduced, programme_of, no_programme}
-use Rattle.rules.specs.Blocks.{choice_of, no_blocks, blocks_in, first_of, last_of, part_of, in_block, end_of, is_row, in_order, covering, part_in, parts_fit, leaders_inside, followed, by_blocks, begun, programme_by, plan_by}
+use Rattle.rules.specs.Blocks.{choice_of, no_blocks, blocks_in, first_of, last_of, part_of, in_block, end_of, is_row, in_order, covering, part_in, parts_fit, leaders_inside, followed, with_parts, barred_outside, block_district, by_blocks, begun, programme_by, plan_by}
 use Rattle.rules.specs.declared.Choice.{Choice}
 
 module _ (x : Choice) (d : District) (ok : followed x d ≡ true) where
@@ -85,6 +85,33 @@ module _ (x : Choice) (d : District) (ok : followed x d ≡ true) where
   pub part_le : (b : ℕ) → 1 ≤ b → b ≤ m → (r : ℕ) → 1 ≤ r → r ≤ resources_of d → part_of x d b r ≤ limit_of d r
   unfolding part_in
   part_le b lb hb r l h = omega (arith, sum_part m (part_in x d r) b lb hb, parts_le r l h)
+
+-- ---- the district of a block
+
+module _ (x : Choice) (d : District) (b : ℕ) (P : District → Type 0) where
+  -- what holds of the whole district, and stays with each new limit and with the bars of each segment, holds of the block's
+  pub parts_all :
+      P d → (n : ℕ) → ((r : ℕ) → 1 ≤ r → r ≤ n → (e : District) → P e → P (with_limit e r (part_of x d b r))) → P (with_parts x d b n)
+  unfolding with_parts
+  parts_all whole zero limited = whole
+  parts_all whole (suc n) limited =
+      limited (suc n) (omega arith) (omega arith) (with_parts x d b n) (parts_all whole n (λ r l h. limited r l (omega arith)))
+
+  pub outside_all :
+      P (with_parts x d b (resources_of d)) → (n : ℕ) → ((i : ℕ) → 1 ≤ i → i ≤ n → (e : District) → P e → P (with_bars e i (all_bars d)))
+      → P (barred_outside x d b n)
+  unfolding barred_outside
+  outside_all parts zero barred = parts
+  outside_all parts (suc n) barred =
+      let e = barred_outside x d b n in
+      let before = outside_all parts n (λ i l h. barred i l (omega arith)) in
+      pick_all P (in_block x d b (suc n)) e (with_bars e (suc n) (all_bars d)) before (barred (suc n) (omega arith) (omega arith) e before)
+
+  pub block_all :
+      P d → ((r : ℕ) → 1 ≤ r → r ≤ resources_of d → (e : District) → P e → P (with_limit e r (part_of x d b r)))
+      → ((i : ℕ) → 1 ≤ i → i ≤ segments_of d → (e : District) → P e → P (with_bars e i (all_bars d))) → P (block_district x d b)
+  unfolding block_district
+  block_all whole limited barred = outside_all (parts_all whole (resources_of d) limited) (segments_of d) barred
 
 -- ---- which run phases 2 and 3 go on from
 
