@@ -13,6 +13,9 @@ pub mod Covers
 pub mod Totals
 pub mod Feasible
 pub mod Promises
+pub mod Alike
+pub mod BlockTables
+pub mod Joined
 pub mod Scale
 pub mod Lines
 pub mod Columns

@@ -11,6 +11,7 @@ use native.Mathlib.Omega.{arith}
 use borrow.Author.Tests.{ltb-true, ltb-false, eqb-true, leb-true, leb-false, lt-ltb, le-ltb, eq-eqb}
 use lib.Dec.{leb, ltb}
 use lib.ListN.{get_or-eq_default}
+use Rattle.base.specs.Choice.{pick}
 use Rattle.base.specs.Over.{sum}
 use Rattle.base.proofs.Sums.{sum_le, sum_lt, sum_bound, sum_part, sum_mul_right}
 use Rattle.base.proofs.Best.{best_ind, best_some}
@@ -169,6 +170,18 @@ module _ (t : Table) (i : ℕ) where
 pub potential : Table → List ℕ → ℕ
 potential t c = sum t.segments (λ i. rank t i (strategy_at c i))
 
+-- none of a segment without candidates
+potential_of :
+    (t : Table) (c : List ℕ) → OfCandidates t c → (none_there : ℕ → Bool) → ((i j : ℕ) → 1 ≤ i → i ≤ t.segments → none_there i ≡ true → Allowed t i j → j ≡ 0)
+    → potential t c ≤ sum t.segments (λ i. pick (none_there i) 0 t.strategies)
+unfolding potential rank
+potential_of t c o none_there barren =
+    sum_le t.segments (λ i. rank t i (strategy_at c i)) (λ i. pick (none_there i) 0 t.strategies) (λ i l h. each i l h (none_there i) refl)
+  where
+    each : (i : ℕ) → 1 ≤ i → i ≤ t.segments → (v : Bool) → none_there i ≡ v → rank t i (strategy_at c i) ≤ pick v 0 t.strategies
+    each i l h true q = rw (barren i (strategy_at c i) l h q (o.each i l h)) (omega arith)
+    each i l h false q = rank_small t i (strategy_at c i) (o.each i l h)
+
 pub potential_small : (t : Table) (c : List ℕ) → OfCandidates t c → potential t c ≤ t.segments * t.strategies
 unfolding potential
 potential_small t c o = sum_bound t.segments t.strategies (λ i. rank t i (strategy_at c i)) (λ i l h. rank_small t i (strategy_at c i) (o.each i l h))
@@ -239,15 +252,23 @@ module _ (t : Table) (leader : ℕ → ℕ) (fit : FitAlone t) where
   pub phase1_within : within t (phase1 t leader (start t leader)).last ≡ true
   phase1_within = stopped (phase1 t leader (start t leader)).last phase1_allowed phase1_ends
 
-  -- and the steps are few
-  pub phase1_few : (phase1 t leader (start t leader)).count ≤ t.segments * t.strategies
+  -- and the steps are few: at most a step for each strategy of each segment,
+  steps_le : (phase1 t leader (start t leader)).count ≤ potential t (start t leader)
   unfolding phase1
-  phase1_few =
+  steps_le =
       omega (
         arith,
         run_count (step t leader) (OfCandidates t) (step_allowed t leader) (potential t) step_falls (t.segments * t.strategies) (start t leader) (start_allowed t leader fit.segments),
-        potential_small t (start t leader) (start_allowed t leader fit.segments),
       )
+
+  pub phase1_few : (phase1 t leader (start t leader)).count ≤ t.segments * t.strategies
+  phase1_few = omega (arith, steps_le, potential_small t (start t leader) (start_allowed t leader fit.segments))
+
+  -- and none for a segment without candidates
+  pub phase1_fewer :
+      (none_there : ℕ → Bool) → ((i j : ℕ) → 1 ≤ i → i ≤ t.segments → none_there i ≡ true → Allowed t i j → j ≡ 0)
+      → (phase1 t leader (start t leader)).count ≤ sum t.segments (λ i. pick (none_there i) 0 t.strategies)
+  phase1_fewer none_there barren = omega (arith, steps_le, potential_of t (start t leader) (start_allowed t leader fit.segments) none_there barren)
 
   -- at each step leaders are respected
   pub phase1_respects : LowerLeaders leader t.segments → respects leader t.segments (phase1 t leader (start t leader)).last ≡ true

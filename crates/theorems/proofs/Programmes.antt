@@ -2,19 +2,21 @@
 -- phases 2 and 3 need of phase 1 is what its programme is like, however it came about.
 use Prim.Native.Nat.{ℕ, ◌+◌, ◌*◌, ◌≤◌, ◌<◌}
 use mathlib.Core.Path.{◌≡◌}
-use mathlib.Core.Bool.{true}
+use mathlib.Core.Bool.{Bool, true}
 use native.Mathlib.Omega.{arith}
 use mathlib.Core.List.{List}
+use Rattle.base.specs.Choice.{pick}
+use Rattle.base.specs.Over.{sum}
 use Rattle.base.specs.Search.{Run}
 use Rattle.rules.specs.Table.{Table}
 use Rattle.rules.specs.Phases.{total, within, respects}
 use Rattle.rules.specs.Plan.{reduced, filled, improved}
 use Rattle.rules.specs.Demands.{Finished}
-use Rattle.laws.specs.Tables.{FitAlone, OfCandidates}
+use Rattle.laws.specs.Tables.{FitAlone, Allowed, OfCandidates}
 use Rattle.laws.proofs.Leaders.{LowerLeaders}
 use Rattle.laws.proofs.Gives.{PastNothing, gives_candidates, candidates_numbers, gives_past}
 use Rattle.laws.proofs.PickUps.{Room}
-use Rattle.theorems.proofs.Phase1.{phase1_allowed, phase1_within, phase1_few, phase1_respects, phase1_past}
+use Rattle.theorems.proofs.Phase1.{phase1_allowed, phase1_within, phase1_few, phase1_fewer, phase1_respects, phase1_past}
 use Rattle.theorems.proofs.Phase2.{phase2_gives, phase2_ends, phase2_within, phase2_respects, phase2_rises}
 use Rattle.theorems.proofs.Phase3.{phase3_gives, phase3_ends, phase3_within, phase3_respects, phase3_few}
 
@@ -44,6 +46,12 @@ module _ (t : Table) (leader : ℕ → ℕ) (fit : FitAlone t) where
   pub few_steps : (reduced t leader).count ≤ t.segments * t.strategies
   unfolding reduced
   few_steps = phase1_few t leader fit
+
+  pub fewer_steps :
+      (none_there : ℕ → Bool) → ((i j : ℕ) → 1 ≤ i → i ≤ t.segments → none_there i ≡ true → Allowed t i j → j ≡ 0)
+      → (reduced t leader).count ≤ sum t.segments (λ i. pick (none_there i) 0 t.strategies)
+  unfolding reduced
+  fewer_steps = phase1_fewer t leader fit
 
   module _ (r : Run (List ℕ)) (begins : Begins t leader r) where
     room : Room t r.last

@@ -1,13 +1,15 @@
 -- Request 7 of document 02, computed: whether the best candidates fit the limits together and respect leaders, beside total and ceiling. The figures are an
 -- independent program's (reference/); what fits was worked by hand.
 use Rattle.std.specs.Prelude.{ℕ, ◌≡◌, refl, Bool, true, false, List, [], ◌∷◌, map, pos}
+use Rattle.std.proofs.lemmas.Bool.{eqb-false}
 use Rattle.rules.specs.District.{District, fresh_district, with_limit}
 use Rattle.rules.specs.Rating.{within_limits, total_of}
 use Rattle.rules.specs.Phases.{strategy_at}
 use Rattle.rules.specs.Demands.{permitted_at, all_permitted, Feasible, leaders_respected}
+use Rattle.rules.specs.Blocks.{choice_of, followed, programme_by}
 use Rattle.rules.specs.Calls.{district_in}
 use Rattle.rules.specs.Writer.{Roads, strategy, nothing_demanded, segment, barring, district_with_leaders, district_of}
-use Rattle.rules.specs.Results.{planned, shows, result_of, ◌⇒◌, Agree}
+use Rattle.rules.specs.Results.{planned, in_blocks, shows, result_of, ◌⇒◌, Agree}
 use Rattle.rules.specs.Marked.{card}
 use Rattle.rules.specs.Leaders.{at_start}
 use Rattle.rules.specs.declared.Programme.{Programme}
@@ -97,3 +99,49 @@ feasible = record { permitted = refl; within = refl }
 pub greater : total_of (district_of of_equals) higher ≡ pos 130_000
 unfolding result_of
 greater = refl
+
+-- Of a plan in blocks (request 13) the first promise is not made. Each of three segments has two strategies: one takes all of the segment's own
+-- resource, and a better one half of both others. In a block for each, which has the segment's own resource alone, each gets the lesser one. From there
+-- no change of two segments has room, although the better ones of all three fit together.
+abbrev pub apart : Roads
+apart =
+    record {
+      years = 1;
+      limits = 2 ∷ 2 ∷ 2 ∷ [];
+      greatest = 50 ∷ [];
+      strategies =
+          strategy (2000 ∷ 0 ∷ 0 ∷ []) (pos 10) 100
+          ∷ strategy (0 ∷ 1000 ∷ 1000 ∷ []) (pos 11) 100
+          ∷ strategy (0 ∷ 2000 ∷ 0 ∷ []) (pos 10) 100
+          ∷ strategy (1000 ∷ 0 ∷ 1000 ∷ []) (pos 11) 100
+          ∷ strategy (0 ∷ 0 ∷ 2000 ∷ []) (pos 10) 100
+          ∷ strategy (1000 ∷ 1000 ∷ 0 ∷ []) (pos 11) 100
+          ∷ [];
+      pavements = nothing_demanded ∷ [];
+      segments =
+          barring (3 ∷ 4 ∷ 5 ∷ 6 ∷ []) (segment 100 1 [])
+          ∷ barring (1 ∷ 2 ∷ 5 ∷ 6 ∷ []) (segment 100 1 [])
+          ∷ barring (1 ∷ 2 ∷ 3 ∷ 4 ∷ []) (segment 100 1 [])
+          ∷ [];
+    }
+
+-- of each block its segment and its parts
+abbrev pub one_each : List ℕ
+one_each = 1 ∷ 1 ∷ 2 ∷ 0 ∷ 0 ∷ 2 ∷ 2 ∷ 0 ∷ 2 ∷ 0 ∷ 3 ∷ 3 ∷ 0 ∷ 0 ∷ 2 ∷ []
+
+pub short :
+    Agree
+    (in_blocks one_each (district_of apart) ⇒ shows (1 ∷ 3 ∷ 5 ∷ []) 300_000 300_000 330_000 0 0 0
+    ∷ planned apart ⇒ shows (2 ∷ 4 ∷ 6 ∷ []) 330_000 330_000 330_000 0 0 0
+    ∷ [])
+unfolding result_of
+short = refl
+
+-- so of the plan in blocks the promise would be false
+pub short_followed : followed (choice_of one_each) (district_of apart) ≡ true
+unfolding result_of
+short_followed = refl
+
+pub short_of_ceiling : ¬ (AtCeiling (district_of apart) (programme_by (choice_of one_each) (district_of apart)))
+unfolding result_of more_benefit best_candidate leaders_respected
+short_of_ceiling good = eqb-false 300_000 330_000 refl (good.equal refl refl)

@@ -1,12 +1,13 @@
 -- What request 7 of document 02 lets an office rely on: limits that leave room for all best candidates at once make total and ceiling equal, and
 -- where the two are equal there is no better programme.
-use Rattle.std.specs.Prelude.{ℕ, ◌≡◌, Bool, true, List, ◌≤ℤ◌}
+use Rattle.std.specs.Prelude.{ℕ, ◌≡◌, Bool, true, false, List, ◌≤ℤ◌}
 use Rattle.std.specs.Int.Signed.{lt_z}
 use Rattle.base.specs.Over.{best}
 use Rattle.rules.specs.District.{District, strategies_of}
 use Rattle.rules.specs.Rating.{benefit, candidate, within_limits, total_of}
+use Rattle.rules.specs.Blocks.{followed}
 use Rattle.rules.specs.Calls.{show_of}
-use Rattle.rules.specs.Lists.{Call, district_after, unit_after}
+use Rattle.rules.specs.Lists.{Call, district_after, choice_after, unit_after}
 use Rattle.rules.specs.Demands.{Feasible, leaders_respected, strategy_in}
 use Rattle.rules.specs.declared.Programme.{Programme}
 
@@ -27,9 +28,9 @@ pub record AtCeiling (d : District) (p : Programme) : Type 0 where
 pub record Optimal (d : District) (p : Programme) : Type 0 where
   pub none_greater : p.total ≡ p.ceiling → (c : ℕ → ℕ) → Feasible d c → total_of d c ≤ℤ total_of d (strategy_in p)
 
--- after any list of calls
+-- after any list of calls; the first of an ordinary plan alone, as request 13 has it
 abbrev pub GoodBudget : Type 0
-GoodBudget = (cs : List Call) → AtCeiling (district_after cs) (show_of (unit_after cs))
+GoodBudget = (cs : List Call) → followed (choice_after cs) (district_after cs) ≡ false → AtCeiling (district_after cs) (show_of (unit_after cs))
 
 abbrev pub NoneGreater : Type 0
 NoneGreater = (cs : List Call) → Optimal (district_after cs) (show_of (unit_after cs))

@@ -3,4 +3,5 @@ pub mod Scale
 pub mod Columns
 pub mod Reasons
 pub mod GoodBudget
+pub mod BlockPlans
 pub mod Budgets
