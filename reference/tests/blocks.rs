@@ -8,7 +8,7 @@ use reference::blocks::followed;
 use reference::calls::{decode, encode, encode_by, worked, Call};
 use reference::counties::{districts, five, quarters, sixteen, HALVES};
 use reference::desk::{Desk, Edit};
-use reference::district::District;
+use reference::district::{District, MOST_SEGMENTS};
 use reference::file;
 use reference::lists;
 use reference::make;
@@ -109,6 +109,21 @@ fn every_small_row() {
     assert!(found > 20, "{found}");
 }
 
+/// A block is planned as the whole district is with its parts as limits and every
+/// strategy barred outside it.
+fn barred_outside(district: &District, block: &[u64], alone: &Plan) {
+    let (first, last) = (block[0] as usize, block[1] as usize);
+    let mut barred = district.clone();
+    barred.limits = block[2..].iter().map(|&part| part as u32).collect();
+    let outside = (1..).zip(&mut barred.segments).filter(|(i, _)| !(first..=last).contains(i));
+    outside.for_each(|(_, segment)| segment.bars = (1 << district.strategies.len()) - 1);
+    let whole = plan(&barred);
+    let mut strategies = [0; MOST_SEGMENTS];
+    strategies[first - 1..last].copy_from_slice(&alone.strategies[..=last - first]);
+    assert_eq!((whole.strategies, whole.total, whole.steps), (strategies, alone.total, alone.steps));
+    assert_eq!((whole.pickups, whole.changes), (alone.pickups, alone.changes));
+}
+
 /// Rows from a seed, sound and spoiled, with numbers of 64 bits among them; the final
 /// total is at least the sum of the blocks' totals.
 #[test]
@@ -137,6 +152,9 @@ fn rows_from_a_seed() {
         assert!(shown.total >= alone.iter().map(|plan| plan.total).sum());
         assert_eq!(shown.steps, alone.iter().map(|plan| plan.steps).sum::<u64>());
         assert_eq!(shown.ceiling, ordinary.ceiling);
+        row.chunks(2 + district.limits.len())
+            .zip(&alone)
+            .for_each(|(block, alone)| barred_outside(&district, block, alone));
         follows += 1;
         decided += u32::from(shown.strategies != ordinary.strategies);
         fallen += u32::from(shown.total < ordinary.total);
