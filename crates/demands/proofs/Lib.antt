@@ -11,3 +11,4 @@ pub mod EveryReason
 pub mod OneHolds
 pub mod GoodBudget
 pub mod NoneGreater
+pub mod EveryBlockPlan

@@ -6,3 +6,4 @@ pub mod Bounds
 pub mod Entries
 pub mod SignedSums
 pub mod Uses
+pub mod Few
