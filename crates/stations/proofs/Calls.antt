@@ -9,7 +9,7 @@ use lib.Dec.{leb, eqb}
 use Rattle.base.proofs.Choice.{pick_all}
 use Rattle.rules.specs.District.{District, segments_of, is_shared, shared_from, shared_tables}
 use Rattle.rules.specs.Answers.{no_such_office, tables_in_use, unless, or_later}
-use Rattle.rules.specs.Calls.{unit_of}
+use Rattle.rules.specs.Calls.{unit_with}
 use Rattle.rules.specs.Offices.{Held, OfficeCall, office_refusal, office_outcome}
 use Rattle.rules.specs.Stations.{other, Both, own, together, office_number, office_of, StationCall, call_by, brings_tables, tables_refusal, refusal_beside, with_tables, held_beside, station_refusal, concluded, refused_all, station_outcome}
 use Rattle.rules.specs.declared.Which.{Which}
@@ -93,7 +93,7 @@ module _ (o p : Held) (c : OfficeCall) where
   other_stays e = rw e
 
   pub other_empty : segments_of p.unit.district ≡ 0 → segments_of (held_beside o p c).unit.district ≡ 0
-  unfolding held_beside unit_of
+  unfolding held_beside unit_with
   other_empty e =
       let d = (office_outcome o c).held.unit.district in
       pick_all (λ (h : Held). segments_of h.unit.district ≡ 0) (brings_tables o.unit.district c) (with_tables d p) p (no_segments_lem d) e

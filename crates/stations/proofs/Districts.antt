@@ -4,10 +4,10 @@ use mathlib.Core.Path.{◌≡◌, refl}
 use mathlib.Core.List.{List, [], ◌∷◌}
 use Rattle.std.specs.Prelude.{Option, None, Some}
 use Rattle.rules.specs.District.{District, fresh_district}
-use Rattle.rules.specs.Answers.{or_later, accepting}
+use Rattle.rules.specs.Answers.{accepting}
 use Rattle.rules.specs.Lists.{Call, refusal_of}
 use Rattle.rules.specs.Offices.{OfficeCall, Plan, Send, AskRoughness}
-use Rattle.rules.specs.Stations.{other, Both, own, office_of, StationCall, tables_refusal, altered_both, districts_by, districts_from, districts_after}
+use Rattle.rules.specs.Stations.{Both, own, office_of, StationCall, plan_refusal, altered_both, districts_by, districts_from, districts_after}
 use Rattle.stations.proofs.Calls.{earlier_none}
 use Rattle.rules.specs.declared.Which.{Which}
 
@@ -18,9 +18,9 @@ module _
     next_kept : (o : Option Which) (ds : Both District) (c : OfficeCall) → P ds → P (districts_by o ds c)
     unfolding districts_by accepting
     next_kept None ds c p = p
-    next_kept (Some w) ds (Plan k) p = go (or_later (refusal_of (own w ds) k) (tables_refusal (own w ds) (own (other w) ds) (Plan k))) refl
+    next_kept (Some w) ds (Plan k) p = go (plan_refusal w ds k) refl
       where
-        go : (n : ℕ) → or_later (refusal_of (own w ds) k) (tables_refusal (own w ds) (own (other w) ds) (Plan k)) ≡ n → P (accepting n (altered_both w ds k) ds)
+        go : (n : ℕ) → plan_refusal w ds k ≡ n → P (accepting n (altered_both w ds k) ds)
         go zero e = keeps w ds k (earlier_none _ _ e) p
         go (suc n) e = p
     next_kept (Some w) ds (Send s) p = p

@@ -10,7 +10,7 @@ use lib.Dec.{eqb}
 use Rattle.base.specs.Choice.{pick}
 use Rattle.std.proofs.lemmas.Bool.{and_parts}
 use Rattle.rules.specs.District.{segments_of, fresh_district}
-use Rattle.rules.specs.Calls.{unit_of, fresh_unit}
+use Rattle.rules.specs.Calls.{unit_with, unit_of, fresh_unit}
 use Rattle.rules.specs.Offices.{Held, fresh_held, OfficeCall, office_refusal, office_outcome}
 use Rattle.rules.specs.Stations.{other, Both, own, office_of, fresh_both, StationCall, brings_tables, refusal_beside, station_refusal, StationOutcome, concluded, station_outcome, made_by, without}
 use Rattle.rules.specs.StationDemands.{Told, told_to, got, gets, got_from, got_by, throughout, leaves_tables, not_in_use, LeavingOut}
@@ -153,6 +153,6 @@ apart v (c ∷ cs) b e alike leaves free =
     apart_first v b e alike c cs l.0 f.0 (λ x h. apart v cs (next b c) x h l.1 f.1)
 
 pub leaving_out : LeavingOut
-unfolding got_by fresh_both fresh_held fresh_unit unit_of fresh_district
+unfolding got_by fresh_both fresh_held fresh_unit unit_of unit_with fresh_district
 leaving_out First cs leaves free = apart Second cs fresh_both fresh_both (record { same = refl; empty = refl }) leaves free
 leaving_out Second cs leaves free = apart First cs fresh_both fresh_both (record { same = refl; empty = refl }) leaves free

@@ -7,6 +7,7 @@ pub mod Districts
 pub mod Shared
 pub mod InRange
 pub mod Files
+pub mod Rows
 pub mod Reached
 pub mod TablesAgree
 pub mod Reloads

@@ -22,8 +22,11 @@ use Rattle.rules.specs.File.{in_range}
 use Rattle.rules.specs.Table.{Table, candidate_benefit, table_of}
 use Rattle.rules.specs.Phases.{is_candidate, chosen_benefit, total, pruned, top_candidate, bests, start, step, phase1, pick_up, phase2, change, phase3}
 use Rattle.rules.specs.Ceiling.{price_at, raised, lowered, margin, ceiling_at, lowers, priced, priced_all, prices_after, ceiling}
-use Rattle.rules.specs.Plan.{reduced, filled, improved, programme_from, programme_of, no_programme, plan_of}
+use Rattle.rules.specs.Plan.{reduced, filled, improved, programme_from, programme_of, no_programme}
+use Rattle.rules.specs.Blocks.{plan_by}
+use Rattle.rules.specs.declared.Choice.{Choice}
 use Rattle.rules.specs.declared.Programme.{Programme}
+use Rattle.laws.proofs.Blocks.{plan_ordinary, empty_followed}
 use Rattle.stations.proofs.Calls.{no_segments_lem}
 
 abbrev nothing : List ℕ
@@ -120,13 +123,15 @@ no_benefit : (d : District) → segments_of d ≡ 0 → (i j : ℕ) → candidat
 unfolding candidate_benefit
 no_benefit d e i j = rw (none_there d e i)
 
-pub unplanned : (d : District) → segments_of d ≡ 0 → plan_of d ≡ no_programme
-unfolding plan_of table_of
-unplanned d e =
-    pick_all (λ (p : Programme). p ≡ no_programme) (in_range d) (programme_of (table_of d) (leader_of d)) no_programme
+-- whatever blocks are chosen
+pub unplanned : (x : Choice) (d : District) → segments_of d ≡ 0 → plan_by x d ≡ no_programme
+unfolding table_of
+unplanned x d e =
+    plan_ordinary x d (empty_followed x d e)
+    ∙ pick_all (λ (p : Programme). p ≡ no_programme) (in_range d) (programme_of (table_of d) (leader_of d)) no_programme
     (programme_none (table_of d) (leader_of d) e (no_benefit d e))
     refl
 
 -- as the shared tables alone are
-pub tables_unplanned : (d : District) → plan_of (shared_tables d) ≡ no_programme
-tables_unplanned d = unplanned (shared_tables d) (no_segments_lem d)
+pub tables_unplanned : (x : Choice) (d : District) → plan_by x (shared_tables d) ≡ no_programme
+tables_unplanned x d = unplanned x (shared_tables d) (no_segments_lem d)

@@ -10,7 +10,7 @@ use Rattle.base.specs.Choice.{pick}
 use Rattle.rules.specs.District.{District, segments_of, same_tables}
 use Rattle.rules.specs.File.{encode}
 use Rattle.rules.specs.Answers.{tables_in_use, unless, answer_of, accepting, Accepted}
-use Rattle.rules.specs.Calls.{load_refusal, district_in, unit_of, answered, load_of}
+use Rattle.rules.specs.Calls.{load_refusal, district_in, unit_with, unit_of, answered, load_of}
 use Rattle.rules.specs.Lists.{Load, refusal_of, outcome_of}
 use Rattle.rules.specs.Offices.{Held, OfficeCall, Plan, office_refusal, office_outcome}
 use Rattle.rules.specs.Stations.{other, Both, own, together, call_by, brings_tables, tables_refusal, refusal_beside, with_tables, held_beside, beside, refused_all, concluded, station_outcome}
@@ -30,11 +30,11 @@ module _ (file : List ℕ) (d : District) (loads : load_refusal file ≡ 0) (bac
   refusal o p t n e f = rw (loads, back, e, f)
 
   own_outcome : (o : Held) → office_outcome o load ≡ record { answer = Accepted 0; held = record { unit = unit_of d; heard = o.heard }; bytes = file }
-  unfolding office_outcome outcome_of load_of answered answer_of accepting
+  unfolding office_outcome outcome_of load_of answered unit_of answer_of accepting
   own_outcome o = rw (loads, back)
 
   other_held : (o p : Held) (t : Bool) → same_tables o.unit.district d ≡ t → held_beside o p load ≡ pick (not t) (with_tables d p) p
-  unfolding held_beside brings_tables unit_of
+  unfolding held_beside brings_tables unit_of unit_with
   other_held o p t e = rw (own_outcome o, back, e)
 
   module _ (b : Both Held) (w : Which) where

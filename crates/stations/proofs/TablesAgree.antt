@@ -5,7 +5,7 @@ use mathlib.Core.Bool.{Bool, true, false, not}
 use Rattle.base.specs.Choice.{pick}
 use Rattle.rules.specs.District.{District, most_resources, resources_of, shared_tables, same_tables}
 use Rattle.rules.specs.Calls.{district_in}
-use Rattle.rules.specs.Lists.{Call, Load, Alter, ExportTo, PageTo, Show, AskWhy, refusal_of, altered, district_after}
+use Rattle.rules.specs.Lists.{Call, Load, Alter, ChooseBlocks, ExportTo, PageTo, Show, AskWhy, refusal_of, altered, district_after}
 use Rattle.rules.specs.Offices.{Plan}
 use Rattle.rules.specs.Stations.{Both, own, brings_tables, altered_both}
 use Rattle.rules.specs.StationDemands.{TablesAgree}
@@ -31,6 +31,7 @@ module _ (d e : District) (same : shared_tables d ≡ shared_tables e) (reached 
       go true q = sym (same_tables_lem d (district_in file) q) ∙ same
       go false q = sym (tables_twice (district_in file))
   tables_next (Alter x) ok = edit_shared d x (few d reached) ok ∙ same
+  tables_next (ChooseBlocks row) ok = same
   tables_next (ExportTo buffer) ok = same
   tables_next (PageTo buffer) ok = same
   tables_next Show ok = same
