@@ -2,8 +2,8 @@
 use mathlib.Core.Path.{◌≡◌, sym, ap, ◌∙◌}
 use mathlib.Core.List.{List}
 use Rattle.rules.specs.District.{shared_tables}
-use Rattle.rules.specs.Calls.{unit_of}
-use Rattle.rules.specs.Stations.{other, own, fresh_both, station_after}
+use Rattle.rules.specs.Calls.{unit_with}
+use Rattle.rules.specs.Stations.{other, own, fresh_both, station_after, choices_after}
 use Rattle.rules.specs.StationDemands.{got_by}
 use Rattle.rules.specs.Desks.{fresh_desk, Event, desk_after, gathered, calls_in}
 use Rattle.rules.specs.DeskDemands.{gives, given_to, desk_district, DeskClaim}
@@ -21,7 +21,7 @@ module _ (es : List Event) where
   unfolding desk_after station_after fresh_desk
   held_after = (every_run fresh_desk es).held
 
-  planned_after : (w : Which) → (own w (desk_after es).held).unit ≡ unit_of (desk_district w es)
+  planned_after : (w : Which) → (own w (desk_after es).held).unit ≡ unit_with (own w (choices_after (calls_in es))) (desk_district w es)
   planned_after w = rw held_after (every_station (calls_in es) w).planned
 
   -- what the desk gives an office is what its calls get
@@ -31,7 +31,7 @@ module _ (es : List Event) where
 
   -- the tables of what an office holds are those of its district
   tables_after : (w : Which) → shared_tables (own w (desk_after es).held).unit.district ≡ shared_tables (desk_district w es)
-  unfolding unit_of
+  unfolding unit_with
   tables_after w = ap (λ (u : Unit). shared_tables u.district) (planned_after w)
 
   pub every_desk : DeskClaim es
