@@ -2,7 +2,7 @@
 use Rattle.rules.specs.Lists.{district_after, choice_after}
 use Rattle.theorems.specs.BlockPlans.{EveryBlockPlan}
 use Rattle.theorems.proofs.Joined.{in_blocks}
-use Rattle.demands.proofs.Lists.{narrow_after, shown_after}
+use Rattle.demands.proofs.Lists.{counts_after, shown_after}
 
 pub every_block_plan : EveryBlockPlan
-every_block_plan cs = rw (shown_after cs) (in_blocks (choice_after cs) (district_after cs) (narrow_after cs))
+every_block_plan cs = rw (shown_after cs) (in_blocks (choice_after cs) (district_after cs) (counts_after cs))

@@ -111,8 +111,8 @@ few_after cs = (in_ranges (district_after cs) (after_in cs)).segments
 pub lower_after : (cs : List Call) → LowerLeaders (leader_of (district_after cs)) (segments_of (district_after cs))
 lower_after cs i l h = (in_ranges (district_after cs) (after_in cs)).leader i l (omega (arith, few_after cs))
 
-pub narrow_after : (cs : List Call) → Few (district_after cs)
-narrow_after cs = few_of (district_after cs) (in_ranges (district_after cs) (after_in cs))
+pub counts_after : (cs : List Call) → Few (district_after cs)
+counts_after cs = few_of (district_after cs) (in_ranges (district_after cs) (after_in cs))
 
 -- ---- so it has a programme
 
@@ -122,7 +122,7 @@ begun_after cs = begun (choice_after cs) (district_after cs)
 
 -- from which phases 2 and 3 go on
 pub begins_after : (cs : List Call) → Begins (table_of (district_after cs)) (leader_of (district_after cs)) (begun_after cs)
-begins_after cs = begun_begins (choice_after cs) (district_after cs) (narrow_after cs)
+begins_after cs = begun_begins (choice_after cs) (district_after cs) (counts_after cs)
 
 -- the plan of a district in range
 pub planned : (x : Choice) (d : District) → in_range d ≡ true → plan_by x d ≡ programme_by x d

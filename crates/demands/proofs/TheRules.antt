@@ -15,10 +15,10 @@ use Rattle.rules.specs.declared.Choice.{Choice}
 use Rattle.rules.specs.declared.Unit.{Unit}
 use Rattle.file.proofs.Back.{decode_encode}
 use Rattle.laws.proofs.Blocks.{plan_ordinary, none_followed}
-use Rattle.theorems.proofs.Joined.{block_finished}
+use Rattle.theorems.proofs.BlockLists.{block_finished}
 use Rattle.theorems.proofs.Promises as promises
 use Rattle.demands.proofs.EveryFile.{exports}
-use Rattle.demands.proofs.Lists.{after, district_after_lem, choice_after_lem, after_in, few_after, narrow_after, begun_after, begins_after, planned, shown_after}
+use Rattle.demands.proofs.Lists.{after, district_after_lem, choice_after_lem, after_in, few_after, counts_after, begun_after, begins_after, planned, shown_after}
 
 loads_again : (u : Unit) (d : District) → in_range d ≡ true → load_of u (encode d) ≡ record { answer = Accepted 0; unit = unit_of d }
 unfolding load_of answered unit_of load_refusal load_refusal_of district_in loaded_of answer_of accepting
@@ -41,7 +41,7 @@ the_rules cs =
       choice = choice_after_lem cs;
       programme = shown_after cs;
       finished = promises.finished d (few_after cs) (begun_after cs) (begins_after cs);
-      blocks = block_finished x d (narrow_after cs);
+      blocks = block_finished x d (counts_after cs);
       exported = λ buffer room. rw (after cs) (exports x d (encode d) buffer refl room);
       reloaded = λ u. loads_again u d ok;
       ordinary = ordinary;

@@ -18,13 +18,13 @@ use Rattle.base.proofs.Choice.{pick_all, between_yes}
 use Rattle.base.proofs.Sums.{up_to}
 use Rattle.rules.specs.District.{District, most_segments, district_places, limit_place, bars_place, segments_of, strategies_of, resources_of, limit_of, bars_of, barred_in, all_bars, with_bars}
 use Rattle.rules.specs.Rating.{benefit, usage, scaled_limit, minima_reached, overall_reached, permitted, fits_limit, fits_alone, candidate}
-use Rattle.rules.specs.Table.{candidate_benefit}
+use Rattle.rules.specs.Table.{candidate_benefit, table_of}
 use Rattle.rules.specs.Blocks.{part_of, in_block, with_parts, barred_outside, block_district}
 use Rattle.rules.specs.declared.Choice.{Choice}
 use Rattle.laws.specs.Counts.{Few}
 use Rattle.laws.proofs.Blocks.{parts_all, outside_all, block_all}
 use Rattle.theorems.proofs.Alike.{Alike, alike_self, limit_alike, bars_alike, usage_same, minima_same, overall_reached_same, benefit_same}
-use Rattle.theorems.proofs.Entries.{candidate_permitted, candidate_fits, candidate_benefit_lem}
+use Rattle.theorems.proofs.Entries.{usage_is, candidate_permitted, candidate_fits, candidate_benefit_lem}
 
 module _ (x : Choice) (d : District) (few : Few d) (b : ℕ) where
   pub alike : Alike d (block_district x d b)
@@ -117,6 +117,16 @@ module _ (x : Choice) (d : District) (few : Few d) (b : ℕ) where
     barred_inside : (j : ℕ) → in_block x d b i ≡ true → barred_in (block_district x d b) i j ≡ barred_in d i j
     unfolding barred_in
     barred_inside j e = rw (block_bars, e)
+
+  -- ---- its uses are the district's
+
+  pub block_usage :
+      (i j r : ℕ) → 1 ≤ i → i ≤ segments_of d → j ≤ strategies_of d → 1 ≤ r → r ≤ resources_of d
+      → (table_of d).usage i j r ≡ (table_of (block_district x d b)).usage i j r
+  block_usage i j r l h hj lr hr =
+      usage_is d i j r l h hj lr hr
+      ∙ sym (usage_same d (block_district x d b) alike i j r (omega (arith, few.strategies)) (omega (arith, few.resources)))
+      ∙ sym (usage_is (block_district x d b) i j r l (omega (arith, same_segments)) (omega (arith, same_strategies)) lr (omega (arith, same_resources)))
 
   -- ---- its candidates
 

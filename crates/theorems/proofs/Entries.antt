@@ -43,7 +43,7 @@ module _ (d : District) where
   past_is i j past = rw (le-leb 1 i (omega arith), lt-leb i (segments_of d) past)
 
   module _ (i j : ℕ) (worth : 1 ≤ candidate_benefit d i j) where
-    pub is_candidate_lem : (has d i j ≡ true) × (candidate d i j ≡ true)
+    is_candidate_lem : (has d i j ≡ true) × (candidate d i j ≡ true)
     unfolding candidate_benefit
     is_candidate_lem = and_parts (has d i j) (candidate d i j) (taken (has d i j && candidate d i j) worth)
       where

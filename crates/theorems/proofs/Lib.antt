@@ -15,6 +15,7 @@ pub mod Feasible
 pub mod Promises
 pub mod Alike
 pub mod BlockTables
+pub mod BlockLists
 pub mod Joined
 pub mod Scale
 pub mod Lines
