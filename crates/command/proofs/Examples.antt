@@ -2,14 +2,15 @@
 use Prim.Native.Nat.{ℕ}
 use mathlib.Core.List.{List, [], ◌∷◌, ◌++◌, map}
 use mathlib.Core.Path.{◌≡◌, refl}
+use Rattle.std.specs.Prelude.{Option, None, Some}
 use lib.ListN.{replicate}
 use Rattle.base.specs.Text.{text, up_to, on_from, value_from, held}
 use Rattle.rules.specs.declared.Edit.TheVariants.{Bar, Unbar, SetLimit, SetRating, SetLeader}
 use Rattle.rules.specs.declared.Sent.TheVariants.{Index, Marker, Lost}
 use Rattle.command.specs.declared.Command.{Command}
-use Rattle.command.specs.declared.Command.TheVariants.{Nothing, Unknown, Load, Export, Alter, Show, Points, Page, Why, Send, Roughness, Office, Queue, Step}
+use Rattle.command.specs.declared.Command.TheVariants.{Nothing, Unknown, Load, Export, Alter, Show, Points, Page, Why, Send, Roughness, Office, Queue, Step, Blocks}
 use Rattle.base.specs.Same.{same}
-use Rattle.command.specs.Reading.{is_space, number_in, first_number, after_number, with_number, arguments, placed, path_of, is_path, row, rows, taken, meant, called, edit_in, queued_as, queued_in, is_comment, command_in}
+use Rattle.command.specs.Reading.{is_space, number_in, first_number, after_number, with_number, arguments, placed, path_of, is_path, has_stroke, blocks_from, blocks_in, row_in, row, rows, taken, meant, called, edit_in, queued_as, queued_in, is_comment, command_in}
 
 pub lines : List (List ℕ)
 unfolding text
@@ -25,8 +26,9 @@ lines =
     ∷ text "queue bar 1 2" ∷ text "queue 18446744073709551616 bar 1 2" ∷ text "queue 1 show" ∷ text "queue 1 queue 1 bar 1 2" ∷ text "queue 1 load a" ∷ text "queue 1 step"
     ∷ text "queue 1 lost" ∷ text "queue 1 office 2" ∷ text "queue1 bar 1 2" ∷ text "queues 1 bar 1 2" ∷ text "queue\t1 bar 1 2"
     ∷ text "step" ∷ text "step 1" ∷ text "step " ∷ text "steps"
+    ∷ text "blocks" ∷ text "blocks 1 2 3 / 3 4 0" ∷ text "blocks " ∷ text "block" ∷ text "blocks\t" ∷ text "queue 1 blocks"
     ∷ text "limit 1 18446744073709551615" ∷ text "limit 1 18446744073709551616" ∷ text "limit 1 000000000000000000001" ∷ text "limit 1 -1"
-    ∷ text "" ∷ text " \t\r" ∷ text "# bar 1 2" ∷ text " # bar 1 2" ∷ (35 ∷ replicate 600 32) ∷ replicate 513 32 ∷ replicate 512 32
+    ∷ text "" ∷ text " \t\r" ∷ text "# bar 1 2" ∷ text " # bar 1 2" ∷ (35 ∷ replicate 5000 32) ∷ replicate 4097 32 ∷ replicate 4096 32
     ∷ text "bar 1  2" ∷ text "bar  1 2" ∷ text " bar 1 2" ∷ text "bar 1 2 " ∷ text "bar" ∷ text "bar 1" ∷ text "bar 1 2 3" ∷ text "bar1 2" ∷ text "barn 1 2" ∷ text "Bar 1 2" ∷ text "ba 1 2"
     ∷ text "show " ∷ text "show 1" ∷ text "shows" ∷ text "points 8 3 3" ∷ text "points 8 3 3 1 0" ∷ text "rating 1 2 3\r" ∷ text "page 1" ∷ text "pages" ∷ text "why" ∷ text "why 2" ∷ text "why 2 1 1"
     ∷ text "load  a" ∷ text "load " ∷ text "load" ∷ text "loads a" ∷ text "load\ta" ∷ text "export" ∷ text "exports x"
@@ -44,6 +46,7 @@ readings =
     ∷ Unknown ∷ Unknown ∷ Unknown ∷ Unknown ∷ Unknown ∷ Unknown
     ∷ Unknown ∷ Unknown ∷ Unknown ∷ Unknown ∷ Unknown
     ∷ Step ∷ Unknown ∷ Unknown ∷ Unknown
+    ∷ Blocks ∷ Blocks ∷ Blocks ∷ Unknown ∷ Unknown ∷ Unknown
     ∷ Alter (SetLimit 1 18446744073709551615) ∷ Unknown ∷ Unknown ∷ Unknown
     ∷ Nothing ∷ Nothing ∷ Nothing ∷ Unknown ∷ Nothing ∷ Unknown ∷ Nothing
     ∷ Unknown ∷ Unknown ∷ Unknown ∷ Unknown ∷ Unknown ∷ Unknown ∷ Unknown ∷ Unknown ∷ Unknown ∷ Unknown ∷ Unknown
@@ -59,3 +62,21 @@ lines_read = refl
 pub paths_read : map path_of (text "load a b" ∷ text "export  x " ∷ text "load " ∷ text "load" ∷ text "" ∷ []) ≡ text "a b" ∷ text " x " ∷ [] ∷ [] ∷ [] ∷ []
 unfolding text on_from path_of
 paths_read = refl
+
+-- rows of three numbers for each block, and of none
+pub row_lines : List (List ℕ)
+unfolding text
+row_lines =
+    text "blocks" ∷ text "blocks 1 2 3" ∷ text "blocks 1 2 3 / 3 4 0" ∷ text "blocks 0 18446744073709551615 007 / 0 0 0 / 0 0 0 / 0 0 0 / 9 8 7"
+    ∷ text "blocks " ∷ text "blocks /" ∷ text "blocks 1 2" ∷ text "blocks 1 2 3 " ∷ text "blocks 1 2 3 4" ∷ text "blocks 1 2 3 /" ∷ text "blocks 1 2 3 / 3 4"
+    ∷ text "blocks / 1 2 3" ∷ text "blocks 1 2 3 / / 3 4 0" ∷ text "blocks 1 2 3 3 4 0" ∷ text "blocks 1 2 / 3" ∷ text "blocks 1 2 3/3 4 0" ∷ text "blocks 1 2 3 /3 4 0"
+    ∷ text "blocks 1 2 3  / 3 4 0" ∷ text "blocks  1 2 3" ∷ text "blocks 1 2 18446744073709551616" ∷ text "blocks 1 2 -3" ∷ []
+
+pub rows_read :
+    map (row_in 3) row_lines
+    ≡ Some [] ∷ Some (1 ∷ 2 ∷ 3 ∷ []) ∷ Some (1 ∷ 2 ∷ 3 ∷ 3 ∷ 4 ∷ 0 ∷ []) ∷ Some (0 ∷ 18446744073709551615 ∷ 7 ∷ 0 ∷ 0 ∷ 0 ∷ 0 ∷ 0 ∷ 0 ∷ 0 ∷ 0 ∷ 0 ∷ 9 ∷ 8 ∷ 7 ∷ [])
+    ∷ None ∷ None ∷ None ∷ None ∷ None ∷ None ∷ None
+    ∷ None ∷ None ∷ None ∷ None ∷ None ∷ None
+    ∷ None ∷ None ∷ None ∷ None ∷ []
+unfolding row_lines text up_to on_from value_from held number_in first_number after_number with_number has_stroke blocks_from blocks_in row_in
+rows_read = refl

@@ -29,7 +29,7 @@ unfolding prefixed
 prefixed_none None = refl
 prefixed_none (Some ws) = refl
 
-prefixed_one : (vs : List ℕ) (v : ℕ) (o : Option (List ℕ)) → prefixed vs (with_number (Some v) o) ≡ prefixed (vs ++ (v ∷ [])) o
+pub prefixed_one : (vs : List ℕ) (v : ℕ) (o : Option (List ℕ)) → prefixed vs (with_number (Some v) o) ≡ prefixed (vs ++ (v ∷ [])) o
 unfolding prefixed with_number
 prefixed_one vs v None = refl
 prefixed_one vs v (Some ws) = ap Some (sym (append_assoc vs (v ∷ []) ws))
@@ -116,6 +116,7 @@ no_edit Command.Roughness unlike = refl
 no_edit (Command.Office n) unlike = refl
 no_edit (Command.Queue n e) unlike = refl
 no_edit Command.Step unlike = refl
+no_edit Command.Blocks unlike = refl
 
 -- one that is not behind a number, or no edit, is no command
 pub queued_none : (o : Option Edit) → queued_as None o ≡ Command.Unknown

@@ -1,6 +1,11 @@
 -- The rows of the table, by the names that they stand for.
 use Rattle.std.proofs.Common.{ℕ, zero, suc, ◌≡◌, ◌≤◌, Bool, true, false, List, [], ◌∷◌, Option, None, Some, drop, map, cond, ◌&&◌, eqb, refl, sym, ap, ◌∙◌, arith}
+use denote.Ref.{Bor}
 use lib.Pointwise.{pointwise}
+use borrow.Author.Tests.{true-ltb, false-ltb}
+use Rattle.std.specs.Prelude.{ltb, length, get_or}
+use Rattle.std.specs.Option.{is_some, IfSome, option_copied}
+use Rattle.std.proofs.lemmas.Option.{slice_get_past, slice_get-get_or}
 use Rattle.std.specs.List.{find, slice_get}
 use Rattle.base.specs.Choice.{pick}
 use Rattle.base.specs.Same.{same}
@@ -28,6 +33,7 @@ row_name Name.Leader = refl
 row_name Name.Office = refl
 row_name Name.Queue = refl
 row_name Name.Step = refl
+row_name Name.Blocks = refl
 
 pub few_taken : (n : Name) → count_of (row_of n).takes ≤ 4
 unfolding row
@@ -49,8 +55,14 @@ few_taken Name.Leader = omega arith
 few_taken Name.Office = omega arith
 few_taken Name.Queue = omega arith
 few_taken Name.Step = omega arith
+few_taken Name.Blocks = omega arith
 
 -- ---- by the row's number
+
+-- what the library tells of a slice's entry
+pub name_at : (ns : List Name) (i : ℕ) (r : Option (Bor Name)) → is_some r ≡ ltb i (length ns) → IfSome r (λ x. x.now ≡ get_or ns i x.now) → option_copied r ≡ slice_get ns i
+name_at ns i None some entry = sym (slice_get_past ns i (false-ltb i (length ns) some))
+name_at ns i (Some n) some entry = ap Some entry ∙ sym (slice_get-get_or ns i n.now (true-ltb i (length ns) some))
 
 first_at : (ns : List Name) (i : ℕ) (n : Name) (v : ℕ → ℕ) → slice_get ns i ≡ Some n → first_made (drop i (map row_of ns)) v ≡ made n v
 unfolding first_made

@@ -1,5 +1,5 @@
 -- A line of the panel as a command, for any bytes at all.
-use Rattle.std.specs.Prelude.{ℕ, zero, suc, ◌^◌, Bool, not, ◌&&◌, ◌||◌, List, [], ◌∷◌, ltb, eqb, length, get_or, drop, map}
+use Rattle.std.specs.Prelude.{ℕ, zero, suc, ◌+◌, ◌^◌, Bool, not, ◌&&◌, ◌||◌, List, [], ◌∷◌, ltb, eqb, length, get_or, drop, map}
 use Rattle.std.specs.List.{list_all}
 use Prim.Native.String.{String}
 use Rattle.std.specs.Prelude.{Option, None, Some}
@@ -14,7 +14,11 @@ use Rattle.rules.specs.declared.Sent.TheVariants.{Index, Marker, Lost}
 use Rattle.command.specs.declared.Command.{Command}
 use Rattle.command.specs.declared.Name.{Name}
 use Rattle.command.specs.declared.Takes.{Takes}
-use Rattle.command.specs.declared.Takes.TheVariants.{Numbers, Path, Queued}
+use Rattle.command.specs.declared.Takes.TheVariants.{Numbers, Path, Queued, Blocks}
+
+-- a longer line is no command
+abbrev pub longest_line : ℕ
+longest_line = 4096
 
 -- ---- bytes
 
@@ -72,6 +76,30 @@ path_of line = drop 1 (rest_of line)
 unfoldable pub is_path : List ℕ → Bool
 is_path path = between 1 255 (length path) && list_all (λ b. not (eqb b 0)) path
 
+-- ---- blocks
+
+-- a stroke after one blank, as stands between two blocks
+unfoldable pub has_stroke : List ℕ → Bool
+has_stroke bs = eqb (at bs 0) 32 && eqb (at bs 1) 47
+
+-- the numbers of blocks, so many in each, of which n are still due in the block that has begun: each stands after one blank. Read in at most so many
+-- turns, each of a number, a stroke or the end; no number and no stroke is without a byte.
+unfoldable pub blocks_from : ℕ → ℕ → ℕ → List ℕ → Option (List ℕ)
+blocks_from zero each n bs = None
+blocks_from (suc turns) each zero bs =
+    pick (eqb (length bs) 0) (Some []) (pick (has_stroke bs) (blocks_from turns each each (drop 2 bs)) None)
+blocks_from (suc turns) each (suc n) bs = with_number (first_number bs) (blocks_from turns each n (after_number bs))
+
+unfoldable pub blocks_in : ℕ → List ℕ → Option (List ℕ)
+blocks_in each bs = blocks_from (length bs + 1) each each bs
+
+-- the row by which a line chooses blocks, with so many numbers for each of them: behind the word alone none, else one block or more; nothing for any
+-- other writing
+unfoldable pub row_in : ℕ → List ℕ → Option (List ℕ)
+row_in each line =
+    let bs = rest_of line in
+    pick (ltb longest_line (length line)) None (pick (eqb (length bs) 0) (Some []) (blocks_in each bs))
+
 -- ---- commands
 
 -- a row of the table: a word, what it names, and what it takes, which stands behind it
@@ -103,6 +131,7 @@ row_of Name.Leader = row "leader" Name.Leader (Numbers 2)
 row_of Name.Office = row "office" Name.Office (Numbers 1)
 row_of Name.Queue = row "queue" Name.Queue Queued
 row_of Name.Step = row "step" Name.Step (Numbers 0)
+row_of Name.Blocks = row "blocks" Name.Blocks Blocks
 
 abbrev pub names : List Name
 names =
@@ -124,6 +153,7 @@ names =
     ∷ Name.Office
     ∷ Name.Queue
     ∷ Name.Step
+    ∷ Name.Blocks
     ∷ []
 
 -- every word that there is
@@ -154,6 +184,7 @@ made Name.Leader v = Command.Alter (SetLeader (v 0) (v 1))
 made Name.Office v = Command.Office (v 0)
 made Name.Queue v = Command.Unknown
 made Name.Step v = Command.Step
+made Name.Blocks v = Command.Blocks
 
 -- the command of the first of some rows, where there is one
 unfoldable pub first_made : List Row → (ℕ → ℕ) → Command
@@ -164,12 +195,13 @@ first_made (r ∷ rs) v = made r.name v
 unfoldable pub numbered : ℕ → (ℕ → ℕ) → Command
 numbered n v = first_made (drop n rows) v
 
--- the numbers that stand behind the first word, where what stands there is what the word takes; a path has none, and an edit that is to wait has
--- them behind a word of its own (queued_in)
+-- the numbers that stand behind the first word, where what stands there is what the word takes; a path has none, an edit that is to wait has
+-- them behind a word of its own (queued_in), and those of blocks are found apart (row_in)
 unfoldable pub taken : Takes → List ℕ → Option (ℕ → ℕ)
 taken (Numbers n) line = placed (arguments n (rest_of line))
 taken Path line = only (is_path (path_of line)) (at [])
 taken Queued line = None
+taken Blocks line = Some (at [])
 
 -- a word without what it takes is no command
 unfoldable pub meant : Name → Option (ℕ → ℕ) → Command
@@ -198,6 +230,7 @@ edit_in Command.Roughness = None
 edit_in (Command.Office n) = None
 edit_in (Command.Queue n e) = None
 edit_in Command.Step = None
+edit_in Command.Blocks = None
 
 -- an edit that is to wait: behind the word stands a console's number, and behind that a command that is an edit
 unfoldable pub queued_as : Option ℕ → Option Edit → Command
@@ -212,10 +245,6 @@ queued_in line = let rest = path_of line in queued_as (number_in (word_of rest))
 unfoldable pub is_comment : List ℕ → Bool
 is_comment line = eqb (at line 0) 35
 
--- a longer line is no command
-abbrev pub longest_line : ℕ
-longest_line = 512
-
 unfoldable pub command_in : List ℕ → Command
 command_in line =
     pick (is_comment line) Command.Nothing
@@ -229,3 +258,4 @@ abbrev pub count_of : Takes → ℕ
 count_of (Numbers n) = n
 count_of Path = 0
 count_of Queued = 0
+count_of Blocks = 0

@@ -1,19 +1,26 @@
 // A line of the panel as a command, for any bytes at all and any number of them.
 #![tactic(auto)]
 
-ghost use Rattle.std.specs.Prelude.{◌≡◌, ◌≤◌, Some, MatchOption};
+ghost use Rattle.std.specs.Prelude.{◌≡◌, ◌≤◌, true, false, drop, length, Some, MatchOption};
 ghost use Rattle.std.specs.List.{slice_get};
 ghost use Rattle.std.specs.Option.{unwrap_or};
 ghost use Rattle.base.specs.Same.{same};
-ghost use Rattle.command.specs.Reading.{is_space, number_in, first_number, after_number, arguments, at, placed, path_of, is_path, made, numbered as Reading·numbered, taken, names, rows, row_of, called as Reading·called, is_comment, queued_in, command_in, count_of};
+ghost use Rattle.command.specs.Reading.{is_space, number_in, first_number, after_number, arguments, at, placed, path_of, is_path, has_stroke, blocks_in, row_in, made, numbered as Reading·numbered, taken, names, rows, row_of, called as Reading·called, is_comment, queued_in, command_in, count_of, longest_line};
 
+use arrayvec::ArrayVec;
 use rules::{Edit, Sent};
 
 // A longer line is no command, unless it is a comment.
-pub const LONGEST_LINE: usize = 512;
+pub const LONGEST_LINE: usize = 4096;
+
+// No line has room for more numbers: each takes two bytes.
+pub const LONGEST_ROW: usize = LONGEST_LINE / 2;
 
 // It ends a word.
 const BLANK: u8 = b' ';
+
+// It stands between two blocks.
+const STROKE: u8 = b'/';
 
 #[derive(Clone, Copy)]
 pub enum Command {
@@ -36,6 +43,8 @@ pub enum Command {
     // An edit for a console's queue.
     Queue(usize, Edit),
     Step,
+    // Without its row, which `row` finds in its line: how many numbers a block has is the unit's.
+    Blocks,
 }
 
 #[derive(Clone, Copy)]
@@ -58,18 +67,20 @@ pub enum Name {
     Office,
     Queue,
     Step,
+    Blocks,
 }
 
-// What a word takes: so many numbers, a path, or a number and an edit.
+// What a word takes: so many numbers, a path, a number and an edit, or blocks.
 #[derive(Clone, Copy)]
 pub enum Takes {
     Numbers(usize),
     Path,
     Queued,
+    Blocks,
 }
 
 impl Name {
-    const ALL: [Name; 18] = [
+    const ALL: [Name; 19] = [
         Name::Load,
         Name::Export,
         Name::Bar,
@@ -88,6 +99,7 @@ impl Name {
         Name::Office,
         Name::Queue,
         Name::Step,
+        Name::Blocks,
     ];
 
     // The name of a row of the table, counted from 0. No TryFrom: an error would have nothing to tell.
@@ -121,6 +133,7 @@ impl Name {
             Name::Office => b"office",
             Name::Queue => b"queue",
             Name::Step => b"step",
+            Name::Blocks => b"blocks",
         }
     }
 
@@ -147,6 +160,7 @@ impl Name {
             Name::Rating => Takes::Numbers(3),
             Name::Points => Takes::Numbers(4),
             Name::Queue => Takes::Queued,
+            Name::Blocks => Takes::Blocks,
         }
     }
 }
@@ -214,6 +228,60 @@ fn is_path(path: &[u8]) -> bool
     (1..=255).contains(&path.len()) && path.iter().all(|byte| *byte != 0)
 }
 
+// ---- blocks
+
+// What follows the stroke between two blocks, which stands after one blank.
+#[tactic(auto, using(std::proofs::lemmas::Bool::Decides::nat_tests), unfolding(crate::specs::Reading::has_stroke))]
+fn behind_stroke(bytes: &[u8]) -> Option<&[u8]>
+    ensures { MatchOption result (has_stroke bytes.now ≡ false) (λ r. (has_stroke bytes.now ≡ true) × (r.now ≡ drop 2 bytes.now)) }
+{
+    let [BLANK, STROKE, rest @ ..] = bytes else {
+        return None;
+    };
+    Some(rest)
+}
+
+// The numbers of blocks, so many in each, and then the end.
+fn read_blocks(bytes: &[u8], each: usize) -> Option<ArrayVec<usize, LONGEST_ROW>>
+    requires { length bytes.now ≤ longest_line }
+    ensures { MatchOption result (blocks_in each bytes.now ≡ None) (λ r. blocks_in each bytes.now ≡ Some r.items) }
+{
+    let mut row = ArrayVec::new();
+    let mut rest = bytes;
+    // How many are due in the block that has begun.
+    let mut due = each;
+    // A loop: each number is read from what the one before it left.
+    loop {
+        if due == 0 {
+            if rest.is_empty() {
+                return Some(row);
+            }
+            rest = behind_stroke(rest)?;
+            due = each;
+        } else {
+            let (number, behind) = first_number(rest)?;
+            row.push(number);
+            rest = behind;
+            due -= 1;
+        }
+    }
+}
+
+// The row of numbers by which a line chooses blocks, so many for each; None where anything else stands behind its word. By
+// the word alone none are chosen.
+pub fn row(line: &[u8], each: usize) -> Option<ArrayVec<usize, LONGEST_ROW>>
+    ensures { MatchOption result (row_in each line.now ≡ None) (λ r. row_in each line.now ≡ Some r.items) }
+{
+    if line.len() > LONGEST_LINE {
+        return None;
+    }
+    let blocks = text::on_from(line, BLANK);
+    if blocks.is_empty() {
+        return Some(ArrayVec::new());
+    }
+    read_blocks(blocks, each)
+}
+
 // ---- commands
 
 // None where a number is too large for the name, and for queue, whose numbers are read by its own function.
@@ -241,6 +309,7 @@ fn make(name: Name, numbers: [usize; 4]) -> Option<Command>
         Name::Office => Command::Office(a),
         Name::Queue => return None,
         Name::Step => Command::Step,
+        Name::Blocks => Command::Blocks,
     })
 }
 
@@ -253,7 +322,7 @@ pub fn numbered(row: usize, numbers: [usize; 4]) -> Command
         .unwrap_or(Command::Unknown)
 }
 
-// The numbers behind the first word; a path has none, and an edit has them behind a word of its own. By a match: a closure in
+// The numbers behind the first word; a path and blocks have none here, and an edit has them behind a word of its own. By a match: a closure in
 // place of `Takes` would have to be handed out by `takes`, which the gate refuses of any function.
 #[tactic(auto, using(crate::proofs::Reading::no_numbers), unfolding(crate::specs::Reading::taken))]
 fn take(takes: Takes, line: &[u8]) -> Option<[usize; 4]>
@@ -264,6 +333,7 @@ fn take(takes: Takes, line: &[u8]) -> Option<[usize; 4]>
         Takes::Numbers(n) => read_arguments(text::on_from(line, BLANK), n),
         Takes::Path => is_path(path(line)).then_some([0; 4]),
         Takes::Queued => None,
+        Takes::Blocks => Some([0; 4]),
     }
 }
 

@@ -6,24 +6,24 @@ use Rattle.std.proofs.lemmas.Iterator.Search.{all_from_yields_List}
 use Rattle.std.specs.List.{list_all}
 use Rattle.base.specs.Text.{text}
 use Rattle.base.specs.Same.{same}
-use Rattle.command.specs.Reading.{is_space, is_comment, word_of, row, rows, called, queued_in, command_in}
+use Rattle.command.specs.Reading.{is_space, is_comment, word_of, row, rows, called, queued_in, command_in, longest_line}
 use Rattle.command.specs.declared.Command.{Command}
 use Rattle.command.proofs.read.Goals as goal
 
 -- a line that is no comment and not too long
-module _ (line : List ℕ) (comment : is_comment line ≡ false) (long : length line ≤ 512) where
+module _ (line : List ℕ) (comment : is_comment line ≡ false) (long : length line ≤ longest_line) where
   pub spaces_say : list_all is_space line ≡ true → command_in line ≡ Command.Nothing
   unfolding command_in
-  spaces_say s = rw (comment, le-ltb 512 (length line) long, s)
+  spaces_say s = rw (comment, le-ltb longest_line (length line) long, s)
 
   module _ (s : list_all is_space line ≡ false) where
     pub queue_says : same (word_of line) (text "queue") ≡ true → command_in line ≡ queued_in line
     unfolding command_in
-    queue_says q = rw (comment, le-ltb 512 (length line) long, s, q)
+    queue_says q = rw (comment, le-ltb longest_line (length line) long, s, q)
 
     pub call_says : same (word_of line) (text "queue") ≡ false → command_in line ≡ called rows line
     unfolding command_in
-    call_says q = rw (comment, le-ltb 512 (length line) long, s, q)
+    call_says q = rw (comment, le-ltb longest_line (length line) long, s, q)
 
 is_queue : (line word : List ℕ) (t : Bool) → word ≡ word_of line → t ≡ same word (text "queue") → same (word_of line) (text "queue") ≡ t
 is_queue line word t e f = ap (λ w. same w (text "queue")) (sym e) ∙ sym f
@@ -35,7 +35,7 @@ returns-then-is_comment c = rw (sym c.is_comment.ensures ∙ c.if-is_comment.tru
 pub returns-then-line-gt-LONGEST_LINE : goal.returns-then-line-gt-LONGEST_LINE
 unfolding command_in
 returns-then-line-gt-LONGEST_LINE c =
-    rw (sym c.is_comment.ensures ∙ c.if-is_comment.false, lt-ltb 512 (length c.args.line.now) c.if-line-gt-LONGEST_LINE.true)
+    rw (sym c.is_comment.ensures ∙ c.if-is_comment.false, lt-ltb longest_line (length c.args.line.now) c.if-line-gt-LONGEST_LINE.true)
 
 pub returns-then-all : goal.returns-then-all
 returns-then-all c =
