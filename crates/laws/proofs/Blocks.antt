@@ -20,6 +20,12 @@ use Rattle.rules.specs.Plan.{reduced, programme_of, no_programme}
 use Rattle.rules.specs.Blocks.{choice_of, no_blocks, blocks_in, first_of, last_of, part_of, in_block, end_of, is_row, in_order, covering, part_in, parts_fit, leaders_inside, followed, with_parts, barred_outside, block_district, by_blocks, begun, programme_by, plan_by}
 use Rattle.rules.specs.declared.Choice.{Choice}
 
+pub row_few : (x : Choice) (d : District) → is_row x d ≡ true → (1 ≤ blocks_in x d) × (blocks_in x d ≤ 4)
+unfolding is_row
+row_few x d ok =
+    let m = blocks_in x d in
+    let p = and_parts (eqb ((2 + resources_of d) * m) x.length) (between 1 4 m) ok in between_in 1 4 m p.1
+
 module _ (x : Choice) (d : District) (ok : followed x d ≡ true) where
   abbrev m : ℕ
   m = blocks_in x d
@@ -33,8 +39,7 @@ module _ (x : Choice) (d : District) (ok : followed x d ≡ true) where
       (p.0, q.0, r.0, r.1)
 
   pub blocks_few : (1 ≤ m) × (m ≤ 4)
-  unfolding is_row
-  blocks_few = let p = and_parts (eqb ((2 + resources_of d) * m) x.length) (between 1 4 m) tests.0 in between_in 1 4 m p.1
+  blocks_few = row_few x d tests.0
 
   covers : (all m (in_order x d) ≡ true) × (eqb (end_of x d m) (segments_of d) ≡ true)
   unfolding covering

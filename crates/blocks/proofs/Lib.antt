@@ -1,0 +1,4 @@
+pub mod Rows
+pub mod Parts
+pub mod Districts
+pub mod BlockRanges

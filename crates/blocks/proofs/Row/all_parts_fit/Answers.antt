@@ -1,0 +1,11 @@
+-- `blocks::Row::all_parts_fit` meets its contract.
+use borrow.Author.Rules.{rules}
+use borrow.Author.Tests.{tests}
+use Rattle.rules.specs.Blocks.{parts_fit}
+use Rattle.rating.proofs.Chains.{all_from_1}
+use Rattle.blocks.proofs.Row.all_parts_fit.Goals as goal
+
+pub returns : goal.returns
+returns c =
+    let s = c.args.self.now in
+    all_from_1 _ c.resources.ensures (parts_fit s.choice.now s.ranged.district.now) _ c.all.ensures.ran (λ x b q e. search (rules, tests))

@@ -1,0 +1,12 @@
+-- `blocks::Row::leaders_inside` meets its contract.
+use borrow.Author.Rules.{rules}
+use borrow.Author.Tests.{tests}
+use Rattle.rules.specs.Blocks.{led_inside, leaders_inside}
+use Rattle.rating.proofs.Chains.{all_from_1}
+use Rattle.blocks.proofs.Row.leaders_inside.Goals as goal
+
+pub returns : goal.returns
+unfolding leaders_inside
+returns c =
+    let s = c.args.self.now in
+    all_from_1 _ c.segments.ensures (led_inside s.choice.now s.ranged.district.now c.args.b) _ c.all.ensures.ran (λ x b q e. search (rules, tests))
