@@ -9,7 +9,7 @@ ghost use Rattle.std.specs.Prelude.{◌≡◌, Bool, false, List, ℕ, ◌≤◌
 ghost use Rattle.base.specs.Over.{sum};
 ghost use Rattle.rules.specs.District.{most_segments, most_strategies, most_resources};
 ghost use Rattle.rules.specs.Phases.{strategy_at, pruned, top_candidate, bests, start, next_candidate, step_down, phase1};
-ghost use Rattle.tables.specs.Arrays.{tables, benefit_at, leader_in, Bounded, Cell, Running};
+ghost use Rattle.tables.specs.Arrays.{tables, benefit_at, leader_in, Bounded, Cell, Chosen, Running};
 ghost use Rattle.tables.specs.Views.{table_in, leaders_in};
 ghost use Rattle.phase1.specs.Reduce.{ShareSums, held_share, Summable, LedWithin, IsTest, ToStep, best_passing};
 ghost use Rattle.phase1.specs.Views.{HeldIn};
@@ -170,6 +170,16 @@ pub fn reduce(planning: &mut Planning<'_>, shares: &[u64; USE_ENTRIES]) -> u64
     steps
 }
 
+// A programme in the making, of the strategies that it is to begin with: their sums are made.
+pub fn draft_of(z: Size, uses: UsageTable<'_>, choice: [usize; MOST_SEGMENTS]) -> Draft
+    requires { Bounded z × Chosen z choice }
+    ensures running { Running z uses.entry.entries.now result.choice result.sums }
+    ensures same_choice { result.choice ≡ choice }
+{
+    let sums = sums_of(z, uses.entries, &choice);
+    Draft { choice, sums }
+}
+
 // Each segment takes its top candidate.
 fn top_choice(z: Size, benefits: BenefitTable<'_>) -> [usize; MOST_SEGMENTS]
     requires { z.strategies ≤ most_strategies }
@@ -191,6 +201,5 @@ pub fn start(
 {
     let mut choice = top_choice(z, benefits);
     prune(z.segments, leaders, &mut choice);
-    let sums = sums_of(z, uses.entries, &choice);
-    Draft { choice, sums }
+    draft_of(z, uses, choice)
 }
