@@ -1,37 +1,39 @@
 -- What filled arrays give the phases and the ceiling.
-use Prim.Native.Nat.{ℕ, ◌≤◌}
+use Prim.Native.Nat.{ℕ, zero, suc, ◌≤◌}
 use mathlib.Core.Path.{◌≡◌, refl, ap}
-use mathlib.Core.Bool.{true, false}
+use mathlib.Core.Bool.{Bool, true, false}
 use mathlib.Core.List.{List}
 use native.Mathlib.Omega.{arith}
+use borrow.Author.Tests.{leb-true, leb-false}
+use lib.Dec.{leb}
 use lib.ListN.{get_or}
-use Rattle.rules.specs.District.{District, resources_of, leader_of}
+use Rattle.rules.specs.District.{District, segments_of, strategies_of, resources_of}
 use Rattle.rules.specs.Table.{Table, table_of}
 use Rattle.rules.specs.Ceiling.{down_share, ceiling}
-use Rattle.rules.specs.Phases.{total, start, phase1, phase2, phase3}
-use Rattle.rules.specs.File.{in_range}
-use Rattle.rules.specs.Plan.{reduced, filled as filled_by, improved, programme_from, programme_of, no_programme, plan_of}
+use Rattle.rules.specs.Phases.{strategy_at, total, start, phase1, phase2, phase3}
+use Rattle.rules.specs.Plan.{reduced, filled as filled_by, improved, ended, programme_from, programme_of}
 use Rattle.rules.specs.declared.Programme.{Programme}
-use Rattle.grammar.proofs.InRanges.{in_ranges}
-use Rattle.theorems.proofs.Promises.{few_steps}
 use Rattle.laws.specs.Tables.{FitAlone, OfCandidates}
+use Rattle.laws.proofs.Gives.{candidates_numbers}
 use Rattle.laws.proofs.Steps.{start_allowed}
 use Rattle.grammar.specs.Ranges.{Ranges}
-use Rattle.tables.specs.Arrays.{entry, use_entry, tables, benefit_at, Cell}
+use Rattle.tables.specs.Arrays.{entry, use_entry, tables, benefit_at, Cell, Chosen}
 use Rattle.tables.specs.declared.Size.{Size}
 use Rattle.tables.proofs.Arrays.{benefit_at_lem, cell_of}
 use Rattle.fill.specs.Filled.{Filled}
 use Rattle.fill.proofs.Shares.{down_share_le}
 use Rattle.ceiling.specs.Prices.{In, Priced, Sized}
 use Rattle.phase1.specs.Reduce.{Shares}
+use Rattle.planner.specs.Alone.{Placed}
+
+-- the filled shares are the table's
+pub shares_of : {d : District} {z : Size} {ls b u l s e : List ℕ} → Filled d z ls b u l s e → Shares z b u l s
+shares_of filled =
+    record {
+      shares_are = λ i j r low high few from to. filled.shares i j r (cell_of filled.tabled.bounded i j low high few) from (omega (arith, filled.tabled.bounded.resources));
+    }
 
 module _ {d : District} (ranges : Ranges d) {z : Size} {ls b u l s e : List ℕ} (filled : Filled d z ls b u l s e) where
-  pub shares_of : Shares z b u l s
-  shares_of =
-      record {
-        shares_are = λ i j r low high few from to. filled.shares i j r (cell_of filled.tabled.bounded i j low high few) from (omega (arith, filled.tabled.bounded.resources));
-      }
-
   inside : {i j : ℕ} → In z i j → Cell i j
   inside {i} {j} within = cell_of filled.tabled.bounded i j within.segment_from within.segment_to within.strategy_to
 
@@ -42,8 +44,10 @@ module _ {d : District} (ranges : Ranges d) {z : Size} {ls b u l s e : List ℕ}
   down_is : (i j r : ℕ) → In z i j → 1 ≤ r → r ≤ z.resources → get_or e (use_entry i j r) 0 ≡ down_share (tables z b u l) i j r
   down_is i j r within from to = filled.downs i j r (inside within) from (omega (arith, filled.tabled.bounded.resources))
 
-  pub priced : Priced (tables z b u l) z b e
-  priced = record { segments = refl; strategies = refl; resources = refl; benefits = entry_is; shares = down_is }
+  pub priced : Priced (table_of d) z b e
+  priced =
+      let held : Priced (tables z b u l) z b e = record { segments = refl; strategies = refl; resources = refl; benefits = entry_is; shares = down_is } in
+      rw filled.table at held
 
   some_resource : 1 ≤ z.resources
   unfolding table_of
@@ -92,20 +96,25 @@ from_reduced t leader e f g = rw (e, f) at g
 pub start_held : (t : Table) (leader : ℕ → ℕ) → FitAlone t → {c : List ℕ} → c ≡ start t leader → OfCandidates t c
 start_held t leader fit e = rw e (start_allowed t leader fit.segments)
 
--- ---- the plan of a district in range, and of any other value
+-- phases 2 and 3 of a table, from where phase 1 ended
+pub ended_by : (t : Table) (leader : ℕ → ℕ) {c₁ c₂ c₃ : List ℕ} → c₁ ≡ (reduced t leader).last → c₂ ≡ (phase2 t leader c₁).last → c₃ ≡ (phase3 t leader c₂).last → c₃ ≡ ended t leader
+unfolding improved filled_by
+ended_by t leader e f g = rw (rw e at f) at g
 
-abbrev Planned : District → Programme → Type 0
-Planned d p = (p ≡ plan_of d) × (p.steps ≤ 704)
+-- ---- where phases 2 and 3 go on
 
-pub planned : (d : District) {p : Programme} → in_range d ≡ true → p ≡ programme_of (table_of d) (leader_of d) → Planned d p
-unfolding plan_of
-planned d {p} q e =
-    let ranges = in_ranges d q in
-    let few : p.steps ≤ 704 = rw e (few_steps d ranges.segments ranges.strategies) in
-    (rw q e, few)
+-- the strategies of a programme that is placed are numbers of the arrays that hold the district
+pub chosen_of : {d : District} {z : Size} {ls b u l s e c : List ℕ} → Filled d z ls b u l s e → Placed (table_of d) c → Chosen z c
+unfolding table_of
+chosen_of {d} {z} {c = c} filled placed = record { places = placed.candidates.places; numbers = number }
+  where
+    same : z.strategies ≡ strategies_of d
+    same = ap (λ (t : Table). t.strategies) filled.table
 
-pub unplanned : (d : District) {p : Programme} → in_range d ≡ false → p ≡ no_programme → Planned d p
-unfolding plan_of no_programme
-unplanned d {p} q e =
-    let few : p.steps ≤ 704 = rw e (omega arith) in
-    (rw q e, few)
+    from_one : (i : ℕ) → 1 ≤ i → (v : Bool) → leb i (segments_of d) ≡ v → strategy_at c i ≤ z.strategies
+    from_one i l true q = omega (arith, same, candidates_numbers (table_of d) c placed.candidates i l (leb-true i (segments_of d) q))
+    from_one i l false q = omega (arith, placed.past i l (leb-false i (segments_of d) q))
+
+    number : (i : ℕ) → strategy_at c i ≤ z.strategies
+    number zero = from_one 1 (omega arith) (leb 1 (segments_of d)) refl
+    number (suc i) = from_one (suc i) (omega arith) (leb (suc i) (segments_of d)) refl
