@@ -5,7 +5,7 @@
 ghost use Rattle.std.specs.Prelude.{◌≡◌};
 ghost use Rattle.rules.specs.Answers.{answer_in};
 ghost use Rattle.rules.specs.Demands.{EveryOfficeAnswer, EveryRoughness, EveryOffice};
-ghost use Rattle.rules.specs.Lists.{Alter};
+ghost use Rattle.rules.specs.Lists.{Alter, ChooseBlocks};
 ghost use Rattle.rules.specs.Meter.{roughness_of};
 ghost use Rattle.rules.specs.Offices.{Held, fresh_held};
 ghost use Rattle.office.specs.Kept.{Keeps, Plans, Sends, reply};
@@ -32,12 +32,19 @@ pub fn fresh() -> Office
     }
 }
 
-// An edit of the unit's district; the window stays. It is the one call of the unit that changes an office here: the loads
-// are the station's, and their contract keeps both windows too (station/specs/Kept, PlansBoth).
+// An edit of the unit's district; the window stays. This and choose are the calls of the unit that change an office here: the
+// loads are the station's, and their contract keeps both windows too (station/specs/Kept, PlansBoth).
 pub fn alter(o: &mut Office, e: Edit) -> Answer
     ensures { Plans o.old (Alter e) (reply result o.new) }
 {
     unit::alter(&mut o.unit, e)
+}
+
+// Blocks for the unit's district, by a row of numbers; the window stays.
+pub fn choose(o: &mut Office, row: &[usize]) -> Answer
+    ensures { Plans o.old (ChooseBlocks row.now) (reply result o.new) }
+{
+    unit::choose(&mut o.unit, row)
 }
 
 // A record of the meter is handed on; the unit stays.

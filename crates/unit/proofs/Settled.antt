@@ -1,9 +1,10 @@
--- How a call that changes the unit settles: refused, the unit stays as it was; accepted, it holds the new district.
+-- How a call that changes the unit settles: refused, the unit stays as it was; accepted, it holds the new district and choice.
 use Rattle.std.proofs.Common.{◌≡◌, ℕ, suc, ◌-◌, arith}
 use Rattle.rules.proofs.RefusalNumbers.{numbered}
 use Rattle.rules.specs.Answers.{refusal_number, answer_of, accepting, Accepted, Refused}
-use Rattle.rules.specs.Calls.{answered, unit_of}
+use Rattle.rules.specs.Calls.{answered, unit_with}
 use Rattle.rules.specs.District.{District}
+use Rattle.rules.specs.declared.Choice.{Choice}
 use Rattle.rules.specs.declared.Unit.{Unit}
 use Rattle.rules.specs.declared.refusals.Refusal.{Refusal}
 
@@ -11,13 +12,16 @@ use Rattle.rules.specs.declared.refusals.Refusal.{Refusal}
 pub not_none : (r : Refusal) → refusal_number r ≡ suc (refusal_number r - 1)
 not_none r = omega (arith, numbered r)
 
-pub refused : (u : Unit) (d : District) (n : ℕ) (e : Refusal) → refusal_number e ≡ n → record { answer = Refused (refusal_number e); unit = u } ≡ answered u n d
+pub refused :
+    (u : Unit) (x : Choice) (d : District) (n : ℕ) (e : Refusal)
+    → refusal_number e ≡ n → record { answer = Refused (refusal_number e); unit = u } ≡ answered u n x d
 unfolding answered answer_of accepting
-refused u d n e is = rw (← is, not_none e)
+refused u x d n e is = rw (← is, not_none e)
 
-pub accepted : (u : Unit) (d : District) (n : ℕ) → 0 ≡ n → record { answer = Accepted 0; unit = unit_of d } ≡ answered u n d
+pub accepted :
+    (u : Unit) (x : Choice) (d : District) (n : ℕ) → 0 ≡ n → record { answer = Accepted 0; unit = unit_with x d } ≡ answered u n x d
 unfolding answered answer_of accepting
-accepted u d n is = rw (← is)
+accepted u x d n is = rw (← is)
 
 -- what the check takes for the calls that change the unit
 pub ruleset settled = (refused, accepted)

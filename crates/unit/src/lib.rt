@@ -7,8 +7,9 @@
 
 ghost use Rattle.std.specs.Prelude.{◌≡◌};
 ghost use Rattle.rules.specs.Answers.{answer_in};
-ghost use Rattle.rules.specs.Calls.{fresh_unit, unit_of, load_of, alter_of, export_of, page_of, show_of, why_of};
+ghost use Rattle.rules.specs.Calls.{fresh_unit, unit_with, load_of, alter_of, choose_of, export_of, page_of, show_of, why_of};
 ghost use Rattle.rules.specs.Demands.{EveryAnswer, EveryPoints, TheRules, EveryFile, OneClaim};
+ghost use Rattle.theorems.specs.BlockPlans.{EveryBlockPlan};
 ghost use Rattle.theorems.specs.Columns.{EveryPage};
 ghost use Rattle.theorems.specs.GoodBudget.{GoodBudget, NoneGreater};
 ghost use Rattle.theorems.specs.Reasons.{EveryReason, OneHolds};
@@ -16,18 +17,27 @@ ghost use Rattle.theorems.specs.Scale.{RatingsOnScale};
 ghost use Rattle.unit.specs.Loaded.{reply_in, planned_unit};
 
 use rating::Ranged;
-use rules::{Answer, District, Edit, Programme, Reason, Refusal, Unit};
+use rules::{Answer, Choice, District, Edit, Programme, Reason, Refusal, Unit};
 
-// A unit that holds the district, with programme and ceiling worked out afresh.
-#[tactic(auto, unfolding(rules::specs::Calls::unit_of))]
-pub fn hold(district: District) -> Unit
-    ensures { result ≡ unit_of district }
+// A unit that holds the district and the choice of blocks, with programme and ceiling worked out afresh.
+#[tactic(auto, unfolding(rules::specs::Calls::unit_with))]
+pub fn hold(district: District, choice: Choice) -> Unit
+    ensures { result ≡ unit_with choice district }
 {
-    let programme = planner::plan(&district);
+    let programme = planner::plan(&district, &choice);
     Unit {
         district,
+        choice,
         programme,
     }
+}
+
+// The same of a unit whose district or choice was changed.
+#[tactic(auto, unfolding(rules::specs::Calls::unit_with))]
+fn plan_anew(u: &mut Unit)
+    ensures { u.new ≡ unit_with u.old.choice u.old.district }
+{
+    u.programme = planner::plan(&u.district, &u.choice);
 }
 
 // The unit before the first call. The demands are stated of every call, every file and every list of calls on it. No Default:
@@ -45,16 +55,17 @@ pub fn fresh() -> Unit
     ensures explained { OneHolds }
     ensures equal { GoodBudget }
     ensures optimal { NoneGreater }
+    ensures blocks { EveryBlockPlan }
 {
-    hold(edits::fresh_district())
+    hold(edits::fresh_district(), blocks::no_blocks())
 }
 
-// The district of the file in place of the one held.
+// The district of the file in place of the one held, with no blocks chosen.
 #[tactic(auto, using(crate::proofs::Settled::settled), unfolding(rules::specs::Calls::load_of))]
 pub fn load(u: &mut Unit, bytes: &[u8]) -> Answer
     ensures { record { answer = answer_in result; unit = u.new } ≡ load_of u.old bytes.now }
 {
-    *u = hold(file::load(bytes)?);
+    *u = hold(file::load(bytes)?, blocks::no_blocks());
     Ok(0)
 }
 
@@ -63,7 +74,7 @@ pub fn load(u: &mut Unit, bytes: &[u8]) -> Answer
 pub fn of_file(bytes: &[u8]) -> Result<Unit, Refusal>
     ensures { reply_in result ≡ load_of fresh_unit bytes.now }
 {
-    Ok(hold(file::load(bytes)?))
+    Ok(hold(file::load(bytes)?, blocks::no_blocks()))
 }
 
 // The programme of that unit alone, for a caller who needs no unit: its district is left in the one that is lent, where nothing is
@@ -76,14 +87,24 @@ pub fn plan_file(bytes: &[u8], d: &mut District) -> Result<Programme, Refusal>
     Ok(planner::programme_of(Ranged { district: d }))
 }
 
-// Bar, unbar, set limit, set rating and set leader.
-#[tactic(auto, using(crate::proofs::Settled::settled), unfolding(rules::specs::Calls::alter_of, rules::specs::Calls::unit_of))]
+// Bar, unbar, set limit, set rating and set leader. The blocks chosen stay, whether they can be followed then or not.
+#[tactic(auto, using(crate::proofs::Settled::settled), unfolding(rules::specs::Calls::alter_of))]
 pub fn alter(u: &mut Unit, e: Edit) -> Answer
     ensures { record { answer = answer_in result; unit = u.new } ≡ alter_of u.old e }
 {
     edits::check(&u.district, e)?;
     edits::edit(&mut u.district, e);
-    u.programme = planner::plan(&u.district);
+    plan_anew(u);
+    Ok(0)
+}
+
+// Blocks for the district held, by a row of numbers, until the next load. No row is refused.
+#[tactic(auto, using(crate::proofs::Settled::settled), unfolding(rules::specs::Calls::choose_of))]
+pub fn choose(u: &mut Unit, row: &[usize]) -> Answer
+    ensures { record { answer = answer_in result; unit = u.new } ≡ choose_of u.old row.now }
+{
+    u.choice = blocks::choice_of(row);
+    plan_anew(u);
     Ok(0)
 }
 

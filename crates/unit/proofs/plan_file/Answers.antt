@@ -1,12 +1,14 @@
--- `unit::plan_file` meets its contract: a district that loads is in range, and the programme of one in range is the plan for it.
-use Rattle.planner.proofs.Plans.{planned}
-use Rattle.rules.specs.Calls.{unit_of, load_of}
+-- `unit::plan_file` meets its contract: a district that loads is in range, and where no blocks are chosen, the programme of one in range is the plan for it.
+use Rattle.laws.proofs.Blocks.{none_followed}
+use Rattle.planner.proofs.BlockPlans.{ordinary, planned}
+use Rattle.rules.specs.Blocks.{no_blocks}
+use Rattle.rules.specs.Calls.{unit_with, load_of}
 use Rattle.unit.proofs.Settled.{accepted}
 use Rattle.unit.proofs.plan_file.Goals as goal
 
 pub returns : goal.returns
-unfolding load_of unit_of
+unfolding load_of unit_with
 returns c =
     let read = c.in_ok-read.ensures in
-    let plan = planned _ read.ranged c.programme_of.ensures in
-    rw (plan.0, read.district) (accepted _ _ _ read.refusal)
+    let plan = planned no_blocks _ read.ranged (ordinary _ _ (none_followed _) c.programme_of.ensures) in
+    rw (plan.0, read.district) (accepted _ no_blocks _ _ read.refusal)
