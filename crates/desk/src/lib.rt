@@ -5,7 +5,7 @@
 
 ghost use Rattle.rules.specs.DeskDemands.{EveryCall, EveryArrival, EveryStep, OnceInOrder, NobodyStarves, CarriedInTime, EveryRun, EveryDesk};
 ghost use Rattle.rules.specs.Desks.{fresh_desk};
-ghost use Rattle.rules.specs.Lists.{Load, Alter};
+ghost use Rattle.rules.specs.Lists.{Load, Alter, ChooseBlocks};
 ghost use Rattle.station.specs.Kept.{PlansBoth, SendsBoth};
 ghost use Rattle.desks.specs.EachOffice.{EachOfficeServed};
 ghost use Rattle.desk.specs.Kept.{KeepsDesk, Arrives, Steps, Asks, reply, stepped};
@@ -69,6 +69,12 @@ pub fn alter(d: &mut Desk, n: usize, e: Edit) -> Answer
     ensures { Asks d.old (PlansBoth d.old.station n (Alter e)) (reply result d.new) }
 {
     station::alter(&mut d.station, n, e)
+}
+
+pub fn choose(d: &mut Desk, n: usize, row: &[usize]) -> Answer
+    ensures { Asks d.old (PlansBoth d.old.station n (ChooseBlocks row.now)) (reply result d.new) }
+{
+    station::choose(&mut d.station, n, row)
 }
 
 pub fn send(d: &mut Desk, n: usize, sent: Sent) -> Answer

@@ -5,7 +5,7 @@ use mathlib.Core.Bool.{true, false}
 use mathlib.Core.List.{List}
 use Rattle.rules.specs.District.{District, segments_of, shared_tables, same_tables}
 use Rattle.rules.specs.Answers.{tables_in_use, refusal_number, Accepted, Refused}
-use Rattle.rules.specs.Calls.{load_refusal, district_in, unit_of}
+use Rattle.rules.specs.Calls.{load_refusal, district_in, unit_with, unit_of}
 use Rattle.rules.specs.Lists.{Load, refusal_of}
 use Rattle.rules.specs.Offices.{OfficeCall, Plan, office_refusal, OfficeOutcome}
 use Rattle.rules.specs.Stations.{other, own, office_number, refusal_beside, with_tables}
@@ -64,12 +64,12 @@ module _ (s : Station) (n : ℕ) (w : Which) (named : n ≡ office_number w) (fi
     -- other tables, and the other office has no segments,
     pub brings_other :
         same_tables held d ≡ false → segments_of beside_held ≡ 0 → (t : Station) → office_in w t ≡ loaded_in
-        → office_in (other w) t ≡ record { unit = unit_of (shared_tables d); window = (office_in (other w) s).window }
+        → office_in (other w) t ≡ record { unit = unit_with (office_in (other w) s).unit.choice (shared_tables d); window = (office_in (other w) s).window }
         → PlansBoth s n (Load file) (record { answer = Accepted 0; station = t })
     brings_other differ none t e f =
         plans s n w named (Load file) (record { answer = Accepted 0; station = t }) accepted (with_tables d (own (other w) (units_in s)))
         (load_alone file d loads back (units_in s) w (rw (district_in_lem w) at differ) (rw (district_in_lem (other w)) at none))
-        refl e f
+        refl e (f ∙ ap (λ (u : Unit). record { unit = unit_with u.choice (shared_tables d); window = (office_in (other w) s).window }) (unit_in (other w) s))
 
     -- and it has some
     pub brings_in_use :

@@ -6,9 +6,9 @@
 ghost use Rattle.std.specs.Prelude.{List, [], ◌≡◌, ℕ};
 ghost use Rattle.std.specs.Borrow.{sem};
 ghost use Rattle.rules.specs.Answers.{answer_in};
-ghost use Rattle.rules.specs.Calls.{load_refusal, district_in, unit_of};
+ghost use Rattle.rules.specs.Calls.{load_refusal, district_in, unit_with};
 ghost use Rattle.rules.specs.District.{shared_tables};
-ghost use Rattle.rules.specs.Lists.{Load, Alter, ExportTo, PageTo, Show, AskWhy};
+ghost use Rattle.rules.specs.Lists.{Load, Alter, ChooseBlocks, ExportTo, PageTo, Show, AskWhy};
 ghost use Rattle.rules.specs.Offices.{Held, AskRoughness};
 ghost use Rattle.rules.specs.StationDemands.{EveryStationAnswer, EveryStationFile, EveryStation, TablesAgree, LeavingOut};
 ghost use Rattle.rules.specs.Stations.{Both, other, office_number, office_of, fresh_both, call_of};
@@ -78,15 +78,13 @@ fn own_mut(s: &mut Station, w: Which) -> &mut Office
 
 // ---- load
 
-// A unit with the shared tables of the district, and nothing to plan.
-#[tactic(auto, using(stations::proofs::NoSegments::tables_unplanned), unfolding(rules::specs::Calls::unit_of))]
-fn with_tables(d: &District) -> Unit
-    ensures { result ≡ unit_of (shared_tables d.now) }
+// The shared tables of the district in place of a unit's own, and nothing to plan; the blocks chosen stay.
+#[tactic(auto, using(stations::proofs::NoSegments::tables_unplanned), unfolding(rules::specs::Calls::unit_with))]
+fn take_tables(u: &mut Unit, d: &District)
+    ensures { u.new ≡ unit_with u.old.choice (shared_tables d.now) }
 {
-    Unit {
-        district: shared::shared_tables(d),
-        programme: planner::no_programme(),
-    }
+    u.district = shared::shared_tables(d);
+    u.programme = planner::no_programme();
 }
 
 // A load whose file passed all its tests, and loads as `d`. Other tables come to the other office too, which must have no
@@ -98,9 +96,9 @@ fn bring(s: &mut Station, w: Which, d: District) -> Answer
         if own(s, other(w)).unit.district[SEGMENT_COUNT] != 0 {
             return Err(Refusal::TablesInUse);
         }
-        own_mut(s, other(w)).unit = with_tables(&d);
+        take_tables(&mut own_mut(s, other(w)).unit, &d);
     }
-    own_mut(s, w).unit = unit::hold(d);
+    own_mut(s, w).unit = unit::hold(d, blocks::no_blocks());
     Ok(0)
 }
 
@@ -121,6 +119,15 @@ pub fn alter(s: &mut Station, n: usize, e: Edit) -> Answer
 {
     let w = Which::try_from(n)?;
     office::alter(own_mut(s, w), e)
+}
+
+// Blocks for the office's district, by a row of numbers, until its next load. No row is refused.
+#[tactic(auto, using(crate::proofs::Numbers::naming, crate::proofs::Replies::nobody_plans))]
+pub fn choose(s: &mut Station, n: usize, row: &[usize]) -> Answer
+    ensures { PlansBoth s.old n (ChooseBlocks row.now) (reply result s.new) }
+{
+    let w = Which::try_from(n)?;
+    office::choose(own_mut(s, w), row)
 }
 
 // A record of the office's meter is handed on.
