@@ -27,24 +27,25 @@ use Rattle.desk.proofs.Steps.{step_happens}
 use Rattle.script.specs.Script.{commanded}
 
 -- a command without a call of its own
-pub shown_else : (c : Command) (n : ℕ) (file : List ℕ) → ¬ (c ≡ Command.Load) → ¬ (c ≡ Command.Export) → ((e : Edit) → ¬ (c ≡ Command.Alter e))
+pub shown_else : (c : Command) (n : ℕ) (body : List ℕ) → ¬ (c ≡ Command.Load) → ¬ (c ≡ Command.Export) → ((e : Edit) → ¬ (c ≡ Command.Alter e))
     → ¬ (c ≡ Command.Page) → ((i j : ℕ) → ¬ (c ≡ Command.Why i j)) → ((s : Sent) → ¬ (c ≡ Command.Send s)) → ¬ (c ≡ Command.Roughness)
-    → commanded c n file ≡ Plan Show
+    → ¬ (c ≡ Command.Blocks) → commanded c n body ≡ Plan Show
 unfolding commanded
-shown_else Command.Load n file l x a p w s r = absurd (l refl)
-shown_else Command.Export n file l x a p w s r = absurd (x refl)
-shown_else (Command.Alter e) n file l x a p w s r = absurd (a e refl)
-shown_else Command.Show n file l x a p w s r = refl
-shown_else (Command.Points code degree extent seal) n file l x a p w s r = refl
-shown_else Command.Page n file l x a p w s r = absurd (p refl)
-shown_else (Command.Why i j) n file l x a p w s r = absurd (w i j refl)
-shown_else (Command.Send m) n file l x a p w s r = absurd (s m refl)
-shown_else Command.Roughness n file l x a p w s r = absurd (r refl)
-shown_else Command.Nothing n file l x a p w s r = refl
-shown_else Command.Unknown n file l x a p w s r = refl
-shown_else (Command.Office office) n file l x a p w s r = refl
-shown_else (Command.Queue console e) n file l x a p w s r = refl
-shown_else Command.Step n file l x a p w s r = refl
+shown_else Command.Load n body l x a p w s r b = absurd (l refl)
+shown_else Command.Export n body l x a p w s r b = absurd (x refl)
+shown_else (Command.Alter e) n body l x a p w s r b = absurd (a e refl)
+shown_else Command.Show n body l x a p w s r b = refl
+shown_else (Command.Points code degree extent seal) n body l x a p w s r b = refl
+shown_else Command.Page n body l x a p w s r b = absurd (p refl)
+shown_else (Command.Why i j) n body l x a p w s r b = absurd (w i j refl)
+shown_else (Command.Send m) n body l x a p w s r b = absurd (s m refl)
+shown_else Command.Roughness n body l x a p w s r b = absurd (r refl)
+shown_else Command.Nothing n body l x a p w s r b = refl
+shown_else Command.Unknown n body l x a p w s r b = refl
+shown_else (Command.Office office) n body l x a p w s r b = refl
+shown_else (Command.Queue console e) n body l x a p w s r b = refl
+shown_else Command.Step n body l x a p w s r b = refl
+shown_else Command.Blocks n body l x a p w s r b = absurd (b refl)
 
 -- ---- calls that leave the desk as it is
 

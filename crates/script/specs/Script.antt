@@ -1,13 +1,15 @@
 -- The list of events that a row of bytes stands for, what the last of them answers, and which office it names. A call is 17 bytes: its kind, which is
 -- a row of the console's table of words (command/specs/Reading), the number of its office, and three numbers. A number is four bytes, low byte first.
 -- A load is followed by its file, whose length is its first number. The first number of an export and of a page is its room. An edit that is to wait is
--- followed by the 17 bytes of that edit, and its first number is its console.
-use Rattle.std.specs.Prelude.{ℕ, zero, suc, ◌+◌, min, List, [], ◌∷◌, leb, eqb, length, get_or, take, drop, replicate}
+-- followed by the 17 bytes of that edit, and its first number is its console. A choice of blocks is followed by the numbers of its row, and its first
+-- number is their count.
+use Rattle.std.specs.Prelude.{ℕ, zero, suc, ◌+◌, ◌*◌, ◌/◌, min, List, [], ◌∷◌, leb, eqb, length, get_or, take, drop, replicate}
 use Rattle.std.specs.Prelude.{Option, None, Some}
 use Rattle.base.specs.Bytes.{number_of}
 use Rattle.base.specs.Choice.{pick}
+use Rattle.base.specs.Over.{listed_from}
 use Rattle.rules.specs.File.{longest_file}
-use Rattle.rules.specs.Lists.{Load, Alter, ExportTo, PageTo, Show, AskWhy}
+use Rattle.rules.specs.Lists.{Load, Alter, ChooseBlocks, ExportTo, PageTo, Show, AskWhy}
 use Rattle.rules.specs.Offices.{OfficeCall, Plan, Send, AskRoughness}
 use Rattle.rules.specs.Stations.{call_of}
 use Rattle.rules.specs.Desks.{Desk, fresh_desk, Event, Arrive, Step, Ask, desk_by, answer_to}
@@ -45,27 +47,46 @@ queue_kind = 16
 abbrev pub step_kind : ℕ
 step_kind = 17
 
+abbrev pub blocks_kind : ℕ
+blocks_kind = 18
+
 -- how many bytes follow the 17
 unfoldable pub body_in : List ℕ → ℕ
-body_in bs = pick (eqb (kind_in bs) load_kind) (first_in bs) (pick (eqb (kind_in bs) queue_kind) 17 0)
+body_in bs =
+    pick (eqb (kind_in bs) load_kind) (first_in bs)
+    (pick (eqb (kind_in bs) queue_kind) 17
+    (pick (eqb (kind_in bs) blocks_kind) (4 * first_in bs) 0))
 
--- the call of a command, with its first number and its file; an export and a page go into so many zeros, at most as many as the
+-- number n of a row, from 0
+abbrev pub row_number : List ℕ → ℕ → ℕ
+row_number body n = number_at (4 * n) body
+
+-- a longer row is cut
+abbrev pub longest_row : ℕ
+longest_row = 16379
+
+-- the row that bytes stand for
+unfoldable pub row_in : List ℕ → List ℕ
+row_in body = listed_from (min (length body / 4) longest_row) 0 (row_number body)
+
+-- the call of a command, with its first number and what follows it; an export and a page go into so many zeros, at most as many as the
 -- longest file and the longest page have; what is no call of an office is a show
 unfoldable pub commanded : Command → ℕ → List ℕ → OfficeCall
-commanded Command.Load n file = Plan (Load file)
-commanded Command.Export n file = Plan (ExportTo (replicate (min n longest_file) 0))
-commanded (Command.Alter e) n file = Plan (Alter e)
-commanded Command.Show n file = Plan Show
-commanded (Command.Points code degree extent seal) n file = Plan Show
-commanded Command.Page n file = Plan (PageTo (replicate (min n longest_page) 0))
-commanded (Command.Why i j) n file = Plan (AskWhy i j)
-commanded (Command.Send s) n file = Send s
-commanded Command.Roughness n file = AskRoughness
-commanded Command.Nothing n file = Plan Show
-commanded Command.Unknown n file = Plan Show
-commanded (Command.Office office) n file = Plan Show
-commanded (Command.Queue console e) n file = Plan Show
-commanded Command.Step n file = Plan Show
+commanded Command.Load n body = Plan (Load body)
+commanded Command.Export n body = Plan (ExportTo (replicate (min n longest_file) 0))
+commanded (Command.Alter e) n body = Plan (Alter e)
+commanded Command.Show n body = Plan Show
+commanded (Command.Points code degree extent seal) n body = Plan Show
+commanded Command.Page n body = Plan (PageTo (replicate (min n longest_page) 0))
+commanded (Command.Why i j) n body = Plan (AskWhy i j)
+commanded (Command.Send s) n body = Send s
+commanded Command.Roughness n body = AskRoughness
+commanded Command.Nothing n body = Plan Show
+commanded Command.Unknown n body = Plan Show
+commanded (Command.Office office) n body = Plan Show
+commanded (Command.Queue console e) n body = Plan Show
+commanded Command.Step n body = Plan Show
+commanded Command.Blocks n body = Plan (ChooseBlocks (row_in body))
 
 -- an edit that is to wait, at a console; where there is none, a show
 unfoldable pub queued_for : ℕ → ℕ → Option Edit → Event

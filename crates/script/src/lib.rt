@@ -7,7 +7,7 @@ ghost use Rattle.rules.specs.Answers.{answer_in};
 ghost use Rattle.rules.specs.Calls.{show_of};
 ghost use Rattle.rules.specs.Demands.{Sound};
 ghost use Rattle.rules.specs.File.{longest_file};
-ghost use Rattle.rules.specs.Lists.{ExportTo, PageTo, Show, AskWhy};
+ghost use Rattle.rules.specs.Lists.{ChooseBlocks, ExportTo, PageTo, Show, AskWhy};
 ghost use Rattle.rules.specs.Offices.{Plan, AskRoughness};
 ghost use Rattle.rules.specs.Desks.{Step, Ask, desk_after};
 ghost use Rattle.rules.specs.DeskDemands.{desk_district};
@@ -15,8 +15,9 @@ ghost use Rattle.rules.specs.Stations.{call_of};
 ghost use Rattle.rules.specs.declared.Which.{Which};
 ghost use Rattle.station.specs.Kept.{office_in};
 ghost use Rattle.desk.specs.Kept.{KeepsDesk, Happens, reply};
-ghost use Rattle.script.specs.Script.{number_at, command_in, body_in, queue_kind, entries_of, events_of, last_answer, last_office};
+ghost use Rattle.script.specs.Script.{number_at, row_in, command_in, body_in, queue_kind, entries_of, events_of, last_answer, last_office};
 
+use arrayvec::ArrayVec;
 use command::{Command, Name};
 use desk::Desk;
 use pages::LONGEST_PAGE;
@@ -32,8 +33,13 @@ const QUEUE: u8 = Name::Queue as u8;
 
 const STEP: u8 = Name::Step as u8;
 
-// So many bytes say a call; what follows them is its file or its edit.
+const BLOCKS: u8 = Name::Blocks as u8;
+
+// So many bytes say a call; what follows them is its file, its edit or its row.
 const CALL_BYTES: usize = 17;
+
+// A longer row is cut: 65,536 bytes have room for so many numbers behind their call.
+const LONGEST_ROW: usize = 16379;
 
 // ---- numbers and kinds of a call
 
@@ -64,8 +70,20 @@ fn body_of(call: &[u8]) -> usize
     match call[0] {
         LOAD => number(call, 5),
         QUEUE => CALL_BYTES,
+        BLOCKS => 4 * number(call, 5),
         _ => 0,
     }
+}
+
+// The row of numbers that stands in the bytes. A loop: each number says where its bytes begin.
+fn row(body: &[u8]) -> ArrayVec<usize, LONGEST_ROW>
+    ensures { result.items ≡ row_in body.now }
+{
+    let mut row = ArrayVec::new();
+    for n in 0..(body.len() / 4).min(LONGEST_ROW) {
+        row.push(number(body, 4 * n));
+    }
+    row
 }
 
 // ---- calls that leave the desk as it is
@@ -117,6 +135,14 @@ fn stepped(d: &mut Desk) -> Answer
     desk::step(d).map_or(Ok(0), |(_, answer)| answer)
 }
 
+// Blocks by the row of numbers that stands in the bytes.
+fn chosen(d: &mut Desk, n: usize, body: &[u8]) -> Answer
+    ensures { Happens d.old (Ask (call_of n (Plan (ChooseBlocks (row_in body.now))))) (reply result d.new) }
+{
+    let row = row(body);
+    desk::choose(d, n, row.as_slice())
+}
+
 // ---- one call
 
 #[derive(Clone, Copy)]
@@ -166,6 +192,7 @@ impl<'a> Call<'a> {
             Command::Why(segment, strategy) => asked(d, self.office, segment, strategy),
             Command::Send(sent) => desk::send(d, self.office, sent),
             Command::Roughness => rough(d, self.office),
+            Command::Blocks => chosen(d, self.office, self.body),
             _ => shown(d, self.office),
         }
     }

@@ -20,4 +20,4 @@ pub returns-in_default : goal.returns-in_default
 returns-in_default c =
     let k = c.in_default in
     let a = c.args.self.now in
-    rw (shown_else a.command a.first a.body.now k.not-Load k.not-Export k.not-Alter k.not-Page k.not-Why k.not-Send k.not-Roughness) c.shown.ensures
+    rw (shown_else a.command a.first a.body.now k.not-Load k.not-Export k.not-Alter k.not-Page k.not-Why k.not-Send k.not-Roughness k.not-Blocks) c.shown.ensures
