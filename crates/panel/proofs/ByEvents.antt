@@ -1,21 +1,27 @@
 -- A console whose desk events lead to stays one whatever line is answered, and what demand 3 claims holds of each office.
+use Prim.Native.Nat.{◌≤◌}
+use Rattle.std.specs.Prelude.{Option, None, Some}
 use mathlib.Core.List.{List, [], ◌∷◌, ◌++◌}
 use mathlib.Core.Path.{◌≡◌, refl, sym, ap, ◌∙◌}
 use Prim.Native.Nat.{ℕ}
-use Rattle.rules.specs.Calls.{show_of, unit_of}
+use Rattle.rules.specs.Calls.{show_of, unit_with}
+use Rattle.rules.specs.District.{most_resources, resources_of}
 use Rattle.rules.specs.Demands.{Sound}
 use Rattle.rules.specs.Desks as Desks
 use Rattle.rules.specs.Desks.{Desk, fresh_desk, Event, desk_by, desk_from, desk_after}
 use Rattle.rules.specs.Lists as Lists
+use Rattle.rules.specs.Lists.{district_after}
 use Rattle.rules.specs.Offices as Offices
 use Rattle.rules.specs.Offices.{Plan}
 use Rattle.rules.specs.declared.Unit.{Unit}
+use Rattle.grammar.proofs.InRanges.{in_ranges}
+use Rattle.demands.proofs.Lists.{after_in}
 use Rattle.desks.proofs.EveryDesk.{every_desk}
 use Rattle.station.specs.Kept.{office_in}
 use Rattle.command.specs.Reading.{command_in}
 use Rattle.command.specs.declared.Command.{Command}
-use Rattle.command.specs.declared.Command.TheVariants.{Nothing, Unknown, Load, Export, Alter, Show, Points, Page, Why, Send, Roughness, Office, Queue, Step}
-use Rattle.panel.specs.Console.{State, start, asking, queueing, happened, after, loading, Loads, read, unopened, unread, Exports, written, unwritten, LineLeads, load, export, other, KeepsState}
+use Rattle.command.specs.declared.Command.TheVariants.{Nothing, Unknown, Load, Export, Alter, Show, Points, Page, Why, Send, Roughness, Office, Queue, Step, Blocks}
+use Rattle.panel.specs.Console.{State, start, asking, queueing, happened, after, loading, Loads, read, unopened, unread, Exports, written, unwritten, LineLeads, load, export, blocks, other, choosing, after_row, row_for, KeepsState}
 use Rattle.panel.specs.Lines.{ByEvents, Keeping, Leads}
 use Rattle.panel.specs.declared.Console.{Console}
 use Rattle.rules.specs.declared.Which.{Which}
@@ -55,6 +61,12 @@ reached_after Roughness r = r
 reached_after (Office n) r = record { events = r.events; same = r.same }
 reached_after {s} (Queue n e) r = reached_event (queueing s n e) r
 reached_after Step r = reached_event Desks.Step r
+reached_after Blocks r = r
+
+reached_row : {s : State} (row : Option (List ℕ)) → Reached s → Reached (after_row s row)
+unfolding after_row
+reached_row None r = r
+reached_row {s} (Some row) r = reached_event (choosing s row) r
 
 reached_load : {s t : State} {path bs : List ℕ} → Loads s path t bs → Reached s → Reached t
 reached_load {s} (read file) r = reached_event (loading s file) r
@@ -68,7 +80,8 @@ reached_export (unwritten buffer n e a) r = r
 reached_line : {s : State} {line : List ℕ} {t : State} {bs : List ℕ} → LineLeads s line t bs → Reached s → Reached t
 reached_line (load e l) r = reached_load l r
 reached_line (export e x) r = reached_export x r
-reached_line {line = line} (other l x) r = reached_after (command_in line) r
+reached_line {s} {line} (blocks e) r = reached_row (row_for s line) r
+reached_line {line = line} (other l x b) r = reached_after (command_in line) r
 
 -- ---- a console
 
@@ -93,7 +106,16 @@ by_events_line led r =
 pub sound_at :
     {c : Console} → ByEvents c → (w : Which)
     → Sound (office_in w c.desk.station).unit.district (show_of (office_in w c.desk.station).unit)
-unfolding unit_of
+unfolding unit_with
 sound_at r w =
     let e = every_desk r.events in
     rw (r.keeps.station w).unit (rw (sym (ap (λ (u : Unit). u.district) (e.planned w))) at (e.sound w))
+
+-- the tables have so many resources at most
+pub few_resources : {c : Console} → ByEvents c → (w : Which) → resources_of (office_in w c.desk.station).unit.district ≤ most_resources
+unfolding unit_with
+few_resources r w =
+    let e = every_desk r.events in
+    let calls = (e.claim w).calls in
+    let led = ap (λ (u : Unit). u.district) ((r.keeps.station w).unit ∙ e.planned w) ∙ sym (e.claim w).district in
+    rw led (in_ranges (district_after calls) (after_in calls)).resources

@@ -26,16 +26,19 @@ use Rattle.rules.specs.declared.refusals.Refusal.{Refusal}
 use Rattle.rules.specs.Answers.{refusal_number as refusal_number}
 use Rattle.station.proofs.Numbers.{some_named}
 use Rattle.station.proofs.Questions.{told_nobody, told_named}
-use Rattle.station.specs.Kept.{KeepsBoth}
+use Rattle.station.specs.Kept.{KeepsBoth, office_in}
 use Rattle.desk.specs.Kept.{KeepsDesk, DeskReply, ReportsEvent, Steps, stepped}
 use Rattle.desk.specs.declared.Desk.{Desk as Desk·Held}
 use Rattle.desk.proofs.Steps.{step_console, step_happens}
 use Rattle.rules.specs.declared.Console.{Console as Console·Number}
 use Rattle.panel.specs.Console as Console
-use Rattle.panel.specs.Console.{State, state_of, answered, happened, printed_for, printed, said, after, LineLeads, KeepsState, Turn, turn, UnitNamed, Tells, Turns}
+use Rattle.panel.specs.Console.{State, state_of, answered, happened, printed_for, printed, said, after, after_blocks, said_blocks, LineLeads, KeepsState, Turn, turn, UnitNamed, Tells, Turns}
 use Rattle.panel.specs.Lines.{Keeping, Leads}
 use Rattle.panel.specs.declared.Console.{Console}
 use Rattle.rules.specs.declared.Which.{Which}
+use Rattle.rules.specs.declared.Which.TheVariants.{First}
+use Rattle.rules.specs.District.{resources_of}
+use Rattle.office.specs.declared.Office.{Office}
 
 -- ---- lengths
 
@@ -83,6 +86,12 @@ module _ (print : Unit → List ℕ) (c : Console) (b : Both Held) (k : KeepsBot
   pub printed_none : (refusal : Refusal) → UnitNamed c (Err refusal) → Listing·refusal (refusal_number refusal) ≡ printed print b c.office
   unfolding UnitNamed
   printed_none refusal named = rw (named.0, named.1)
+
+-- the resources of the first office are those of what it keeps
+pub parts_kept :
+    {d : Desk·Held} {h : Desk} {o : Office} → KeepsDesk d h → o ≡ office_in First d.station
+    → resources_of o.unit.district ≡ resources_of h.held.first.unit.district
+parts_kept k e = ap (λ (x : Office). resources_of x.unit.district) e ∙ ap (λ (u : Unit). resources_of u.district) (k.station First).unit
 
 -- ---- what is told
 
@@ -144,15 +153,23 @@ turns_file R {s = s} {path = path} {old = old} {new = new} {r = r} k e f p =
     let leads = subst (λ (x : List ℕ). R s x t.state t.bytes) e t.leads in
     record { state = t.state; bytes = t.bytes; leads = f t.state t.bytes leads; tells = t.tells }
 
+-- blocks
+pub turns_blocks :
+    {c : Console} {s : State} {line old new : List ℕ} {r : Turn} → KeepsState c s → command_in line ≡ Command.Blocks
+    → ((h : Desk) → KeepsDesk c.desk h → Tells (after_blocks (state_of h c.office) line) (said_blocks (state_of h c.office) line) old new r)
+    → Turns (LineLeads s line) old new r
+turns_blocks {line = line} {old = old} {new = new} {r = r} k is p =
+    turns (of_state (λ s. Tells (after_blocks s line) (said_blocks s line) old new r) k p) (Console.blocks is)
+
 -- any other
 pub turns_other :
     {c : Console} {s : State} {command : Command} {line old new : List ℕ} {r : Turn} → KeepsState c s → command ≡ command_in line
-    → ¬ (command ≡ Command.Load) → ¬ (command ≡ Command.Export)
+    → ¬ (command ≡ Command.Load) → ¬ (command ≡ Command.Export) → ¬ (command ≡ Command.Blocks)
     → ((h : Desk) → KeepsDesk c.desk h → Tells (after (state_of h c.office) command) (said (state_of h c.office) command) old new r)
     → Turns (LineLeads s line) old new r
-turns_other {command = command} {old = old} {new = new} {r = r} k e l x p =
+turns_other {command = command} {old = old} {new = new} {r = r} k e l x b p =
     turns (rw e at (of_state (λ s. Tells (after s command) (said s command) old new r) k p))
-    (Console.other (λ i. l (e ∙ i)) (λ i. x (e ∙ i)))
+    (Console.other (λ i. l (e ∙ i)) (λ i. x (e ∙ i)) (λ i. b (e ∙ i)))
 
 pub turned : {s : State} {line old new : List ℕ} {r : Turn} → Turns (LineLeads s line) old new r → Keeping (Leads s line) r.console
 turned t = record { state = t.state; keeps = t.tells.keeps; is = record { bytes = t.bytes; leads = t.leads } }

@@ -1,8 +1,9 @@
 -- What the console answers to a line, and what is held after it.
-use Rattle.std.specs.Prelude.{ℕ, List, [], ◌≡◌, length, Option, None, Some, Result, Ok, Err}
+use Rattle.std.specs.Prelude.{ℕ, ◌+◌, List, [], ◌≡◌, length, Option, None, Some, Result, Ok, Err}
 use denote.Ref.{Bor}
 use Rattle.base.specs.Text.{text, Put}
 use Rattle.rules.specs.Answers.{no_such_office, Answer, Accepted}
+use Rattle.rules.specs.District.{resources_of}
 use Rattle.rules.specs.File.{longest_file}
 use Rattle.rules.specs.Lists as Lists
 use Rattle.rules.specs.Lists.{ExportTo}
@@ -17,9 +18,9 @@ use Rattle.rules.specs.declared.Unit.{Unit}
 use Rattle.rules.specs.declared.refusals.Refusal.{Refusal}
 use Rattle.rules.specs.declared.refusals.Refusal.TheVariants.{NoSuchOffice}
 use Rattle.station.specs.Kept.{office_in}
-use Rattle.command.specs.Reading.{path_of, command_in}
+use Rattle.command.specs.Reading.{path_of, row_in, command_in}
 use Rattle.command.specs.declared.Command.{Command}
-use Rattle.command.specs.declared.Command.TheVariants.{Nothing, Unknown, Load, Export, Alter, Show, Points, Page, Why, Send, Roughness, Office, Queue, Step}
+use Rattle.command.specs.declared.Command.TheVariants.{Nothing, Unknown, Load, Export, Alter, Show, Points, Page, Why, Send, Roughness, Office, Queue, Step, Blocks}
 use Rattle.listing.specs.Listing.{shown, refusal, done, valued, explained, told, stepped, failed}
 use Rattle.pages.specs.Printed.{page_held}
 use Rattle.desk.specs.Kept.{KeepsDesk}
@@ -53,7 +54,7 @@ answered s e = answer_to s.desk e
 abbrev pub happened : State → Event → State
 happened s e = state_of (desk_by s.desk e) s.office
 
--- ---- commands without a file; a load and an export have theirs below
+-- ---- commands without a file; a load, an export and blocks have theirs below
 
 -- of an office what is printed of its unit
 abbrev pub printed_for : Option Which → (Unit → List ℕ) → Both Held → List ℕ
@@ -79,6 +80,7 @@ said s Roughness = told (roughness_for (office_of s.office) s.desk.held)
 said s (Office n) = text "ok\n"
 said s (Queue n e) = done (answered s (queueing s n e))
 said s Step = stepped (step_of s.desk).console (answered s Desks.Step)
+said s Blocks = []
 
 -- any number can be named; a call then tells whether an office has it
 unfoldable pub after : State → Command → State
@@ -96,6 +98,29 @@ after s Roughness = s
 after s (Office n) = state_of s.desk n
 after s (Queue n e) = happened s (queueing s n e)
 after s Step = happened s Desks.Step
+after s Blocks = s
+
+-- ---- blocks: the line says a row, with a part for each resource of the tables that both offices share, or it is no command
+
+abbrev pub choosing : State → List ℕ → Event
+choosing s row = asking s (Plan (Lists.ChooseBlocks row))
+
+unfoldable pub said_row : State → Option (List ℕ) → List ℕ
+said_row s None = text "unknown command\n"
+said_row s (Some row) = done (answered s (choosing s row))
+
+unfoldable pub after_row : State → Option (List ℕ) → State
+after_row s None = s
+after_row s (Some row) = happened s (choosing s row)
+
+abbrev pub row_for : State → List ℕ → Option (List ℕ)
+row_for s line = row_in (2 + resources_of s.desk.held.first.unit.district) line
+
+abbrev pub said_blocks : State → List ℕ → List ℕ
+said_blocks s line = said_row s (row_for s line)
+
+abbrev pub after_blocks : State → List ℕ → State
+after_blocks s line = after_row s (row_for s line)
 
 -- ---- commands with a file: what the file held, and whether one could be written, no contract can tell
 
@@ -125,8 +150,9 @@ pub data Exports (s : State) (path : List ℕ) : State → List ℕ → Type 0 w
 pub data LineLeads (s : State) (line : List ℕ) : State → List ℕ → Type 0 where
   load : {t : State} {bs : List ℕ} → command_in line ≡ Load → Loads s (path_of line) t bs → LineLeads s line t bs
   export : {t : State} {bs : List ℕ} → command_in line ≡ Export → Exports s (path_of line) t bs → LineLeads s line t bs
+  blocks : command_in line ≡ Blocks → LineLeads s line (after_blocks s line) (said_blocks s line)
   other :
-      ¬ (command_in line ≡ Load) → ¬ (command_in line ≡ Export)
+      ¬ (command_in line ≡ Load) → ¬ (command_in line ≡ Export) → ¬ (command_in line ≡ Blocks)
       → LineLeads s line (after s (command_in line)) (said s (command_in line))
 
 -- ---- and in the console

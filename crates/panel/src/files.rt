@@ -45,8 +45,8 @@ fn new_name(path: &[u8]) -> ArrayVec<u8, LONGEST_NAME>
 // How many letters or digits stand for the X's.
 const LETTERS: usize = 6;
 
-// A name has room in as many bytes.
-const LONGEST_NAME: usize = 4096;
+// A name has room in as many bytes: what is kept of a line, a point and the letters.
+const LONGEST_NAME: usize = crate::KEPT + 1 + LETTERS;
 
 // As many names are tried as C's `mkstemp` tries.
 const MOST_NAMES: usize = 62 * 62 * 62;

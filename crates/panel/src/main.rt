@@ -15,7 +15,7 @@ ghost use Rattle.rules.specs.Offices.{Held};
 ghost use Rattle.rules.specs.Stations.{Both};
 ghost use Rattle.station.specs.Kept.{KeepsBoth};
 ghost use Rattle.desk.specs.Kept.{KeepsDesk};
-ghost use Rattle.panel.specs.Console.{State, start as Console·start, state_of, printed, said, after, Loads, Exports, LineLeads, KeepsState, turn, UnitNamed, Tells, Turns};
+ghost use Rattle.panel.specs.Console.{State, start as Console·start, state_of, printed, said, after, Loads, Exports, LineLeads, after_blocks, said_blocks, KeepsState, turn, UnitNamed, Tells, Turns};
 ghost use Rattle.panel.specs.Lines.{kept_bytes, keeping, ByEvents, Answered, Fed};
 
 use arrayvec::ArrayVec;
@@ -25,6 +25,7 @@ use files::Failure;
 use input::MOST_READ;
 use output::Output;
 use pages::LONGEST_PAGE;
+use rules::places::RESOURCE_COUNT;
 use rules::records::LONGEST_FILE;
 use rules::{Refusal, Unit, Waiting, Which};
 use std::io;
@@ -88,8 +89,8 @@ fn page(c: &Console, out: &mut [u8; LONGEST_PAGE]) -> usize
     }
 }
 
-// Load and export are answered by respond, which has the path: a type of the commands but for these two would have the other
-// twelve once more.
+// Load, export and blocks are answered by respond, which has the line: a type of the commands but for these three would have
+// the other twelve once more.
 fn obey(c: &mut Console, command: Command, out: &mut [u8; LONGEST_PAGE]) -> usize
     ensures { (h : Desks.Desk) → KeepsDesk c.old.desk h → Tells (after (state_of h c.old.office) command) (said (state_of h c.old.office) command) out.old out.new (turn c.new result) }
 {
@@ -125,6 +126,22 @@ fn obey(c: &mut Console, command: Command, out: &mut [u8; LONGEST_PAGE]) -> usiz
         Command::Nothing => 0,
         Command::Load => 0,
         Command::Export => 0,
+        Command::Blocks => 0,
+    }
+}
+
+// ---- blocks
+
+// The row has a part for each resource. Both offices have the same, so a line is read alike for both, and also where no
+// office has the number that calls name.
+fn choose(c: &mut Console, line: &[u8], out: &mut [u8; LONGEST_PAGE]) -> usize
+    requires { ByEvents c.old }
+    ensures { (h : Desks.Desk) → KeepsDesk c.old.desk h → Tells (after_blocks (state_of h c.old.office) line.now) (said_blocks (state_of h c.old.office) line.now) out.old out.new (turn c.new result) }
+{
+    let parts = station::own(&c.desk.station, Which::First).unit.district[RESOURCE_COUNT];
+    match command::row(line, 2 + parts) {
+        Some(row) => listing::put_done(out, desk::choose(&mut c.desk, c.office, row.as_slice())),
+        None => listing::put(out, b"unknown command\n"),
     }
 }
 
@@ -175,6 +192,7 @@ fn respond<H: Files + RandomSource>(
     match command::parse(line) {
         Command::Load => load(rt, c, command::path(line), out),
         Command::Export => export(rt, c, command::path(line), out),
+        Command::Blocks => choose(c, line, out),
         command => obey(c, command, out),
     }
 }

@@ -67,3 +67,7 @@ returns-in-Load c = λ h k. rw c.in-Load.is (silent k)
 pub returns-in-Export : goal.returns-in-Export
 unfolding said after
 returns-in-Export c = λ h k. rw c.in-Export.is (silent k)
+
+pub returns-in-Blocks : goal.returns-in-Blocks
+unfolding said after
+returns-in-Blocks c = λ h k. rw c.in-Blocks.is (silent k)
