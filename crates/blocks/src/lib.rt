@@ -124,7 +124,7 @@ impl<'a> Row<'a> {
 
     // ---- the tests
 
-    // Block b is not empty, and begins behind the one before it.
+    // Block b is not empty, and begins right behind the one before it.
     #[tactic(auto, using(base::proofs::Choice::picks), unfolding(rules::specs::Blocks::in_order))]
     fn in_order(&self, b: usize) -> bool
         requires { Block b }
@@ -149,7 +149,7 @@ impl<'a> Row<'a> {
             && self.end(count(self.ranged, self.choice)) == self.ranged.district[SEGMENT_COUNT]
     }
 
-    // The parts of resource r are no more than its limit: each is taken from what those before it leave.
+    // The parts of resource r add to no more than its limit: each is taken from what those before it leave.
     fn parts_fit(&self, r: usize) -> bool
         requires { (1 ≤ r) × (r ≤ resources_of self.now.ranged.district.now) }
         ensures { result ≡ parts_fit self.now.choice.now self.now.ranged.district.now r }

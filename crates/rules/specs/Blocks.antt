@@ -16,11 +16,12 @@ use Rattle.rules.specs.declared.Programme.{Programme}
 abbrev pub most_blocks : ℕ
 most_blocks = 4
 
--- as many numbers as that many blocks of a district with all resources take
+-- as many numbers as that many blocks take in a district with the most resources
 abbrev pub choice_places : ℕ
 choice_places = most_blocks * (2 + most_resources)
 
--- what is kept of a row: its whole length, and so many of its numbers from the first on, with zeros behind a shorter row
+-- what is kept of a row: its whole length, and so many of its numbers from the first on, with zeros behind a shorter row; a longer one is of more than
+-- four blocks, or not of whole ones
 unfoldable pub choice_of : List ℕ → Choice
 choice_of row = record { length = length row; numbers = take choice_places (row ++ replicate choice_places 0) }
 
@@ -64,7 +65,7 @@ module _ (x : Choice) (d : District) where
   unfoldable pub is_row : Bool
   is_row = eqb (per_block * blocks_in) x.length && between 1 most_blocks blocks_in
 
-  -- block b is not empty, and begins behind the one before it
+  -- block b is not empty, and begins with the segment right behind the block before it, the first with segment 1
   unfoldable pub in_order : ℕ → Bool
   in_order b = leb (first_of b) (last_of b) && eqb (first_of b) (end_of (b - 1) + 1)
 
@@ -75,7 +76,7 @@ module _ (x : Choice) (d : District) where
   unfoldable pub part_in : ℕ → ℕ → ℕ
   part_in r b = part_of b r
 
-  -- the parts of resource r are no more than its limit
+  -- the parts of resource r add to no more than its limit
   unfoldable pub parts_fit : ℕ → Bool
   parts_fit r = leb (sum blocks_in (part_in r)) (limit_of d r)
 
@@ -126,14 +127,15 @@ module _ (x : Choice) (d : District) where
   joined zero = replicate most_segments 0
   joined (suc b) = take (end_of b) (joined b) ++ drop (end_of b) (block_list (suc b))
 
-  -- in place of phase 1 of the district
+  -- in place of phase 1 of the district; its steps are those of all blocks together
   unfoldable pub by_blocks : Run (List ℕ)
   by_blocks = record { last = joined blocks_in; count = sum blocks_in block_steps }
 
-  -- where phases 2 and 3 of the district begin
+  -- where phases 2 and 3 of the district begin: where the blocks are not followed, behind its own phase 1, as in the ordinary plan
   unfoldable pub begun : Run (List ℕ)
   begun = pick followed by_blocks (reduced (table_of d) (leader_of d))
 
+  -- all but the steps is the district's own
   unfoldable pub programme_by : Programme
   programme_by = programme_from (table_of d) (leader_of d) begun
 

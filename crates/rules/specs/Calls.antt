@@ -64,7 +64,7 @@ edited d (SetLimit r limit) = with_limit d r limit
 edited d (SetRating i k rating) = with_rating d i k rating
 edited d (SetLeader i leader) = with_leader d i leader
 
--- ---- the calls that change the district
+-- ---- the calls after which the plan is worked out
 
 -- the district that a file loads as, where it loads
 unfoldable pub loaded_of : Read → District

@@ -78,7 +78,7 @@ pub record ByTheRules (cs : List Call) : Type 0 where
   pub programme : show_of (unit_after cs) ≡ programme_by (choice_after cs) (district_after cs)
   pub finished :
       Finished (table_of (district_after cs)) (leader_of (district_after cs)) (begun (choice_after cs) (district_after cs))
-  -- so it is of each block, whether it is followed or not
+  -- so do those of each block by itself, be the choice followed or not
   pub blocks :
       (b : ℕ)
       → Finished (block_table (choice_after cs) (district_after cs) b) (leader_of (block_district (choice_after cs) (district_after cs) b))

@@ -47,8 +47,9 @@ district_from d (c ∷ cs) = district_from (accepting (refusal_of d c) (altered 
 unfoldable pub district_after : List Call → District
 district_after cs = district_from fresh_district cs
 
--- ---- and which blocks they choose, until the next load (document 02, request 13)
+-- ---- and which blocks they choose, until the next load that is not refused (document 02, request 13)
 
+-- after a call that is not refused
 unfoldable pub chosen : Choice → Call → Choice
 chosen x (Load file) = no_blocks
 chosen x (Alter e) = x

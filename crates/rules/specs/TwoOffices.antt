@@ -7,9 +7,10 @@ use Rattle.base.specs.Same.{same}
 use Rattle.rules.specs.District.{District, most_segments, most_strategies, most_distresses, most_pavements, most_resources, per_strategy, per_pavement, per_segment, district_places, is_shared, shared_from, shared_tables, same_tables}
 use Rattle.rules.specs.Plan.{no_programme}
 use Rattle.rules.specs.Meter.{size_of, is_reading, reading_of, silence, sent_refusal, heard_with, hearing, sum_of, mean_reaches, mays_points, roughness_refusal, points_unless, roughness_of, points_at}
+use Rattle.rules.specs.Blocks.{choice_of}
 use Rattle.rules.specs.Lists.{Load, Alter, ChooseBlocks, ExportTo, Show, AskWhy}
 use Rattle.rules.specs.Offices.{Held, OfficeCall, Plan, Send, AskRoughness, fresh_held, office_refusal, lent_bytes, office_outcome}
-use Rattle.rules.specs.Stations.{other, office_number, Both, StationCall, call_of, fresh_both, brings_tables, tables_refusal, refusal_beside, held_beside, station_refusal, concluded, station_outcome, station_from, station_after, without}
+use Rattle.rules.specs.Stations.{other, office_number, Both, StationCall, call_of, fresh_both, brings_tables, tables_refusal, refusal_beside, held_beside, station_refusal, concluded, station_outcome, station_from, station_after, districts_by, districts_from, choices_by, choices_from, choices_after, without}
 use Rattle.rules.specs.StationDemands.{nothing_more, programme, reason, points, Got, unit_tells, office_tells, gets, got_from, got_by, throughout, leaves_tables, not_in_use}
 use Rattle.rules.specs.Writer.{Segment, Roads, strategy, nothing_demanded, segment, barring, filled_up, file_of, file_with_leaders, district_of}
 use Rattle.rules.specs.Results.{holding, result_of}
@@ -213,6 +214,33 @@ pub one_chooses :
     ≡ (1 ∷ 0 ∷ []) ∷ (0 ∷ 1 ∷ []) ∷ (0 ∷ 0 ∷ []) ∷ []
 unfolding answers_to
 one_chooses = refl
+
+-- a choice stays over a load of the other office, and over one of its own that gets 17; an accepted one of its own ends it
+pub kept_over_loads :
+    map (λ c. steps (station_from both_halves (choose 2 (1 ∷ 2 ∷ 20 ∷ []) ∷ c ∷ [])))
+    (load 1 (file_of halves) ∷ load 2 (file_of longer) ∷ load 2 (file_of halves) ∷ [])
+    ≡ (0 ∷ 1 ∷ []) ∷ (0 ∷ 1 ∷ []) ∷ (0 ∷ 0 ∷ []) ∷ []
+unfolding answers_to
+kept_over_loads = refl
+
+-- new tables leave it to the other office
+pub kept_with_new_tables :
+    (station_from north_alone (choose 2 (1 ∷ 2 ∷ 9 ∷ []) ∷ load 1 (file_of longer) ∷ [])).second.unit.choice ≡ choice_of (1 ∷ 2 ∷ 9 ∷ [])
+unfolding answers_to
+kept_with_new_tables = refl
+
+-- what the calls of both say that each has chosen, by the length of the row: over the other's load and over one of its own that gets 17, and after
+-- an accepted one of its own
+abbrev chosen_in : List StationCall → List ℕ
+chosen_in cs = (choices_after cs).first.length ∷ (choices_after cs).second.length ∷ []
+
+abbrev loads_of_both : List StationCall
+loads_of_both =
+    load 1 (file_of north) ∷ load 2 (file_of south) ∷ choose 2 (1 ∷ 2 ∷ 9 ∷ []) ∷ load 1 (file_of south) ∷ load 2 (file_of longer) ∷ []
+
+pub chosen_by_each : map chosen_in (loads_of_both ∷ (loads_of_both ++ load 2 (file_of north) ∷ []) ∷ []) ≡ (0 ∷ 3 ∷ []) ∷ (0 ∷ 0 ∷ []) ∷ []
+unfolding answers_to choices_by choices_from choices_after districts_by districts_from
+chosen_by_each = refl
 
 -- ---- how office w changes an answer to the other
 

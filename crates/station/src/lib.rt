@@ -121,7 +121,7 @@ pub fn alter(s: &mut Station, n: usize, e: Edit) -> Answer
     office::alter(own_mut(s, w), e)
 }
 
-// Blocks for the office's district, by a row of numbers, until its next load. No row is refused.
+// Blocks for the office's district, by a row of numbers, until its next accepted load. No row is refused.
 #[tactic(auto, using(crate::proofs::Numbers::naming, crate::proofs::Replies::nobody_plans))]
 pub fn choose(s: &mut Station, n: usize, row: &[usize]) -> Answer
     ensures { PlansBoth s.old n (ChooseBlocks row.now) (reply result s.new) }
