@@ -1,10 +1,9 @@
--- A district's leaders, and its table as lists at the places that Arrays gives its entries; and the shares that uses are of limits, at the places of the
--- uses.
-use Rattle.std.specs.Prelude.{ℕ, ◌≡◌, ◌+◌, ◌*◌, ◌/◌, ◌%◌, List, get_or}
+-- A district's leaders, and its table as lists at the places that Arrays gives its entries; and the shares that uses are of limits.
+use Rattle.std.specs.Prelude.{ℕ, ◌+◌, ◌*◌, ◌/◌, ◌%◌, List, get_or}
 use Rattle.base.specs.Over.{listed, listed_from}
 use Rattle.tables.specs.Arrays.{columns, entries, use_entries}
 use Rattle.rules.specs.District.{District, leader_of, most_segments, most_resources}
-use Rattle.rules.specs.Table.{candidate_benefit, usage_in, limit_in}
+use Rattle.rules.specs.Table.{Table, candidate_benefit, usage_in, limit_in}
 
 unfoldable pub leader_list : District → List ℕ
 leader_list d = listed most_segments (leader_of d)
@@ -24,15 +23,10 @@ usage_list d = listed_from use_entries 0 (usage_entry d)
 unfoldable pub limit_list : District → List ℕ
 limit_list d = listed most_resources (limit_in d)
 
--- ---- shares of uses u and limits l, as a quotient q rounds them
+-- ---- shares as a quotient q rounds them: of a table, and of uses u and limits l at place n
 
--- 0 of 0, and by 0
-pub record Quotient (q : ℕ → ℕ → ℕ) : Type 0 where
-  pub of_none : (b : ℕ) → q 0 b ≡ 0
-  pub by_none : (a : ℕ) → q a 0 ≡ 0
+abbrev pub share_by : (ℕ → ℕ → ℕ) → Table → ℕ → ℕ → ℕ → ℕ
+share_by q t i j r = q (t.usage i j r * 10_000) (t.limit r)
 
 unfoldable pub share_entry : (ℕ → ℕ → ℕ) → List ℕ → List ℕ → ℕ → ℕ
 share_entry q u l n = q (get_or u n 0 * 10_000) (get_or l (n % most_resources) 0)
-
-unfoldable pub share_list : (ℕ → ℕ → ℕ) → List ℕ → List ℕ → List ℕ
-share_list q u l = listed_from use_entries 0 (share_entry q u l)

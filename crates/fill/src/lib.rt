@@ -1,16 +1,19 @@
-// The arrays that the phases and the ceiling read, filled once for a plan from a district. What has an entry for each
-// segment and strategy is filled for the district's own segments: the arrays are zeros before, and what the district does
+// The arrays that the phases and the ceiling read: a district's leaders and its table, filled once for a plan, and the table's
+// shares. Benefits and uses are filled for the district's own segments: the arrays are zeros before, and what the district does
 // not have counts 0. So it is asked of them: they are made of zeros, and to write the rest here would be to write it twice.
 #![tactic(auto)]
 
 ghost use Rattle.std.specs.Prelude.{◌≡◌, ℕ, ◌+◌, ◌-◌, ◌*◌, ◌/◌, ◌%◌, ◌^◌, ◌<◌, ◌≤◌, length, get_or, replicate};
 ghost use Rattle.base.specs.Over.{listed, listed_from};
 ghost use Rattle.tables.specs.Arrays.{columns, entries, use_entries};
-ghost use Rattle.rules.specs.District.{most_segments, most_resources};
+ghost use Rattle.tables.specs.Views.{table_in};
+ghost use Rattle.rules.specs.Ceiling.{down_share};
+ghost use Rattle.rules.specs.District.{most_resources};
+ghost use Rattle.rules.specs.Phases.{share};
 ghost use Rattle.rules.specs.Table.{usage_in};
 ghost use Rattle.rating.specs.Numbers.{Segment};
-ghost use Rattle.fill.specs.Filled.{Filled};
-ghost use Rattle.fill.specs.Lists.{leader_list, benefit_list, usage_list, limit_list, Quotient, share_entry, share_list};
+ghost use Rattle.fill.specs.Filled.{Filled, SharesBy};
+ghost use Rattle.fill.specs.Lists.{leader_list, benefit_list, usage_list, limit_list, share_by, share_entry};
 
 use rating::Ranged;
 use rules::District;
@@ -18,7 +21,7 @@ use rules::places::{
     LEADER, MOST_RESOURCES, MOST_SEGMENTS, RESOURCE_COUNT, SEGMENT_COUNT, STRATEGY_COUNT,
 };
 use std::array;
-use tables::{COLUMNS, ENTRIES, LimitList, Size, USE_ENTRIES, UsageTable, by_resource};
+use tables::{COLUMNS, ENTRIES, LimitList, Size, TableView, USE_ENTRIES, UsageTable, by_resource};
 
 // Each place of a list, counted from 0, gets what is made of its number. tables::by_resource has this loop for an array of its
 // own, from 1 on: its clauses are of numbers of resources, these of any list. A loop, since `fill_with` hands no number.
@@ -97,29 +100,42 @@ fn share<F: Fn(u64, u64) -> u64>(
 ) -> u64
     requires place { n < use_entries }
     requires callable { (a b : ℕ) → 0 < b → F.pre quotient.now a b }
-    ensures { (q : ℕ → ℕ → ℕ) → Quotient q → ((a b v : ℕ) → 0 < b → F.post quotient.now a b v → v ≡ q a b) → result ≡ share_entry q uses.entry.entries.now limits.entry.entries.now n }
+    ensures { (q : ℕ → ℕ → ℕ) → ((a : ℕ) → q a 0 ≡ 0) → ((a b v : ℕ) → 0 < b → F.post quotient.now a b v → v ≡ q a b) → result ≡ share_entry q uses.entry.entries.now limits.entry.entries.now n }
 {
     let u = uses.entries[n];
     let l = limits.entries[n % MOST_RESOURCES];
     if l == 0 { 0 } else { quotient(u * 10000, l) }
 }
 
-// The shares of all uses, of which those of segments past the last are 0.
+// The shares of a table's uses, rounded as the quotient is. What stands behind those of its last segment stays.
 fn fill_shares<F: Fn(u64, u64) -> u64>(
-    segments: usize,
-    uses: UsageTable<'_>,
-    limits: LimitList<'_>,
+    t: TableView<'_>,
     shares: &mut [u64; USE_ENTRIES],
     quotient: F,
 )
-    requires zeros { shares.old ≡ replicate use_entries 0 }
-    requires segments { segments ≤ most_segments }
-    requires past { (k : ℕ) → most_resources * (columns * segments) ≤ k → k < use_entries → get_or uses.entries.now k 0 ≡ 0 }
-    requires callable { (a b : ℕ) → 0 < b → F.pre quotient a b }
-    ensures { (q : ℕ → ℕ → ℕ) → Quotient q → ((a b v : ℕ) → 0 < b → F.post quotient a b v → v ≡ q a b) → shares.new ≡ share_list q uses.entry.entries.now limits.entry.entries.now }
+    requires { (a b : ℕ) → 0 < b → F.pre quotient a b }
+    ensures { (q : ℕ → ℕ → ℕ) → ((a : ℕ) → q a 0 ≡ 0) → ((a b v : ℕ) → 0 < b → F.post quotient a b v → v ≡ q a b) → SharesBy (share_by q) (table_in t.entry) shares.new }
 {
-    let end = MOST_RESOURCES * (COLUMNS * segments);
-    fill_each(&mut shares[..end], |n| share(uses, limits, n, &quotient));
+    let end = MOST_RESOURCES * (COLUMNS * t.size.segments);
+    fill_each(
+        &mut shares[..end],
+        |n| share(t.uses, t.limits, n, &quotient),
+    );
+}
+
+// The shares that phase 1 takes, rounded up. The array is lent, whatever it holds before: a plan has one for these and for the
+// ceiling's, one after the other, and zeroes no second one.
+pub fn fill_up_shares(t: TableView<'_>, shares: &mut [u64; USE_ENTRIES])
+    ensures { SharesBy share (table_in t.entry) shares.new }
+{
+    fill_shares(t, shares, |a, b| a.div_ceil(b));
+}
+
+// The shares that the ceiling takes, rounded down.
+pub fn fill_down_shares(t: TableView<'_>, shares: &mut [u64; USE_ENTRIES])
+    ensures { SharesBy down_share (table_in t.entry) shares.new }
+{
+    fill_shares(t, shares, |a, b| a / b);
 }
 
 // The arrays of one plan. Each is one of its own, though they hold entries of the same pairs: each is lent as a typed list to
@@ -130,8 +146,6 @@ pub struct Arrays {
     pub benefits: [u64; ENTRIES],
     pub uses: [u64; USE_ENTRIES],
     pub limits: [u64; MOST_RESOURCES],
-    pub shares: [u64; USE_ENTRIES],
-    pub downs: [u64; USE_ENTRIES],
 }
 
 impl Arrays {
@@ -141,38 +155,21 @@ impl Arrays {
         benefits: [0; ENTRIES],
         uses: [0; USE_ENTRIES],
         limits: [0; MOST_RESOURCES],
-        shares: [0; USE_ENTRIES],
-        downs: [0; USE_ENTRIES],
     };
 
     // Fills all of them: what is proved of code over these arrays is what the rules say of the district. They are lent: given
     // back by value they are copied, 1.2 million instructions of every plan: one of 16 segments takes 5.17 for 3.96, and its bar
     // is the reference's 4.16.
     pub fn fill(&mut self, d: Ranged<'_>) -> Size
-        requires { (self.old.benefits ≡ replicate entries 0) × (self.old.uses ≡ replicate use_entries 0) × (self.old.shares ≡ replicate use_entries 0) × (self.old.downs ≡ replicate use_entries 0) }
-        ensures { Filled d.entry.district.now result self.new.leaders self.new.benefits self.new.uses self.new.limits self.new.shares self.new.downs }
+        requires { (self.old.benefits ≡ replicate entries 0) × (self.old.uses ≡ replicate use_entries 0) }
+        ensures { Filled d.entry.district.now result self.new.leaders self.new.benefits self.new.uses self.new.limits }
     {
         self.leaders = leaders_of(d.district);
         fill_benefits(d, &mut self.benefits);
         fill_uses(d, &mut self.uses);
         self.limits = limits_of(d);
-        let segments = d.district[SEGMENT_COUNT];
-        let uses = UsageTable {
-            entries: &self.uses,
-        };
-        let limits = LimitList {
-            entries: &self.limits,
-        };
-        fill_shares(
-            segments,
-            uses,
-            limits,
-            &mut self.shares,
-            |a, b| a.div_ceil(b),
-        );
-        fill_shares(segments, uses, limits, &mut self.downs, |a, b| a / b);
         Size {
-            segments,
+            segments: d.district[SEGMENT_COUNT],
             strategies: d.district[STRATEGY_COUNT],
             resources: d.district[RESOURCE_COUNT],
         }

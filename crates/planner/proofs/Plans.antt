@@ -1,4 +1,4 @@
--- What filled arrays give the phases and the ceiling.
+-- What a table that arrays hold, and filled shares, give the phases and the ceiling.
 use Prim.Native.Nat.{ℕ, zero, suc, ◌≤◌}
 use mathlib.Core.Path.{◌≡◌, refl, ap}
 use mathlib.Core.Bool.{Bool, true, false}
@@ -6,69 +6,64 @@ use mathlib.Core.List.{List}
 use native.Mathlib.Omega.{arith}
 use borrow.Author.Tests.{leb-true, leb-false}
 use lib.Dec.{leb}
-use lib.ListN.{get_or}
+use lib.ListN.{get_or, length}
 use Rattle.rules.specs.District.{District, segments_of, strategies_of, resources_of}
 use Rattle.rules.specs.Table.{Table, table_of}
 use Rattle.rules.specs.Ceiling.{down_share, ceiling}
-use Rattle.rules.specs.Phases.{strategy_at, total, start, phase1, phase2, phase3}
+use Rattle.rules.specs.Phases.{strategy_at, share, total, start, phase1, phase2, phase3}
 use Rattle.rules.specs.Plan.{reduced, filled as filled_by, improved, ended, programme_from, programme_of}
 use Rattle.rules.specs.declared.Programme.{Programme}
 use Rattle.laws.specs.Tables.{FitAlone, OfCandidates}
 use Rattle.laws.proofs.Gives.{candidates_numbers}
 use Rattle.laws.proofs.Steps.{start_allowed}
 use Rattle.grammar.specs.Ranges.{Ranges}
-use Rattle.tables.specs.Arrays.{entry, use_entry, tables, benefit_at, Cell, Chosen}
+use Rattle.tables.specs.Arrays.{entry, use_entry, use_entries, tables, benefit_at, Chosen}
+use Rattle.tables.specs.Views.{table_in}
 use Rattle.tables.specs.declared.Size.{Size}
+use Rattle.tables.specs.declared.view.TableView.{TableView}
 use Rattle.tables.proofs.Arrays.{benefit_at_lem, cell_of}
-use Rattle.fill.specs.Filled.{Filled}
+use Rattle.fill.specs.Filled.{SharesBy}
 use Rattle.fill.proofs.Shares.{down_share_le}
 use Rattle.ceiling.specs.Prices.{In, Priced, Sized}
 use Rattle.phase1.specs.Reduce.{Shares}
-use Rattle.planner.specs.Alone.{Placed}
+use Rattle.planner.specs.Alone.{Holds, Placed}
 
--- the filled shares are the table's
-pub shares_of : {d : District} {z : Size} {ls b u l s e : List ℕ} → Filled d z ls b u l s e → Shares z b u l s
-shares_of filled =
-    record {
-      shares_are = λ i j r low high few from to. filled.shares i j r (cell_of filled.tabled.bounded i j low high few) from (omega (arith, filled.tabled.bounded.resources));
-    }
+-- the filled shares are those that phase 1 takes
+pub shares_of : {z : Size} {b u l s : List ℕ} → SharesBy share (tables z b u l) s → Shares z b u l s
+shares_of shares = record { shares_are = shares.each }
 
-module _ {d : District} (ranges : Ranges d) {z : Size} {ls b u l s e : List ℕ} (filled : Filled d z ls b u l s e) where
-  inside : {i j : ℕ} → In z i j → Cell i j
-  inside {i} {j} within = cell_of filled.tabled.bounded i j within.segment_from within.segment_to within.strategy_to
-
+module _ (t : TableView) {s : List ℕ} (shares : SharesBy down_share (table_in t) s) where
   -- the entry of a strategy is its benefit
-  entry_is : (i j : ℕ) → In z i j → get_or b (entry i j) 0 ≡ benefit_at b i j
-  entry_is i j within = benefit_at_lem filled.tabled.benefits i j (inside within)
+  entry_is : (i j : ℕ) → In t.size i j → get_or t.benefits.entries.now (entry i j) 0 ≡ benefit_at t.benefits.entries.now i j
+  entry_is i j within = benefit_at_lem t.benefits.held i j (cell_of t.bounded i j within.segment_from within.segment_to within.strategy_to)
 
-  down_is : (i j r : ℕ) → In z i j → 1 ≤ r → r ≤ z.resources → get_or e (use_entry i j r) 0 ≡ down_share (tables z b u l) i j r
-  down_is i j r within from to = filled.downs i j r (inside within) from (omega (arith, filled.tabled.bounded.resources))
+  down_is : (i j r : ℕ) → In t.size i j → 1 ≤ r → r ≤ t.size.resources → get_or s (use_entry i j r) 0 ≡ down_share (table_in t) i j r
+  down_is i j r within = shares.each i j r within.segment_from within.segment_to within.strategy_to
 
-  pub priced : Priced (table_of d) z b e
-  priced =
-      let held : Priced (tables z b u l) z b e = record { segments = refl; strategies = refl; resources = refl; benefits = entry_is; shares = down_is } in
-      rw filled.table at held
+  pub priced : Priced (table_in t) t.size t.benefits.entries.now s
+  priced = record { segments = refl; strategies = refl; resources = refl; benefits = entry_is; shares = down_is }
 
-  some_resource : 1 ≤ z.resources
-  unfolding table_of
-  some_resource =
-      let same : z.resources ≡ resources_of d = ap (λ (t : Table). t.resources) filled.table in
-      omega (arith, ranges.some_resource)
+  module _ {d : District} (ranges : Ranges d) (holds : Holds d t) where
+    some_resource : 1 ≤ t.size.resources
+    unfolding table_of
+    some_resource =
+        let same : t.size.resources ≡ resources_of d = ap (λ (t : Table). t.resources) holds.table in
+        omega (arith, ranges.some_resource)
 
-  pub sized : Sized z b e
-  sized =
-      record {
-        segments = filled.tabled.bounded.segments;
-        strategies = filled.tabled.bounded.strategies;
-        resources_from = some_resource;
-        resources_to = filled.tabled.bounded.resources;
-        benefits_length = filled.tabled.benefits.places;
-        shares_length = filled.downs_length;
-        benefit_small = filled.tabled.benefits.small;
-        share_small = λ i j r within worth from to.
-            rw (down_is i j r within from to)
-            (down_share_le (tables z b u l) filled.fit i j r within.segment_from within.segment_to within.strategy_from within.strategy_to from to (omega (arith, entry_is i j within, worth)));
-      }
+    pub sized : length s ≡ use_entries → Sized t.size t.benefits.entries.now s
+    sized long =
+        record {
+          segments = t.bounded.segments;
+          strategies = t.bounded.strategies;
+          resources_from = some_resource;
+          resources_to = t.bounded.resources;
+          benefits_length = t.benefits.held.places;
+          shares_length = long;
+          benefit_small = t.benefits.held.small;
+          share_small = λ i j r within worth from to.
+              rw (down_is i j r within from to)
+              (down_share_le (table_in t) holds.fit i j r within.segment_from within.segment_to within.strategy_from within.strategy_to from to (omega (arith, entry_is i j within, worth)));
+        }
 
 -- ---- the phases' results, put together
 
@@ -104,17 +99,17 @@ ended_by t leader e f g = rw (rw e at f) at g
 -- ---- where phases 2 and 3 go on
 
 -- the strategies of a programme that is placed are numbers of the arrays that hold the district
-pub chosen_of : {d : District} {z : Size} {ls b u l s e c : List ℕ} → Filled d z ls b u l s e → Placed (table_of d) c → Chosen z c
+pub chosen_of : {d : District} {t : TableView} {c : List ℕ} → Holds d t → Placed (table_of d) c → Chosen t.size c
 unfolding table_of
-chosen_of {d} {z} {c = c} filled placed = record { places = placed.candidates.places; numbers = number }
+chosen_of {d} {t} {c} holds placed = record { places = placed.candidates.places; numbers = number }
   where
-    same : z.strategies ≡ strategies_of d
-    same = ap (λ (t : Table). t.strategies) filled.table
+    same : t.size.strategies ≡ strategies_of d
+    same = ap (λ (t : Table). t.strategies) holds.table
 
-    from_one : (i : ℕ) → 1 ≤ i → (v : Bool) → leb i (segments_of d) ≡ v → strategy_at c i ≤ z.strategies
+    from_one : (i : ℕ) → 1 ≤ i → (v : Bool) → leb i (segments_of d) ≡ v → strategy_at c i ≤ t.size.strategies
     from_one i l true q = omega (arith, same, candidates_numbers (table_of d) c placed.candidates i l (leb-true i (segments_of d) q))
     from_one i l false q = omega (arith, placed.past i l (leb-false i (segments_of d) q))
 
-    number : (i : ℕ) → strategy_at c i ≤ z.strategies
+    number : (i : ℕ) → strategy_at c i ≤ t.size.strategies
     number zero = from_one 1 (omega arith) (leb 1 (segments_of d)) refl
     number (suc i) = from_one (suc i) (omega arith) (leb (suc i) (segments_of d)) refl

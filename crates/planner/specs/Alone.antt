@@ -8,14 +8,13 @@ use Rattle.rules.specs.Plan.{reduced, ended}
 use Rattle.laws.specs.Tables.{FitAlone, OfCandidates}
 use Rattle.tables.specs.Views.{table_in, leaders_in}
 use Rattle.tables.specs.declared.view.TableView.{TableView}
-use Rattle.phase1.specs.Views.{SharesIn}
 use Rattle.planner.specs.declared.Begun.{Begun}
 
--- the table is the district's, and the shares are the table's
-pub record Holds (d : District) (t : TableView) (shares : List ℕ) : Type 0 where
+-- the table and its leaders are the district's, and each candidate fits alone
+pub record Holds (d : District) (t : TableView) : Type 0 where
   pub table : table_in t ≡ table_of d
   pub leaders : leaders_in t ≡ leader_of d
-  pub fit : FitAlone (table_in t) × SharesIn t shares
+  pub fit : FitAlone (table_in t)
 
 -- the programme in which the phases end, and how many steps phase 1 made
 pub record Alone (t : Table) (leader : ℕ → ℕ) (p : Begun) : Type 0 where

@@ -95,7 +95,7 @@ fn phases_alone(t: TableView<'_>, shares: &[u64; USE_ENTRIES]) -> Begun
 // The table that the arrays hold: that of the district which they are filled from.
 fn table_in(size: Size, arrays: &Arrays) -> TableView<'_>
     requires { let a = arrays.now in Tabled size a.benefits a.uses a.limits × Leaders a.leaders }
-    ensures { let a = arrays.now in (d : District) → Filled d size a.leaders a.benefits a.uses a.limits a.shares a.downs → Holds d result a.shares }
+    ensures { let a = arrays.now in (d : District) → Filled d size a.leaders a.benefits a.uses a.limits → Holds d result }
 {
     TableView {
         size,
@@ -120,8 +120,13 @@ pub fn programme_of(d: Ranged<'_>) -> Programme
 {
     let mut arrays = Arrays::EMPTY;
     let size = arrays.fill(d);
-    let bound = ceiling::ceiling_of(size, &arrays.benefits, &arrays.downs);
-    phases(table_in(size, &arrays), &arrays.shares, bound)
+    let t = table_in(size, &arrays);
+    // One array of shares: the ceiling takes them rounded down, then phase 1 rounded up.
+    let mut shares = [0; USE_ENTRIES];
+    fill::fill_down_shares(t, &mut shares);
+    let bound = ceiling::ceiling_of(t.size, t.benefits.entries, &shares);
+    fill::fill_up_shares(t, &mut shares);
+    phases(t, &shares, bound)
 }
 
 // ---- a district in blocks
@@ -132,7 +137,10 @@ fn alone(d: Ranged<'_>) -> Begun
 {
     let mut arrays = Arrays::EMPTY;
     let size = arrays.fill(d);
-    phases_alone(table_in(size, &arrays), &arrays.shares)
+    let t = table_in(size, &arrays);
+    let mut shares = [0; USE_ENTRIES];
+    fill::fill_up_shares(t, &mut shares);
+    phases_alone(t, &shares)
 }
 
 // The programme of block b by itself.
@@ -170,13 +178,12 @@ fn go_on(d: Ranged<'_>, begun: &Begun) -> Programme
     let mut arrays = Arrays::EMPTY;
     let size = arrays.fill(d);
     let t = table_in(size, &arrays);
-    let draft = phase1::draft_of(size, t.uses, begun.strategies);
+    let mut downs = [0; USE_ENTRIES];
+    fill::fill_down_shares(t, &mut downs);
+    let bound = ceiling::ceiling_of(t.size, t.benefits.entries, &downs);
+    let draft = phase1::draft_of(t.size, t.uses, begun.strategies);
     let mut planning = Planning { t, draft };
-    finish(
-        &mut planning,
-        begun.steps,
-        ceiling::ceiling_of(size, &arrays.benefits, &arrays.downs),
-    )
+    finish(&mut planning, begun.steps, bound)
 }
 
 // The programme of a district in the file's ranges: where the choice of blocks is followed, on from theirs, else the ordinary one.
