@@ -4,7 +4,6 @@
 
 ghost use Rattle.std.specs.Prelude.{◌≡◌, ◌+◌, ◌++◌, ◌^◌, ◌<◌, ◌≤◌, take, drop};
 ghost use Rattle.laws.specs.Tables.{FitAlone};
-ghost use Rattle.phase1.specs.Views.{SharesIn};
 ghost use Rattle.rules.specs.Ceiling.{ceiling};
 ghost use Rattle.rules.specs.District.{District, most_segments, leader_of};
 ghost use Rattle.rules.specs.Plan.{programme_from, programme_of, no_programme};
@@ -66,26 +65,29 @@ fn finish(planning: &mut Planning<'_>, steps: u64, bound: u64) -> Programme
     }
 }
 
-// The three phases over a table one after another, with its ceiling beside them.
-fn phases(t: TableView<'_>, shares: &[u64; USE_ENTRIES], bound: u64) -> Programme
-    requires fit { FitAlone (table_in t) × SharesIn t shares.now }
+// The three phases over a table one after another, with its ceiling beside them. Phase 1's shares are put into a lent array.
+fn phases(t: TableView<'_>, shares: &mut [u64; USE_ENTRIES], bound: u64) -> Programme
+    requires fit { FitAlone (table_in t) }
     requires bound { bound ≡ ceiling (table_in t) }
     ensures { result ≡ programme_of (table_in t.entry) (leaders_in t.entry) }
 {
     let draft = phase1::start(t.size, t.leaders, t.benefits, t.uses);
     let mut planning = Planning { t, draft };
+    fill::fill_up_shares(t, shares);
     let steps = phase1::reduce(&mut planning, shares);
     finish(&mut planning, steps, bound)
 }
 
 // The three phases over a table by themselves: the programme that they end in.
-fn phases_alone(t: TableView<'_>, shares: &[u64; USE_ENTRIES]) -> Begun
-    requires { FitAlone (table_in t) × SharesIn t shares.now }
+fn phases_alone(t: TableView<'_>) -> Begun
+    requires { FitAlone (table_in t) }
     ensures { Alone (table_in t.entry) (leaders_in t.entry) result }
 {
     let draft = phase1::start(t.size, t.leaders, t.benefits, t.uses);
     let mut planning = Planning { t, draft };
-    let steps = phase1::reduce(&mut planning, shares);
+    let mut shares = [0; USE_ENTRIES];
+    fill::fill_up_shares(t, &mut shares);
+    let steps = phase1::reduce(&mut planning, &shares);
     phase2::pick_up(&mut planning);
     phase3::improve(&mut planning);
     let strategies = planning.draft.choice;
@@ -121,12 +123,11 @@ pub fn programme_of(d: Ranged<'_>) -> Programme
     let mut arrays = Arrays::EMPTY;
     let size = arrays.fill(d);
     let t = table_in(size, &arrays);
-    // One array of shares: the ceiling takes them rounded down, then phase 1 rounded up.
+    // One array of shares: the ceiling takes them rounded down, then phase 1 those rounded up.
     let mut shares = [0; USE_ENTRIES];
     fill::fill_down_shares(t, &mut shares);
     let bound = ceiling::ceiling_of(t.size, t.benefits.entries, &shares);
-    fill::fill_up_shares(t, &mut shares);
-    phases(t, &shares, bound)
+    phases(t, &mut shares, bound)
 }
 
 // ---- a district in blocks
@@ -137,10 +138,7 @@ fn alone(d: Ranged<'_>) -> Begun
 {
     let mut arrays = Arrays::EMPTY;
     let size = arrays.fill(d);
-    let t = table_in(size, &arrays);
-    let mut shares = [0; USE_ENTRIES];
-    fill::fill_up_shares(t, &mut shares);
-    phases_alone(t, &shares)
+    phases_alone(table_in(size, &arrays))
 }
 
 // The programme of block b by itself.

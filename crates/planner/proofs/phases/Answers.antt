@@ -1,11 +1,11 @@
 -- `planner::phases` meets its contract.
-use Rattle.planner.proofs.Plans.{start_held, reduced_from, from_reduced}
+use Rattle.planner.proofs.Plans.{shares_of, start_held, reduced_from, from_reduced}
 use Rattle.planner.proofs.phases.Goals as goal
 
 pub reduce-steps-requires : goal.reduce-steps-requires
 reduce-steps-requires c =
     let fit = c.requires.fit in
-    record { fit = fit.0; shares = fit.1; candidates = start_held _ _ fit.0 (c.start-draft.ensures.by_index _) }
+    record { fit = fit; shares = shares_of c.fill_up_shares.ensures; candidates = start_held _ _ fit (c.start-draft.ensures.by_index _) }
 
 pub finish-requires : goal.finish-requires
 finish-requires c = rw c.reduce-steps.ensures.same_table c.requires.bound

@@ -1,12 +1,12 @@
 -- `planner::phases_alone` meets its contract.
 use mathlib.Core.Path.{◌∙◌}
-use Rattle.planner.proofs.Plans.{start_held, reduced_from, ended_by}
+use Rattle.planner.proofs.Plans.{shares_of, start_held, reduced_from, ended_by}
 use Rattle.planner.proofs.phases_alone.Goals as goal
 
 pub reduce-steps-requires : goal.reduce-steps-requires
 reduce-steps-requires c =
     let fit = c.requires in
-    record { fit = fit.0; shares = fit.1; candidates = start_held _ _ fit.0 (c.start-draft.ensures.by_index _) }
+    record { fit = fit; shares = shares_of c.fill_up_shares.ensures; candidates = start_held _ _ fit (c.start-draft.ensures.by_index _) }
 
 pub returns : goal.returns
 returns c =
