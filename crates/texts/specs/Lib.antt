@@ -1,0 +1,12 @@
+pub mod Words
+pub mod Numbers
+pub mod Records
+pub mod Complaints
+pub mod Reading
+pub mod Printing
+pub mod Places
+pub mod Programs
+pub mod Results
+pub mod Packed
+pub mod Unpacked
+pub mod Promises

@@ -1,0 +1,153 @@
+-- docs/FILE.md, "The test card" and "The card with one thing changed": texts of the card's district and what pack prints for them, computed.
+use Rattle.std.specs.Prelude.{ℕ, ◌-◌, refl, eqb, length, take, set, replicate}
+use Prim.Native.String.{String}
+use mathlib.Core.List.{List, [], ◌∷◌, ◌++◌, map}
+use Rattle.base.specs.Choice.{pick}
+use Rattle.base.specs.Text.{text}
+use Rattle.rules.specs.Marked.{card}
+use Rattle.rules.specs.Converted.{card_led, card_up}
+use Rattle.rules.specs.Writer.{each}
+use Rattle.texts.specs.Results.{Pack, lines, printed_for, Exchange, ◌⇒◌, Agree}
+
+-- as unpack prints it, in the form without leaders
+abbrev pub card_lines : List String
+card_lines =
+    "district 2 2 2 1 1 1 # segments, strategies, years, distress types, pavement types, resources"
+    ∷ "limits 130"
+    ∷ "greatest 20"
+    ∷ "strategy 1000 5 80 40 # strategy 1"
+    ∷ "strategy 3000 15 90 70 # strategy 2"
+    ∷ "pavement 0 0 0 # pavement 1"
+    ∷ "segment 1 100 100 100 20 0 5 # segment 1"
+    ∷ "segment 1 100 100 200 20 0 15 # segment 2"
+    ∷ "end"
+    ∷ []
+
+-- and in the form with leaders, those of its two segments given
+abbrev pub led_lines : String → String → List String
+led_lines first second =
+    set
+    (set
+    (set card_lines 0 "led-district 2 2 2 1 1 1 # segments, strategies, years, distress types, pavement types, resources")
+    6 first)
+    7 second
+
+abbrev pub unled_lines : List String
+unled_lines = led_lines "segment 1 100 100 100 20 0 5 0 # segment 1" "segment 1 100 100 200 20 0 15 0 # segment 2"
+
+-- as an office might write it
+abbrev pub office_lines : List String
+office_lines =
+    "# Test card. Dollars in thousands."
+    ∷ "district  2 2 2  1 1 1      # 2 segments, 2 strategies, 2 years; cracking; asphalt; money"
+    ∷ ""
+    ∷ "limits    130"
+    ∷ "greatest  20                # cracking"
+    ∷ ""
+    ∷ "#         money  gain  left after 1 and 2 years"
+    ∷ "strategy  1000      5  80 40    # 1 seal"
+    ∷ "strategy  3000     15  90 70    # 2 overlay"
+    ∷ ""
+    ∷ "pavement  0  0 0            # asphalt: nothing is demanded"
+    ∷ ""
+    ∷ "#         type traffic environment  miles feet bars  cracking"
+    ∷ "segment   1    100     100          0100  20   0      5    # 1 Mill Road"
+    ∷ "segment   1    100     100          0200  20   0     15    # 2 River Road"
+    ∷ "end"
+    ∷ []
+
+abbrev pub card_text : List ℕ
+card_text = lines card_lines
+
+-- with tabs for spaces, with a carriage return before each line feed, and without the last line feed
+abbrev pub tabbed : List ℕ
+tabbed = map (λ b. pick (eqb b 32) 9 b) card_text
+
+abbrev pub carriage_returned : List ℕ
+carriage_returned = each (λ b. pick (eqb b 10) (13 ∷ 10 ∷ []) (b ∷ [])) card_text
+
+abbrev pub unended : List ℕ
+unended = lines (take 8 card_lines) ++ text "end"
+
+abbrev pub texts : List Exchange
+texts =
+    Pack card_text ⇒ card
+    ∷ Pack (lines unled_lines) ⇒ card_up
+    ∷ Pack (lines (led_lines "segment 1 100 100 100 20 0 5 0" "segment 1 100 100 200 20 0 15 1")) ⇒ card_led
+    ∷ Pack (lines office_lines) ⇒ card
+    ∷ Pack tabbed ⇒ card
+    ∷ Pack carriage_returned ⇒ card
+    ∷ Pack unended ⇒ card
+    -- the empty text, and two empty lines
+    ∷ Pack [] ⇒ lines ("line 1: the end is missing ('district' is due)" ∷ [])
+    ∷ Pack (10 ∷ 10 ∷ []) ⇒ lines ("line 3: the end is missing ('district' is due)" ∷ [])
+    -- no text, but a file; a byte order mark
+    ∷ Pack card ⇒ lines ("line 1: '????????????????????..' is not the word due ('district')" ∷ [])
+    ∷ Pack (239 ∷ 187 ∷ 191 ∷ card_text) ⇒ lines ("line 1: '???district' is not the word due ('district')" ∷ [])
+    -- a leader that is not below its segment
+    ∷ Pack (lines (led_lines "segment 1 100 100 100 20 0 5 1" "segment 1 100 100 200 20 0 15 0")) ⇒ lines ("line 7: 1 is not 0 to 0" ∷ [])
+    ∷ Pack (lines (led_lines "segment 1 100 100 100 20 0 5 0" "segment 1 100 100 200 20 0 15 2")) ⇒ lines ("line 8: 2 is not 0 to 1" ∷ [])
+    -- the longest text, and a byte more
+    ∷ Pack (card_text ++ replicate (65_536 - length card_text) 32) ⇒ card
+    ∷ Pack (card_text ++ replicate (65_537 - length card_text) 32) ⇒ lines ("the text is longer than 65536 bytes" ∷ [])
+    ∷ []
+
+pub texts_packed : Agree texts
+unfolding printed_for
+texts_packed = refl
+
+-- ---- the card with one thing changed
+
+-- with another n-th line
+abbrev pub with_line : ℕ → String → List ℕ
+with_line n line = lines (set card_lines (n - 1) line)
+
+abbrev pub changed : List Exchange
+changed =
+    -- the first line
+    Pack (with_line 1 "District 2 2 2 1 1 1") ⇒ lines ("line 1: 'District' is not the word due ('district')" ∷ [])
+    ∷ Pack (with_line 1 "led-district 2 2 2 1 1 1") ⇒ lines ("line 7: a number is missing (7 of 8)" ∷ [])
+    ∷ Pack (with_line 1 "district 3 2 2 1 1 1") ⇒ lines ("line 9: 'end' is not the word due ('segment')" ∷ [])
+    ∷ Pack (with_line 1 "district 1 2 2 1 1 1") ⇒ lines ("line 8: 'segment' is not the word due ('end')" ∷ [])
+    ∷ Pack (with_line 1 "district 2 2 2 1 1") ⇒ lines ("line 1: a number is missing (5 of 6)" ∷ [])
+    ∷ Pack (with_line 1 "district 65 2 2 1 1 one") ⇒ lines ("line 1: 65 is not 0 to 64" ∷ [])
+    -- limits: how numbers are written, and their range
+    ∷ Pack (with_line 2 "limits 130 131") ⇒ lines ("line 2: a number too many (1 are due)" ∷ [])
+    ∷ Pack (with_line 2 "limits 1000000000") ⇒ lines ("line 2: 1000000000 is not 0 to 999999999" ∷ [])
+    ∷ Pack (with_line 2 "limits 100000000000000000000") ⇒ lines ("line 2: '10000000000000000000..' is not a number" ∷ [])
+    ∷ Pack (with_line 2 "limits 99999999999999999999") ⇒ lines ("line 2: 99999999999999999999 is not 0 to 999999999" ∷ [])
+    ∷ Pack (with_line 2 "limits -99999999999999999999") ⇒ lines ("line 2: -99999999999999999999 is not 0 to 999999999" ∷ [])
+    ∷ Pack (with_line 2 "limits 00000000000000000130") ⇒ card
+    ∷ Pack (with_line 2 "limits 000000000000000000130") ⇒ lines ("line 2: '00000000000000000013..' is not a number" ∷ [])
+    ∷ Pack (with_line 2 "limits +130") ⇒ lines ("line 2: '+130' is not a number" ∷ [])
+    ∷ Pack (with_line 2 "limits 130.5") ⇒ lines ("line 2: '130.5' is not a number" ∷ [])
+    ∷ Pack (with_line 2 "limits -") ⇒ lines ("line 2: '-' is not a number" ∷ [])
+    ∷ Pack (with_line 2 "limits -0") ⇒ set card 14 0
+    -- greatest: a later range follows from it
+    ∷ Pack (with_line 3 "greatest 0") ⇒ lines ("line 3: 0 is not 1 to 50" ∷ [])
+    ∷ Pack (with_line 3 "greatest 0051") ⇒ lines ("line 3: 0051 is not 1 to 50" ∷ [])
+    ∷ Pack (with_line 3 "greatest 10") ⇒ lines ("line 8: 15 is not 0 to 10" ∷ [])
+    -- strategy: signed numbers, and the words due
+    ∷ Pack (with_line 4 "strategy 1000 206 80 40") ⇒ lines ("line 4: 206 is not -50 to 50" ∷ [])
+    ∷ Pack (with_line 4 "strategy 1000 -51 80 40") ⇒ lines ("line 4: -51 is not -50 to 50" ∷ [])
+    ∷ Pack (with_line 4 "strategy 1000 -06 80 40") ⇒ set card 31 250
+    ∷ Pack (with_line 4 "strategy 1000 5 101") ⇒ lines ("line 4: 101 is not 0 to 100" ∷ [])
+    ∷ Pack (with_line 4 "stratgy 1000 5 80 40") ⇒ lines ("line 4: 'stratgy' is not the word due ('strategy')" ∷ [])
+    -- what is wrong with a number comes before one too many
+    ∷ Pack (with_line 5 "strategy 3000 51 90 70 x") ⇒ lines ("line 5: 51 is not -50 to 50" ∷ [])
+    ∷ Pack (with_line 5 "strategy 3000 15 90 70 x") ⇒ lines ("line 5: a number too many (4 are due)" ∷ [])
+    -- segment: the bars, and a comment that ends a word
+    ∷ Pack (with_line 7 "segment 1 100 100 1.00 20 0 5") ⇒ lines ("line 7: '1.00' is not a number" ∷ [])
+    ∷ Pack (with_line 7 "segment 1 100 100 100 20 4 5") ⇒ lines ("line 7: 4 is not 0 to 3" ∷ [])
+    ∷ Pack (with_line 7 "segment 1 100 100 100 20 0 5#1") ⇒ card
+    -- the end
+    ∷ Pack (with_line 9 "end 0") ⇒ lines ("line 9: a number too many (0 are due)" ∷ [])
+    ∷ Pack (with_line 9 "") ⇒ lines ("line 10: the end is missing ('end' is due)" ∷ [])
+    ∷ Pack (lines (take 8 card_lines)) ⇒ lines ("line 9: the end is missing ('end' is due)" ∷ [])
+    ∷ Pack (lines (card_lines ++ "# thank you" ∷ [])) ⇒ card
+    ∷ Pack (lines (card_lines ++ "thank you" ∷ [])) ⇒ lines ("line 10: something follows the end" ∷ [])
+    ∷ []
+
+pub changed_packed : Agree changed
+unfolding printed_for
+changed_packed = refl
