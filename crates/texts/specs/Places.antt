@@ -1,13 +1,13 @@
 -- docs/FILE.md, "A refused file": where the first test is that a file does not meet, and what is printed of it.
 -- What refuses a record is asked of the file's own reading (rules/specs/File); here it is told where that is.
-use Rattle.std.specs.Prelude.{ℕ, zero, suc, ◌+◌, Bool, true, false, List, [], ◌∷◌, ◌++◌, eqb, length, take, drop, ℤ, Option, None, Some}
+use Rattle.std.specs.Prelude.{ℕ, zero, suc, ◌+◌, Bool, true, false, List, [], ◌∷◌, ◌++◌, eqb, ltb, length, take, drop, ℤ, Option, None, Some}
 use Rattle.base.specs.Bytes.{number_of}
 use Rattle.base.specs.Choice.{pick}
 use Rattle.base.specs.Text.{text, decimal}
 use Rattle.rules.specs.Answers.{cut_short, other_kind, other_length, out_of_range, bytes_follow}
 use Rattle.rules.specs.District.{District}
 use Rattle.rules.specs.File.{Read, refused, found, value, size, kind_in, read_record, form_in}
-use Rattle.rules.specs.Format.{field_at, present, slot_of, file_records, inside, Slot}
+use Rattle.rules.specs.Format.{field_at, present, slot_of, file_records, inside, Slot, plain_form}
 use Rattle.texts.specs.Numbers.{written, shown_in, least, most}
 use Rattle.texts.specs.Records.{name_of, due_before}
 use Rattle.texts.specs.Complaints.{not_in}
@@ -68,9 +68,13 @@ places_from form (suc m) n p d bs =
     or_behind (read_record d (slot_of form n) bs) p d (slot_of form n) bs
     (λ vs rest. places_from form m (n + 1) (p + pick (present d (slot_of form n)) 1 0) (d ++ vs) rest)
 
+-- the form that the first kind says; a file that ends before it is read as one without leaders
+unfoldable pub form_read : List ℕ → ℕ
+form_read bs = pick (ltb (length bs) 4) plain_form (form_in bs)
+
 -- nothing where no test refuses the file
 unfoldable pub place_in : List ℕ → Option Place
-place_in bs = places_from (form_in bs) file_records 0 1 [] bs
+place_in bs = places_from (form_read bs) file_records 0 1 [] bs
 
 -- ---- what is printed
 

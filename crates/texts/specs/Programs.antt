@@ -2,9 +2,9 @@
 use Rattle.std.specs.Prelude.{ℕ, ◌+◌, List, ◌++◌, Option, None, Some, Result, Ok, Err}
 use Rattle.listing.specs.Listing.{refusal}
 use Rattle.rules.specs.Calls.{district_in}
-use Rattle.rules.specs.File.{encode_as, form_in}
+use Rattle.rules.specs.File.{encode_as}
 use Rattle.texts.specs.Complaints.{longest_text, Complaint, complaint_text}
-use Rattle.texts.specs.Places.{Place, refusal_at, place_in, place_text}
+use Rattle.texts.specs.Places.{Place, refusal_at, form_read, place_in, place_text}
 use Rattle.texts.specs.Printing.{text_of}
 use Rattle.texts.specs.Reading.{Formed, read_text}
 
@@ -22,7 +22,7 @@ packed bs = file_or_complaint (read_text bs)
 
 -- the text in the form of its file, or the refusal as `plan` prints it and, in a line, its place
 abbrev pub text_or_place : Option Place → List ℕ → List ℕ
-text_or_place None bs = text_of (form_in bs) (district_in bs)
+text_or_place None bs = text_of (form_read bs) (district_in bs)
 text_or_place (Some place) bs = refusal (refusal_at place) ++ place_text place
 
 unfoldable pub unpacked : List ℕ → List ℕ

@@ -38,7 +38,7 @@ unfolding
     Complaints.quoted Complaints.quoted_due Complaints.not_in Complaints.fault_text Complaints.complaint_text
     Reading.read_numbers Reading.read_records Reading.form_in Reading.read_lines Reading.read_text
     Printing.numbers_text Printing.comment_of Printing.records_text Printing.text_of
-    Places.refusal_at Places.number_place Places.record_place Places.places_from Places.place_in Places.place_text
+    Places.refusal_at Places.number_place Places.record_place Places.places_from Places.form_read Places.place_in Places.place_text
     Programs.packed Programs.unpacked
 printed_for (Pack bs) = Programs.packed bs
 printed_for (Unpack bs) = Programs.unpacked bs

@@ -20,6 +20,9 @@ files =
     ∷ Unpack (with_byte 32 250) ⇒ lines (set card_lines 3 "strategy 1000 -6 80 40 # strategy 1")
     -- cut short
     ∷ Unpack [] ⇒ lines ("refused 1" ∷ "record 1 (district): the file ends within it" ∷ [])
+    -- one that ends before its first kind says no form
+    ∷ Unpack (take 3 card_up) ⇒ lines ("refused 1" ∷ "record 1 (district): the file ends within it" ∷ [])
+    ∷ Unpack (take 4 card_up) ⇒ lines ("refused 1" ∷ "record 1 (led-district): the file ends within it" ∷ [])
     ∷ Unpack (take 21 card) ⇒ lines ("refused 1" ∷ "record 3 (greatest): the file ends within it" ∷ [])
     ∷ Unpack (take 33 card) ⇒ lines ("refused 1" ∷ "record 4 (strategy 1): the file ends within it" ∷ [])
     ∷ Unpack (take 33 (with_byte 32 60)) ⇒ lines ("refused 1" ∷ "record 4 (strategy 1): the file ends within it" ∷ [])
