@@ -32,7 +32,7 @@ unfolding
     File.read_numbers File.read_record File.read_records File.decode_as File.decode File.number_bytes File.records_bytes File.encode_as
     Calls.loaded_of Calls.district_in
     Listing.named Listing.ended Listing.line Listing.refusal
-    Words.parts Words.lines_in Words.not_empty Words.words_of Words.lines_from Words.lines_of
+    Words.parts Words.lines_in Words.not_empty Words.words_in Words.words_of Words.lines_from Words.lines_of
     Numbers.has_minus Numbers.behind_minus Numbers.size_of Numbers.value_of Numbers.written
     Records.word_of Records.name_of Records.due_in
     Complaints.quoted Complaints.quoted_due Complaints.not_in Complaints.fault_text Complaints.complaint_text

@@ -46,9 +46,13 @@ not_empty [] = []
 not_empty ([] ∷ ps) = not_empty ps
 not_empty ((b ∷ bs) ∷ ps) = (b ∷ bs) ∷ not_empty ps
 
--- the words of a line: '#' ends what is read of it, blanks stand between words
+-- blanks stand between words
+unfoldable pub words_in : List ℕ → Words
+words_in bs = not_empty (parts is_blank bs)
+
+-- the words of a line: '#' ends what is read of it
 unfoldable pub words_of : List ℕ → Words
-words_of line = not_empty (parts is_blank (up_to comment_mark line))
+words_of line = words_in (up_to comment_mark line)
 
 -- ---- "Empty lines": a line without a word is passed over, and counts as a line
 

@@ -1,3 +1,5 @@
 // A district as text: how a text is read as a district, and a district printed as a text. See specs/, and docs/FILE.md, whose
 // sections they name.
 #![tactic(auto)]
+
+pub mod words;
