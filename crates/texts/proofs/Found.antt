@@ -1,5 +1,5 @@
 -- The place that the library's `position` finds.
-use Rattle.std.proofs.Common.{ℕ, ◌+◌, ◌≡◌, Bool, not, List, length, unwrap_or, position, arith}
+use Rattle.std.proofs.Common.{ℕ, ◌≡◌, Bool, not, List, length, unwrap_or, position, arith}
 use Rattle.std.specs.List.{position_or_len}
 use Rattle.std.proofs.lemmas.List.Sums.{prefix_len-le-length}
 

@@ -1,2 +1,3 @@
 pub mod Parts
 mod Found
+mod Digits

@@ -3,7 +3,7 @@ use Rattle.std.proofs.Common.{ℕ, suc, ◌+◌, ◌≤◌, ◌≡◌, Bool, tru
 use Rattle.std.specs.List.{position_or_len}
 use Rattle.base.specs.Choice.{pick}
 use Rattle.base.specs.Text.{up_to, on_from}
-use Rattle.texts.specs.Words.{Words, onto, parts, is_line_feed, is_blank, not_empty, words_in}
+use Rattle.texts.specs.Words.{onto, parts, is_line_feed, is_blank, not_empty, words_in}
 
 -- ---- parts
 

@@ -2,4 +2,5 @@
 // sections they name.
 #![tactic(auto)]
 
-pub mod words;
+mod numbers;
+mod words;

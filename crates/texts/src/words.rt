@@ -14,13 +14,19 @@ fn is_blank(byte: u8) -> bool
 fn blanks_in_front(bytes: &[u8]) -> usize
     ensures { result ≡ position_or_len (λ b. not (is_blank b)) bytes.now }
 {
-    bytes.iter().position(|b| !is_blank(*b)).unwrap_or(bytes.len())
+    bytes
+        .iter()
+        .position(|b| !is_blank(*b))
+        .unwrap_or(bytes.len())
 }
 
 fn before_blank(bytes: &[u8]) -> usize
     ensures { result ≡ position_or_len is_blank bytes.now }
 {
-    bytes.iter().position(|b| is_blank(*b)).unwrap_or(bytes.len())
+    bytes
+        .iter()
+        .position(|b| is_blank(*b))
+        .unwrap_or(bytes.len())
 }
 
 // The word that stands first, and what follows it.
@@ -48,5 +54,8 @@ pub fn next_line(bytes: &[u8]) -> Option<(&[u8], &[u8])>
     if bytes.is_empty() {
         return None;
     }
-    Some((text::up_to(bytes, b'\n'), text::drop(text::on_from(bytes, b'\n'), 1)))
+    Some((
+        text::up_to(bytes, b'\n'),
+        text::drop(text::on_from(bytes, b'\n'), 1),
+    ))
 }

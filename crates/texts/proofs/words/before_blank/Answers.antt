@@ -1,5 +1,5 @@
 -- `words::before_blank` meets its contract.
-use Rattle.std.proofs.Common.{◌∙◌, ap, not, length, unwrap_or, rules}
+use Rattle.std.proofs.Common.{◌∙◌, ap, length, unwrap_or, rules}
 use borrow.Author.Tests.{tests}
 use Rattle.std.proofs.lemmas.Iterator.{YieldsList-from_slice}
 use Rattle.std.proofs.lemmas.Iterator.Search.{position_from_yields_List}
