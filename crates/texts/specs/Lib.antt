@@ -9,4 +9,5 @@ pub mod Programs
 pub mod Results
 pub mod Packed
 pub mod Unpacked
+pub mod Found
 pub mod Promises

@@ -2,5 +2,8 @@
 // sections they name.
 #![tactic(auto)]
 
+mod faults;
 mod numbers;
+mod reading;
+mod records;
 mod words;

@@ -1,6 +1,6 @@
 // Words as numbers, and the numbers of a field as a text has them (specs/Numbers.antt).
-ghost use Rattle.std.specs.Prelude.{◌≡◌, ◌<◌, ◌^◌, IfSome, Some};
-ghost use Rattle.texts.specs.Numbers.{with_sign, has_minus, behind_minus, size_of, value_of, shown_in, in_field};
+ghost use Rattle.std.specs.Prelude.{◌≡◌, ◌<◌, ◌^◌, IfSome, Some, IsTrue, ◌<ℤ◌, pos};
+ghost use Rattle.texts.specs.Numbers.{with_sign, has_minus, behind_minus, size_of, value_of, shown_in, in_field, held_as};
 
 use rules::Field;
 
@@ -69,7 +69,20 @@ pub fn shown_in(f: Field, x: usize) -> i128
 }
 
 pub fn is_in(f: Field, v: i128) -> bool
-    ensures { result ≡ in_field f v }
+    ensures value { result ≡ in_field f v }
+    ensures few { IsTrue result → v <ℤ pos (2 ^ 64) }
 {
     shown_in(f, f.lo) <= v && v <= shown_in(f, f.hi)
+}
+
+// The district's number for one that a field may hold: a negative one is 256 more.
+pub fn held_as(v: i128) -> usize
+    requires { v <ℤ pos (2 ^ 64) }
+    ensures { result ≡ held_as v }
+{
+    if v < 0 {
+        usize::try_from(v + 256).unwrap_or(0)
+    } else {
+        v as usize
+    }
 }

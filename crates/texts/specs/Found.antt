@@ -1,0 +1,27 @@
+-- What the code finds, as the definitions have it.
+use Rattle.std.specs.Prelude.{ℕ, List, Result, Ok, Err}
+use Rattle.std.specs.Borrow.{Bor}
+use Rattle.texts.specs.Words.{Words, words_in}
+use Rattle.texts.specs.Complaints as C
+use Rattle.texts.specs.Reading.{Reading, wrong, found}
+use Rattle.texts.specs.declared.faults.Fault.{Fault}
+use Rattle.texts.specs.declared.faults.Fault.TheVariants.{OtherWord, NumberMissing, NoNumber, OutOfRange, NumberTooMany, BehindEnd, EndMissing}
+
+abbrev pub fault_in : Fault → C.Fault
+fault_in (OtherWord w kind) = C.OtherWord w.now kind
+fault_in (NumberMissing stand due) = C.NumberMissing stand due
+fault_in (NoNumber w) = C.NoNumber w.now
+fault_in (OutOfRange w lo hi) = C.OutOfRange w.now lo hi
+fault_in (NumberTooMany due) = C.NumberTooMany due
+fault_in BehindEnd = C.BehindEnd
+fault_in (EndMissing kind) = C.EndMissing kind
+
+-- with what follows it
+abbrev pub reading_in : {A R : Type 0} → Result A Fault → R → Reading C.Fault A R
+reading_in (Ok x) rest = found x rest
+reading_in (Err f) rest = wrong (fault_in f)
+
+-- a value, and the bytes whose words follow it
+abbrev pub reading_of : {A : Type 0} → Result (A × Bor (List ℕ)) Fault → Reading C.Fault A Words
+reading_of (Ok (x, rest)) = found x (words_in rest.now)
+reading_of (Err f) = wrong (fault_in f)

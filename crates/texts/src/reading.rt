@@ -1,0 +1,47 @@
+// Reading a text's records into a district (specs/Reading.antt).
+ghost use Rattle.std.specs.Prelude.{◌≡◌};
+ghost use Rattle.grammar.specs.Slots.{slot_in};
+ghost use Rattle.texts.specs.Words.{Words, words_in};
+ghost use Rattle.texts.specs.Numbers.{value_of};
+ghost use Rattle.texts.specs.Records.{is_due};
+ghost use Rattle.texts.specs.Reading.{read_value, read_number};
+ghost use Rattle.texts.specs.Found.{reading_in, reading_of};
+
+use crate::faults::Fault;
+use crate::{numbers, records, words};
+use grammar::Slot;
+use rules::{District, Field};
+
+// The district's number for a word, where one of the field is due.
+fn read_value<'a>(f: Field, word: &'a [u8]) -> Result<usize, Fault<'a>>
+    ensures { (ws : Words) → read_value f word.now (value_of word.now) ws ≡ reading_in result ws }
+{
+    let Some(v) = numbers::value(word) else {
+        return Err(Fault::NoNumber(word));
+    };
+    if !numbers::is_in(f, v) {
+        return Err(Fault::OutOfRange(word, numbers::shown_in(f, f.lo), numbers::shown_in(f, f.hi)));
+    }
+    Ok(numbers::held_as(v))
+}
+
+// The `n`-th number of the record, by the word that stands first, and what follows it in the line. A number that the district
+// has not is 0, and takes no word.
+fn read_number<'a>(
+    d: &District,
+    s: Slot,
+    n: usize,
+    line: &'a [u8],
+) -> Result<(usize, &'a [u8]), Fault<'a>>
+    ensures { read_number (is_due d.now (slot_in s) n) d.now (slot_in s) n (words_in line.now) ≡ reading_of result }
+{
+    if !records::is_due(d, s, n) {
+        return Ok((0, line));
+    }
+    let Some((word, rest)) = words::next(line) else {
+        let stand = records::due_before(d, s, n);
+        return Err(Fault::NumberMissing(stand, records::due_before(d, s, s.places)));
+    };
+    let x = read_value(grammar::field_at(d, s, n), word)?;
+    Ok((x, rest))
+}
