@@ -1,3 +1,4 @@
 pub mod Parts
 mod Found
 mod Digits
+pub mod Lines

@@ -1,6 +1,7 @@
 -- What the code finds, as the definitions have it.
-use Rattle.std.specs.Prelude.{ℕ, List, Result, Ok, Err}
+use Rattle.std.specs.Prelude.{ℕ, ◌≡◌, List, [], take, drop, Result, Ok, Err}
 use Rattle.std.specs.Borrow.{Bor}
+use Rattle.rules.specs.District.{District}
 use Rattle.texts.specs.Words.{Words, words_in}
 use Rattle.texts.specs.Complaints as C
 use Rattle.texts.specs.Reading.{Reading, wrong, found}
@@ -25,3 +26,8 @@ reading_in (Err f) rest = wrong (fault_in f)
 abbrev pub reading_of : {A : Type 0} → Result (A × Bor (List ℕ)) Fault → Reading C.Fault A Words
 reading_of (Ok (x, rest)) = found x (words_in rest.now)
 reading_of (Err f) = wrong (fault_in f)
+
+-- the numbers read stand at their places of the district, those before are as they were, and no word is left
+abbrev pub Finds : Reading C.Fault (List ℕ) Words → ℕ → ℕ → District → District → Result (Unit {0}) Fault → Type 0
+Finds read place places old d (Ok u) = (read ≡ found (take places (drop place d)) []) × (take place d ≡ take place old)
+Finds read place places old d (Err f) = read ≡ wrong (fault_in f)

@@ -1,11 +1,12 @@
 // Reading a text's records into a district (specs/Reading.antt).
-ghost use Rattle.std.specs.Prelude.{◌≡◌};
+ghost use Rattle.std.specs.Prelude.{◌≡◌, [], take};
+ghost use Rattle.grammar.specs.Places.{Ready};
 ghost use Rattle.grammar.specs.Slots.{slot_in};
 ghost use Rattle.texts.specs.Words.{Words, words_in};
 ghost use Rattle.texts.specs.Numbers.{value_of};
 ghost use Rattle.texts.specs.Records.{is_due};
-ghost use Rattle.texts.specs.Reading.{read_value, read_number};
-ghost use Rattle.texts.specs.Found.{reading_in, reading_of};
+ghost use Rattle.texts.specs.Reading.{read_value, read_number, read_numbers};
+ghost use Rattle.texts.specs.Found.{reading_in, reading_of, Finds};
 
 use crate::faults::Fault;
 use crate::{numbers, records, words};
@@ -44,4 +45,27 @@ fn read_number<'a>(
     };
     let x = read_value(grammar::field_at(d, s, n), word)?;
     Ok((x, rest))
+}
+
+// The numbers of the record, to their places of the district, by the words of the line behind its word. By a loop: a
+// chain's closure would write to the district, and of what it changes a proof knows nothing.
+fn read_numbers<'a>(
+    d: &mut District,
+    s: Slot,
+    place: usize,
+    line: &'a [u8],
+) -> Result<(), Fault<'a>>
+    requires { Ready (slot_in s) place }
+    ensures { Finds (read_numbers s.places (take place d.old) (slot_in s) 0 [] (words_in line.now)) place s.places d.old d.new result }
+{
+    let mut rest = line;
+    for i in 0..s.places {
+        let (x, next) = read_number(d, s, i, rest)?;
+        d[place + i] = x;
+        rest = next;
+    }
+    match words::next(rest) {
+        None => Ok(()),
+        Some(_) => Err(Fault::NumberTooMany(records::due_before(d, s, s.places))),
+    }
 }
