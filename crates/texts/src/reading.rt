@@ -5,7 +5,7 @@ ghost use Rattle.grammar.specs.Slots.{slot_in};
 ghost use Rattle.texts.specs.Words.{Words, words_in};
 ghost use Rattle.texts.specs.Numbers.{value_of};
 ghost use Rattle.texts.specs.Records.{is_due};
-ghost use Rattle.texts.specs.Reading.{read_value, read_number, read_numbers};
+ghost use Rattle.texts.specs.Reading.{read_value, read_number, read_numbers, read_line};
 ghost use Rattle.texts.specs.Found.{reading_in, reading_of, Finds};
 
 use crate::faults::Fault;
@@ -68,4 +68,19 @@ fn read_numbers<'a>(
         None => Ok(()),
         Some(_) => Err(Fault::NumberTooMany(records::due_before(d, s, s.places))),
     }
+}
+
+// The line of the record: its word, then its numbers.
+fn read_line<'a>(d: &mut District, s: Slot, place: usize, line: &'a [u8]) -> Result<(), Fault<'a>>
+    requires { Ready (slot_in s) place }
+    ensures { Finds (read_line (take place d.old) (slot_in s) (words_in line.now)) place s.places d.old d.new result }
+{
+    let kind = s.kind_number();
+    let Some((word, rest)) = words::next(line) else {
+        return Err(Fault::OtherWord(b"", kind));
+    };
+    if !records::is_word(word, kind) {
+        return Err(Fault::OtherWord(word, kind));
+    }
+    read_numbers(d, s, place, rest)
 }

@@ -1,5 +1,6 @@
 // The records of a text by their words, and which of their numbers the district has (specs/Records.antt).
 ghost use Rattle.std.specs.Prelude.{◌≡◌};
+ghost use Rattle.base.specs.Same.{same};
 ghost use Rattle.grammar.specs.Slots.{slot_in};
 ghost use Rattle.texts.specs.Records.{word_of, is_due, due_before};
 
@@ -21,6 +22,13 @@ pub fn word_of(kind: usize) -> &'static [u8]
         8 => b"led-district",
         _ => b"end",
     }
+}
+
+// Whether it is this word.
+pub fn is_word(word: &[u8], kind: usize) -> bool
+    ensures { result ≡ same word.now (word_of kind) }
+{
+    word == word_of(kind)
 }
 
 // Whether the district has the `n`-th number of the record.
