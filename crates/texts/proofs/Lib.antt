@@ -2,3 +2,4 @@ pub mod Parts
 mod Found
 mod Digits
 pub mod Lines
+pub mod Places
