@@ -3,3 +3,4 @@ mod Found
 mod Digits
 pub mod Lines
 pub mod Places
+pub mod Fronts
