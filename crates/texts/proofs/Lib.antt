@@ -4,3 +4,4 @@ mod Digits
 pub mod Lines
 pub mod Places
 pub mod Fronts
+mod Printed

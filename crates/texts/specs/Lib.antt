@@ -4,6 +4,7 @@ pub mod Records
 pub mod Complaints
 pub mod Reading
 pub mod Printing
+pub mod Pieces
 pub mod Places
 pub mod Programs
 pub mod Results

@@ -4,6 +4,7 @@
 
 mod faults;
 mod numbers;
+mod printing;
 mod reading;
 mod records;
 mod words;
