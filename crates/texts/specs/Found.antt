@@ -1,10 +1,11 @@
 -- What the code finds, as the definitions have it.
-use Rattle.std.specs.Prelude.{ℕ, ◌≡◌, List, [], take, drop, Result, Ok, Err}
+use Rattle.std.specs.Prelude.{ℕ, ◌+◌, ◌≡◌, List, [], take, drop, Result, Ok, Err}
 use Rattle.std.specs.Borrow.{Bor}
 use Rattle.rules.specs.District.{District}
-use Rattle.texts.specs.Words.{Words, words_in}
+use Rattle.texts.specs.Words.{Words, words_in, Line, is_line_feed, parts, lines_in, lines_from}
 use Rattle.texts.specs.Complaints as C
 use Rattle.texts.specs.Reading.{Reading, wrong, found}
+use Rattle.texts.specs.declared.remaining.Remaining.{Remaining}
 use Rattle.texts.specs.declared.faults.Fault.{Fault}
 use Rattle.texts.specs.declared.faults.Fault.TheVariants.{OtherWord, NumberMissing, NoNumber, OutOfRange, NumberTooMany, BehindEnd, EndMissing}
 
@@ -31,3 +32,13 @@ reading_of (Err f) = wrong (fault_in f)
 abbrev pub Finds : Reading C.Fault (List ℕ) Words → ℕ → ℕ → District → District → Result (Unit {0}) Fault → Type 0
 Finds read place places old d (Ok u) = (read ≡ found (take places (drop place d)) []) × (take place d ≡ take place old)
 Finds read place places old d (Err f) = read ≡ wrong (fault_in f)
+
+-- ---- the lines of a text that are still to be read
+
+-- those of them that have words
+abbrev pub lines_left : Remaining → List Line
+lines_left r = lines_from r.number (parts is_line_feed r.bytes.now)
+
+-- the number of the line behind the last
+abbrev pub behind : Remaining → ℕ
+behind r = r.number + lines_in r.bytes.now

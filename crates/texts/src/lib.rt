@@ -7,4 +7,5 @@ mod numbers;
 mod printing;
 mod reading;
 mod records;
+mod remaining;
 mod words;

@@ -1,7 +1,10 @@
 // The lines of a text, and the words of a line, one after another (specs/Words.antt).
-ghost use Rattle.std.specs.Prelude.{◌≡◌, ◌∷◌, [], not, MatchOption};
+ghost use Rattle.std.specs.Prelude.{◌≡◌, ◌∷◌, [], not, MatchOption, MatchResult};
 ghost use Rattle.std.specs.List.{position_or_len};
 ghost use Rattle.texts.specs.Words.{parts, is_line_feed, is_blank, words_in, words_of};
+ghost use Rattle.texts.specs.Found.{lines_left, behind};
+
+use crate::remaining::Remaining;
 
 fn is_blank(byte: u8) -> bool
     ensures { result ≡ is_blank byte }
@@ -58,4 +61,24 @@ pub fn next_line(bytes: &[u8]) -> Option<(&[u8], &[u8])>
         text::up_to(bytes, b'\n'),
         text::drop(text::on_from(bytes, b'\n'), 1),
     ))
+}
+
+impl<'a> Remaining<'a> {
+    // The next line that has words: its number, what is read of it, and the lines behind it. Where there is none, the number
+    // of the line behind the last.
+    pub fn next(self) -> Result<(usize, &'a [u8], Remaining<'a>), usize>
+        ensures { MatchResult result (λ r. (lines_left self.entry ≡ record { number = r.0; words = words_in r.1.now } ∷ lines_left r.2) × (behind r.2 ≡ behind self.entry)) (λ n. (lines_left self.entry ≡ []) × (n ≡ behind self.entry)) }
+    {
+        let mut bytes = self.bytes;
+        let mut number = self.number;
+        while let Some((line, following)) = next_line(bytes) {
+            let read = of_line(line);
+            bytes = following;
+            number += 1;
+            if next(read).is_some() {
+                return Ok((number - 1, read, Remaining { bytes, number }));
+            }
+        }
+        Err(number)
+    }
 }
