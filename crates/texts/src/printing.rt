@@ -1,7 +1,8 @@
 // What is told of a text and of a file, and a district's text, written to the front of a lent buffer, as listing's writers do.
-ghost use Rattle.std.specs.Prelude.{◌≡◌, ◌≤◌, ◌<◌, ◌^◌, length, nat_abs};
+ghost use Rattle.std.specs.Prelude.{◌≡◌, ◌≤◌, ◌<◌, ◌^◌, length, map, nat_abs};
 ghost use Rattle.base.specs.Text.{Put};
 ghost use Rattle.texts.specs.Numbers.{written};
+ghost use Rattle.texts.specs.Complaints.{plain};
 ghost use Rattle.texts.specs.Pieces.{sign_of, piece_text, pieces_text};
 
 // What stands in front of a number's digits.
@@ -24,7 +25,29 @@ pub fn put_written(out: &mut [u8], v: i128) -> usize
 #[derive(Clone, Copy)]
 pub enum Piece<'a> {
     Bytes(&'a [u8]),
+    // A word's bytes, '?' for each that is no plain letter.
+    Plain(&'a [u8]),
     Number(usize),
+}
+
+fn plain(byte: u8) -> u8
+    ensures { result ≡ plain byte }
+{
+    if (32..=126).contains(&byte) {
+        byte
+    } else {
+        b'?'
+    }
+}
+
+fn put_plain(out: &mut [u8], bytes: &[u8]) -> usize
+    requires { length (map plain bytes.now) ≤ length out.old }
+    ensures { Put (map plain bytes.now) out.old out.new result }
+{
+    for (i, byte) in bytes.iter().enumerate() {
+        out[i] = plain(*byte);
+    }
+    bytes.len()
 }
 
 pub fn put_piece(out: &mut [u8], piece: Piece) -> usize
@@ -33,6 +56,7 @@ pub fn put_piece(out: &mut [u8], piece: Piece) -> usize
 {
     match piece {
         Piece::Bytes(bytes) => listing::put(out, bytes),
+        Piece::Plain(bytes) => put_plain(out, bytes),
         Piece::Number(n) => listing::put_number(out, n),
     }
 }
