@@ -5,6 +5,8 @@ use Rattle.rules.specs.District.{District}
 use Rattle.texts.specs.Words.{Words, words_in, Line, is_line_feed, parts, lines_in, lines_from}
 use Rattle.texts.specs.Complaints as C
 use Rattle.texts.specs.Reading.{Reading, wrong, found}
+use Rattle.texts.specs.declared.faults.Complaint.{Complaint}
+use Rattle.texts.specs.declared.faults.Complaint.TheVariants.{TooLong, InLine}
 use Rattle.texts.specs.declared.remaining.Remaining.{Remaining}
 use Rattle.texts.specs.declared.faults.Fault.{Fault}
 use Rattle.texts.specs.declared.faults.Fault.TheVariants.{OtherWord, NumberMissing, NoNumber, OutOfRange, NumberTooMany, BehindEnd, EndMissing}
@@ -42,3 +44,14 @@ lines_left r = lines_from r.number (parts is_line_feed r.bytes.now)
 -- the number of the line behind the last
 abbrev pub behind : Remaining → ℕ
 behind r = r.number + lines_in r.bytes.now
+
+-- ---- records
+
+abbrev pub complaint_in : Complaint → C.Complaint
+complaint_in TooLong = C.TooLong
+complaint_in (InLine n f) = C.InLine n (fault_in f)
+
+-- as Finds, with the lines that are left
+abbrev pub FindsRecord : Reading C.Complaint (List ℕ) (List Line) → ℕ → ℕ → ℕ → District → District → Result Remaining Complaint → Type 0
+FindsRecord read last place places old d (Ok r) = (read ≡ found (take places (drop place d)) (lines_left r)) × ((take place d ≡ take place old) × (behind r ≡ last))
+FindsRecord read last place places old d (Err c) = read ≡ wrong (complaint_in c)

@@ -1,4 +1,6 @@
-// What may be wrong with a line of a text (specs/Complaints.antt), with its words as they stand in the text.
+// What may be wrong with a text (specs/Complaints.antt), with its words as they stand in it.
+
+// With a line.
 #[derive(Clone, Copy)]
 pub enum Fault<'a> {
     // A word, and the kind of the record whose word is due.
@@ -12,4 +14,11 @@ pub enum Fault<'a> {
     BehindEnd,
     // The kind of the record that is still due.
     EndMissing(usize),
+}
+
+// With a text: its length, or a line, by its number.
+#[derive(Clone, Copy)]
+pub enum Complaint<'a> {
+    TooLong,
+    InLine(usize, Fault<'a>),
 }

@@ -1,14 +1,17 @@
 // Reading a text's records into a district (specs/Reading.antt).
-ghost use Rattle.std.specs.Prelude.{◌≡◌, [], take};
+ghost use Rattle.std.specs.Prelude.{◌≡◌, ◌≤◌, ◌+◌, [], take, drop, replicate};
 ghost use Rattle.grammar.specs.Places.{Ready};
 ghost use Rattle.grammar.specs.Slots.{slot_in};
+ghost use Rattle.rules.specs.District.{district_places};
+ghost use Rattle.rules.specs.Format.{present};
 ghost use Rattle.texts.specs.Words.{Words, words_in};
 ghost use Rattle.texts.specs.Numbers.{value_of};
 ghost use Rattle.texts.specs.Records.{is_due};
-ghost use Rattle.texts.specs.Reading.{read_value, read_number, read_numbers, read_line};
-ghost use Rattle.texts.specs.Found.{reading_in, reading_of, Finds};
+ghost use Rattle.texts.specs.Reading.{read_value, read_number, read_numbers, read_line, read_record};
+ghost use Rattle.texts.specs.Found.{reading_in, reading_of, Finds, lines_left, behind, FindsRecord};
 
-use crate::faults::Fault;
+use crate::faults::{Complaint, Fault};
+use crate::remaining::Remaining;
 use crate::{numbers, records, words};
 use grammar::Slot;
 use rules::{District, Field};
@@ -83,4 +86,39 @@ fn read_line<'a>(d: &mut District, s: Slot, place: usize, line: &'a [u8]) -> Res
         return Err(Fault::OtherWord(word, kind));
     }
     read_numbers(d, s, place, rest)
+}
+
+// Zeros for the numbers of a record that the district has not.
+fn clear(d: &mut District, place: usize, places: usize)
+    requires { place + places ≤ district_places }
+    ensures { (take places (drop place d.new) ≡ replicate places 0) × (take place d.new ≡ take place d.old) }
+{
+    d[place..place + places].fill(0);
+}
+
+// The record, by the next line that has words, and the lines behind it. A record that the district has not takes no line.
+fn read_record<'a>(
+    d: &mut District,
+    s: Slot,
+    place: usize,
+    lines: Remaining<'a>,
+) -> Result<Remaining<'a>, Complaint<'a>>
+    requires { Ready (slot_in s) place }
+    ensures { FindsRecord (read_record (present (take place d.old) (slot_in s)) (behind lines.entry) (take place d.old) (slot_in s) (lines_left lines.entry)) (behind lines.entry) place s.places d.old d.new result }
+{
+    if !grammar::is_present(d, s) {
+        clear(d, place, s.places);
+        return Ok(lines);
+    }
+    let (number, line, rest) = match lines.next() {
+        Ok(found) => found,
+        Err(last) => {
+            let fault = Fault::EndMissing(s.kind_number());
+            return Err(Complaint::InLine(last, fault));
+        }
+    };
+    match read_line(d, s, place, line) {
+        Ok(()) => Ok(rest),
+        Err(fault) => Err(Complaint::InLine(number, fault)),
+    }
 }
