@@ -6,3 +6,4 @@ mod Passed
 pub mod Places
 pub mod Fronts
 mod Printed
+mod Told

@@ -1,8 +1,9 @@
 -- What the code prints, piece by piece, as the definitions have it.
-use Rattle.std.specs.Prelude.{ℕ, List, [], ◌∷◌, ◌++◌, map, ℤ, pos, negsuc}
-use Rattle.base.specs.Text.{decimal}
+use Rattle.std.specs.Prelude.{ℕ, List, [], ◌<◌, ◌^◌, nat_abs, ◌∷◌, ◌++◌, leb, length, map, ℤ, pos, negsuc}
+use Rattle.base.specs.Choice.{pick}
+use Rattle.base.specs.Text.{text, decimal}
 use Rattle.texts.specs.Numbers.{minus_sign}
-use Rattle.texts.specs.Complaints.{plain}
+use Rattle.texts.specs.Complaints.{plain, longest_quoted, Fault, OutOfRange}
 use Rattle.texts.specs.declared.printing.Piece.{Piece}
 use Rattle.texts.specs.declared.printing.Piece.TheVariants.{Bytes, Plain, Number}
 
@@ -19,3 +20,12 @@ piece_text (Number n) = decimal n
 unfoldable pub pieces_text : List Piece → List ℕ
 pieces_text [] = []
 pieces_text (p ∷ ps) = piece_text p ++ pieces_text ps
+
+-- behind the quoted bytes of a word
+abbrev pub dots : List ℕ → List ℕ
+dots w = pick (leb (length w) longest_quoted) [] (text "..")
+
+-- numbers of 64 bits stand in it
+abbrev pub Few : Fault → Type 0
+Few (OutOfRange w lo hi) = (nat_abs lo < 2 ^ 64) × (nat_abs hi < 2 ^ 64)
+Few f = Unit {0}

@@ -1,9 +1,13 @@
 // What is told of a text and of a file, and a district's text, written to the front of a lent buffer, as listing's writers do.
-ghost use Rattle.std.specs.Prelude.{◌≡◌, ◌≤◌, ◌<◌, ◌^◌, length, map, nat_abs};
+ghost use Rattle.std.specs.Prelude.{◌≡◌, ◌++◌, ◌≤◌, ◌<◌, ◌^◌, length, map, nat_abs};
 ghost use Rattle.base.specs.Text.{Put};
 ghost use Rattle.texts.specs.Numbers.{written};
-ghost use Rattle.texts.specs.Complaints.{plain};
-ghost use Rattle.texts.specs.Pieces.{sign_of, piece_text, pieces_text};
+ghost use Rattle.texts.specs.Complaints.{plain, not_in, fault_text};
+ghost use Rattle.texts.specs.Pieces.{sign_of, piece_text, pieces_text, dots, Few};
+ghost use Rattle.texts.specs.Found.{fault_in};
+
+use crate::faults::Fault;
+use crate::records;
 
 // What stands in front of a number's digits.
 fn sign_of(v: i128) -> &'static [u8]
@@ -70,4 +74,98 @@ pub fn put_pieces(out: &mut [u8], pieces: &[Piece]) -> usize
         at += put_piece(&mut out[at..], *piece);
     }
     at
+}
+
+// What stands behind the quoted bytes of a word.
+#[tactic(auto, unfolding(base::specs::Text::text))]
+fn dots(word: &[u8]) -> &'static [u8]
+    ensures { result.now ≡ dots word.now }
+{
+    if word.len() <= 20 { b"" } else { b".." }
+}
+
+// A range, behind what is not in it.
+fn put_not_in(out: &mut [u8], lo: i128, hi: i128) -> usize
+    requires room { length (not_in lo hi) ≤ length out.old }
+    requires few { (nat_abs lo < 2 ^ 64) × (nat_abs hi < 2 ^ 64) }
+    ensures { Put (not_in lo hi) out.old out.new result }
+{
+    put_pieces(
+        out,
+        &[
+            Piece::Bytes(b" is not "),
+            Piece::Bytes(sign_of(lo)),
+            Piece::Number(lo.unsigned_abs() as usize),
+            Piece::Bytes(b" to "),
+            Piece::Bytes(sign_of(hi)),
+            Piece::Number(hi.unsigned_abs() as usize),
+        ],
+    )
+}
+
+#[tactic(auto, using(base::proofs::Text::front_fits, listing::proofs::Pieces::second_fits, listing::proofs::Pieces::put_two))]
+fn put_out_of_range(out: &mut [u8], word: &[u8], lo: i128, hi: i128) -> usize
+    requires room { length (word.now ++ not_in lo hi) ≤ length out.old }
+    requires few { (nat_abs lo < 2 ^ 64) × (nat_abs hi < 2 ^ 64) }
+    ensures { Put (word.now ++ not_in lo hi) out.old out.new result }
+{
+    let at = listing::put(out, word);
+    at + put_not_in(&mut out[at..], lo, hi)
+}
+
+fn put_fault(out: &mut [u8], fault: Fault) -> usize
+    requires room { length (fault_text (fault_in fault)) ≤ length out.old }
+    requires few { Few (fault_in fault) }
+    ensures { Put (fault_text (fault_in fault.entry)) out.old out.new result }
+{
+    match fault {
+        Fault::OtherWord(word, kind) => put_pieces(
+            out,
+            &[
+                Piece::Bytes(b"'"),
+                Piece::Plain(text::take(word, 20)),
+                Piece::Bytes(dots(word)),
+                Piece::Bytes(b"' is not the word due ('"),
+                Piece::Bytes(records::word_of(kind)),
+                Piece::Bytes(b"')"),
+            ],
+        ),
+        Fault::NumberMissing(stand, due) => put_pieces(
+            out,
+            &[
+                Piece::Bytes(b"a number is missing ("),
+                Piece::Number(stand),
+                Piece::Bytes(b" of "),
+                Piece::Number(due),
+                Piece::Bytes(b")"),
+            ],
+        ),
+        Fault::NoNumber(word) => put_pieces(
+            out,
+            &[
+                Piece::Bytes(b"'"),
+                Piece::Plain(text::take(word, 20)),
+                Piece::Bytes(dots(word)),
+                Piece::Bytes(b"' is not a number"),
+            ],
+        ),
+        Fault::OutOfRange(word, lo, hi) => put_out_of_range(out, word, lo, hi),
+        Fault::NumberTooMany(due) => put_pieces(
+            out,
+            &[
+                Piece::Bytes(b"a number too many ("),
+                Piece::Number(due),
+                Piece::Bytes(b" are due)"),
+            ],
+        ),
+        Fault::BehindEnd => listing::put(out, b"something follows the end"),
+        Fault::EndMissing(kind) => put_pieces(
+            out,
+            &[
+                Piece::Bytes(b"the end is missing ('"),
+                Piece::Bytes(records::word_of(kind)),
+                Piece::Bytes(b"' is due)"),
+            ],
+        ),
+    }
 }
