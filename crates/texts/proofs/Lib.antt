@@ -3,6 +3,7 @@ mod Found
 mod Digits
 pub mod Lines
 mod Passed
+mod Taken
 pub mod Places
 pub mod Fronts
 mod Printed

@@ -53,5 +53,10 @@ complaint_in (InLine n f) = C.InLine n (fault_in f)
 
 -- as Finds, with the lines that are left
 abbrev pub FindsRecord : Reading C.Complaint (List ℕ) (List Line) → ℕ → ℕ → ℕ → District → District → Result Remaining Complaint → Type 0
-FindsRecord read last place places old d (Ok r) = (read ≡ found (take places (drop place d)) (lines_left r)) × ((take place d ≡ take place old) × (behind r ≡ last))
+FindsRecord read last place places old d (Ok r) = (read ≡ found (take places (drop place d)) (lines_left r)) × (take place d ≡ take place old) × (behind r ≡ last)
 FindsRecord read last place places old d (Err c) = read ≡ wrong (complaint_in c)
+
+-- all records
+abbrev pub records_in : District → Result (Unit {0}) Complaint → Reading C.Complaint District (List Line)
+records_in d (Ok u) = found d []
+records_in d (Err c) = wrong (complaint_in c)

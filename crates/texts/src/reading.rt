@@ -1,19 +1,20 @@
 // Reading a text's records into a district (specs/Reading.antt).
 ghost use Rattle.std.specs.Prelude.{◌≡◌, ◌≤◌, ◌+◌, [], take, drop, replicate};
 ghost use Rattle.grammar.specs.Places.{Ready};
-ghost use Rattle.grammar.specs.Slots.{slot_in};
+ghost use Rattle.grammar.specs.Slots.{form_number, slot_in};
 ghost use Rattle.rules.specs.District.{district_places};
-ghost use Rattle.rules.specs.Format.{present};
+ghost use Rattle.rules.specs.Format.{present, file_records};
 ghost use Rattle.texts.specs.Words.{Words, words_in};
 ghost use Rattle.texts.specs.Numbers.{value_of};
 ghost use Rattle.texts.specs.Records.{is_due};
-ghost use Rattle.texts.specs.Reading.{read_value, read_number, read_numbers, read_line, read_record};
-ghost use Rattle.texts.specs.Found.{reading_in, reading_of, Finds, lines_left, behind, FindsRecord};
+ghost use Rattle.texts.specs.Reading.{read_value, read_number, read_numbers, read_line, read_record, read_records};
+ghost use Rattle.texts.specs.Found.{reading_in, reading_of, Finds, lines_left, behind, FindsRecord, records_in};
 
 use crate::faults::{Complaint, Fault};
 use crate::remaining::Remaining;
 use crate::{numbers, records, words};
-use grammar::Slot;
+use grammar::{Form, Slot};
+use rules::records::RECORDS;
 use rules::{District, Field};
 
 // The district's number for a word, where one of the field is due.
@@ -120,5 +121,23 @@ fn read_record<'a>(
     match read_line(d, s, place, line) {
         Ok(()) => Ok(rest),
         Err(fault) => Err(Complaint::InLine(number, fault)),
+    }
+}
+
+// All records of the form, to the whole district, by the lines; then none that has words may follow. By a loop, as in
+// `read_numbers`. Each record starts where the one before it ends.
+fn read_records<'a>(form: Form, d: &mut District, lines: Remaining<'a>) -> Result<(), Complaint<'a>>
+    ensures { read_records (form_number form) (behind lines.entry) file_records 0 [] (lines_left lines.entry) ≡ records_in d.new result }
+{
+    let mut rest = lines;
+    let mut place = 0;
+    for n in 0..RECORDS {
+        let s = grammar::slot_at(form, n);
+        rest = read_record(d, s, place, rest)?;
+        place += s.places;
+    }
+    match rest.next() {
+        Ok((number, _, _)) => Err(Complaint::InLine(number, Fault::BehindEnd)),
+        Err(_) => Ok(()),
     }
 }
