@@ -1,8 +1,8 @@
 -- What is told of a line, as its pieces.
-use Rattle.std.proofs.Common.{ℕ, ◌≡◌, List, [], ◌∷◌, ◌++◌, take, map, append_assoc, append-nil, ap, ◌∙◌, ℤ, nat_abs}
+use Rattle.std.proofs.Common.{ℕ, ◌≡◌, List, [], ◌∷◌, ◌++◌, take, map, append_assoc, append-nil, sym, ap, ◌∙◌, ℤ, nat_abs}
 use Rattle.base.specs.Text.{text, decimal}
 use Rattle.texts.specs.Records.{word_of}
-use Rattle.texts.specs.Complaints.{plain, longest_quoted, quoted, quoted_due, not_in, fault_text, OtherWord, NoNumber, EndMissing}
+use Rattle.texts.specs.Complaints.{plain, longest_quoted, quoted, quoted_due, not_in, fault_text, complaint_text, Fault, InLine, OtherWord, NoNumber, EndMissing}
 use Rattle.texts.specs.Pieces.{dots, sign_of}
 use Rattle.texts.proofs.Printed.{written_as}
 
@@ -41,3 +41,8 @@ pub range_told :
 unfolding not_in
 range_told lo hi {s} {t} {m} {n} sl ml th nh =
     rw (append-nil (decimal n), written_as lo sl ml, written_as hi th nh) (ap (λ (l : List ℕ). text " is not " ++ l) (append_assoc s (decimal m) (text " to " ++ (t ++ decimal n))))
+
+-- a line's complaint in three
+pub in_line : (n : ℕ) (f : Fault) → complaint_text (InLine n f) ≡ (text "line " ++ (decimal n ++ text ": ")) ++ (fault_text f ++ text "\n")
+unfolding complaint_text text
+in_line n f = ap (λ (l : List ℕ). text "line " ++ l) (sym (append_assoc (decimal n) (text ": ") (fault_text f ++ text "\n")))

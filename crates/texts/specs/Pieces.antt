@@ -3,7 +3,7 @@ use Rattle.std.specs.Prelude.{ℕ, List, [], ◌<◌, ◌^◌, nat_abs, ◌∷�
 use Rattle.base.specs.Choice.{pick}
 use Rattle.base.specs.Text.{text, decimal}
 use Rattle.texts.specs.Numbers.{minus_sign}
-use Rattle.texts.specs.Complaints.{plain, longest_quoted, Fault, OutOfRange}
+use Rattle.texts.specs.Complaints.{plain, longest_quoted, Fault, OutOfRange, Complaint, TooLong, InLine}
 use Rattle.texts.specs.declared.printing.Piece.{Piece}
 use Rattle.texts.specs.declared.printing.Piece.TheVariants.{Bytes, Plain, Number}
 
@@ -29,3 +29,7 @@ dots w = pick (leb (length w) longest_quoted) [] (text "..")
 abbrev pub Few : Fault → Type 0
 Few (OutOfRange w lo hi) = (nat_abs lo < 2 ^ 64) × (nat_abs hi < 2 ^ 64)
 Few f = Unit {0}
+
+abbrev pub FewIn : Complaint → Type 0
+FewIn TooLong = Unit {0}
+FewIn (InLine n f) = Few f

@@ -2,11 +2,11 @@
 ghost use Rattle.std.specs.Prelude.{◌≡◌, ◌++◌, ◌≤◌, ◌<◌, ◌^◌, length, map, nat_abs};
 ghost use Rattle.base.specs.Text.{Put};
 ghost use Rattle.texts.specs.Numbers.{written};
-ghost use Rattle.texts.specs.Complaints.{plain, not_in, fault_text};
-ghost use Rattle.texts.specs.Pieces.{sign_of, piece_text, pieces_text, dots, Few};
-ghost use Rattle.texts.specs.Found.{fault_in};
+ghost use Rattle.texts.specs.Complaints.{plain, not_in, fault_text, complaint_text, TooLong, InLine};
+ghost use Rattle.texts.specs.Pieces.{sign_of, piece_text, pieces_text, dots, Few, FewIn};
+ghost use Rattle.texts.specs.Found.{fault_in, complaint_in};
 
-use crate::faults::Fault;
+use crate::faults::{Complaint, Fault};
 use crate::records;
 
 // What stands in front of a number's digits.
@@ -167,5 +167,43 @@ fn put_fault(out: &mut [u8], fault: Fault) -> usize
                 Piece::Bytes(b"' is due)"),
             ],
         ),
+    }
+}
+
+// The same as a line, with the line's number.
+fn put_in_line(out: &mut [u8], n: usize, fault: Fault) -> usize
+    requires room { length (complaint_text (InLine n (fault_in fault))) ≤ length out.old }
+    requires few { Few (fault_in fault) }
+    ensures { Put (complaint_text (InLine n (fault_in fault.entry))) out.old out.new result }
+{
+    let mut at = put_pieces(
+        out,
+        &[
+            Piece::Bytes(b"line "),
+            Piece::Number(n),
+            Piece::Bytes(b": "),
+        ],
+    );
+    at += put_fault(&mut out[at..], fault);
+    at + listing::put(&mut out[at..], b"\n")
+}
+
+#[tactic(auto, unfolding(crate::specs::Complaints::complaint_text, base::specs::Text::text, base::specs::Text::decimal, base::specs::Text::digits_of))]
+fn put_too_long(out: &mut [u8]) -> usize
+    requires { length (complaint_text TooLong) ≤ length out.old }
+    ensures { Put (complaint_text TooLong) out.old out.new result }
+{
+    listing::put(out, b"the text is longer than 65536 bytes\n")
+}
+
+// What is wrong with a text, as a line.
+pub fn put_complaint(out: &mut [u8], complaint: Complaint) -> usize
+    requires room { length (complaint_text (complaint_in complaint)) ≤ length out.old }
+    requires few { FewIn (complaint_in complaint) }
+    ensures { Put (complaint_text (complaint_in complaint.entry)) out.old out.new result }
+{
+    match complaint {
+        Complaint::TooLong => put_too_long(out),
+        Complaint::InLine(n, fault) => put_in_line(out, n, fault),
     }
 }
