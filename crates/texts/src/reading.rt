@@ -7,7 +7,7 @@ ghost use Rattle.rules.specs.Format.{present, file_records};
 ghost use Rattle.texts.specs.Words.{Words, words_in};
 ghost use Rattle.texts.specs.Numbers.{value_of};
 ghost use Rattle.texts.specs.Records.{is_due};
-ghost use Rattle.texts.specs.Reading.{read_value, read_number, read_numbers, read_line, read_record, read_records};
+ghost use Rattle.texts.specs.Reading.{read_value, read_number, read_numbers, read_line, read_record, read_records, form_in};
 ghost use Rattle.texts.specs.Found.{reading_in, reading_of, Finds, lines_left, behind, FindsRecord, records_in};
 
 use crate::faults::{Complaint, Fault};
@@ -126,7 +126,11 @@ fn read_record<'a>(
 
 // All records of the form, to the whole district, by the lines; then none that has words may follow. By a loop, as in
 // `read_numbers`. Each record starts where the one before it ends.
-fn read_records<'a>(form: Form, d: &mut District, lines: Remaining<'a>) -> Result<(), Complaint<'a>>
+pub fn read_records<'a>(
+    form: Form,
+    d: &mut District,
+    lines: Remaining<'a>,
+) -> Result<(), Complaint<'a>>
     ensures { read_records (form_number form) (behind lines.entry) file_records 0 [] (lines_left lines.entry) ≡ records_in d.new result }
 {
     let mut rest = lines;
@@ -139,5 +143,22 @@ fn read_records<'a>(form: Form, d: &mut District, lines: Remaining<'a>) -> Resul
     match rest.next() {
         Ok((number, _, _)) => Err(Complaint::InLine(number, Fault::BehindEnd)),
         Err(_) => Ok(()),
+    }
+}
+
+// The form that the first word says; every other text is read as one without leaders.
+pub fn form_in(lines: Remaining<'_>) -> Form
+    ensures { form_number result ≡ form_in (lines_left lines.entry) }
+{
+    let Ok((_, line, _)) = lines.next() else {
+        return Form::Plain;
+    };
+    let Some((word, _)) = words::next(line) else {
+        return Form::Plain;
+    };
+    if records::is_word(word, Form::Leaders as usize) {
+        Form::Leaders
+    } else {
+        Form::Plain
     }
 }
