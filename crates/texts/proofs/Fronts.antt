@@ -1,14 +1,18 @@
 -- What pack does not read makes no difference.
-use Rattle.std.proofs.Common.{ℕ, ◌<◌, ◌≡◌, Bool, true, false, leb, List, length, take, refl, sym, ap, ◌∙◌, length-take-le, arith}
+use Rattle.std.proofs.Common.{ℕ, ◌<◌, ◌≡◌, Bool, true, false, leb, List, Err, length, take, refl, sym, ap, ◌∙◌, length-take-le, arith}
 use borrow.Author.Tests.{lt-leb, leb-true, leb-false}
 use lib.Seq.{take_all}
 use Rattle.texts.specs.Complaints.{longest_text, TooLong, complaint_text}
 use Rattle.texts.specs.Programs.{most_text_read, packed}
 use Rattle.texts.specs.Reading.{read_text}
 
+pub too_long : (bs : List ℕ) → longest_text < length bs → read_text bs ≡ Err TooLong
+unfolding read_text
+too_long bs h = rw (lt-leb (length bs) longest_text h) refl
+
 long_text : (bs : List ℕ) → longest_text < length bs → packed bs ≡ complaint_text TooLong
-unfolding packed read_text
-long_text bs h = rw (lt-leb (length bs) longest_text h) refl
+unfolding packed
+long_text bs h = rw (too_long bs h) refl
 
 pub text_front : (bs : List ℕ) → packed (take most_text_read bs) ≡ packed bs
 text_front bs = go (leb (length bs) longest_text) refl

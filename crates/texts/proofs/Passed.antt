@@ -1,7 +1,7 @@
 -- Lines one after another, those without words passed over.
-use Rattle.std.proofs.Common.{ℕ, ◌+◌, ◌≡◌, true, false, List, [], ◌∷◌, length, Option, None, Some, MatchOption, refl, ap, ◌∙◌, arith}
+use Rattle.std.proofs.Common.{ℕ, ◌+◌, ◌≤◌, ◌≡◌, Bool, true, false, List, [], ◌∷◌, length, Option, None, Some, MatchOption, refl, ap, ◌∙◌, arith}
 use Rattle.std.specs.Option.{is_some}
-use Rattle.texts.specs.Words.{Word, Words, Line, kept, parts, is_line_feed, lines_in, words_of, lines_from}
+use Rattle.texts.specs.Words.{Word, Words, Line, kept, onto, parts, is_line_feed, lines_in, words_of, lines_from}
 
 -- ---- a line
 
@@ -36,3 +36,20 @@ module _ {A : Type 0} (word : A → Word) (rest : A → Words) (n : ℕ) (ls : L
       → kept n ws ls ≡ ls
   passed_over None ws h t = rw h refl
   passed_over (Some r) ws h t = cc
+
+-- ---- how many lines there are
+
+onto_few : (t : Bool) (b : ℕ) (ps : List (List ℕ)) → length (onto t b ps) ≤ length ps + 1
+onto_few true b ps = omega arith
+onto_few false b [] = omega arith
+onto_few false b (p ∷ ps) = omega arith
+
+parts_few : (m : ℕ → Bool) (bs : List ℕ) → length (parts m bs) ≤ length bs
+unfolding parts
+parts_few m [] = omega arith
+parts_few m (b ∷ bs) = omega (arith, onto_few (m b) b (parts m bs), parts_few m bs)
+
+-- each has a byte
+pub lines_few : (bs : List ℕ) → lines_in bs ≤ length bs
+unfolding lines_in
+lines_few bs = parts_few is_line_feed bs

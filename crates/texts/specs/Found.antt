@@ -2,9 +2,11 @@
 use Rattle.std.specs.Prelude.{ℕ, ◌+◌, ◌≡◌, List, [], take, drop, Result, Ok, Err}
 use Rattle.std.specs.Borrow.{Bor}
 use Rattle.rules.specs.District.{District}
+use Rattle.grammar.specs.Slots.{form_number}
+use Rattle.grammar.specs.declared.kinds.Form.{Form}
 use Rattle.texts.specs.Words.{Words, words_in, Line, is_line_feed, parts, lines_in, lines_from}
 use Rattle.texts.specs.Complaints as C
-use Rattle.texts.specs.Reading.{Reading, wrong, found}
+use Rattle.texts.specs.Reading.{Reading, wrong, found, Formed}
 use Rattle.texts.specs.declared.faults.Complaint.{Complaint}
 use Rattle.texts.specs.declared.faults.Complaint.TheVariants.{TooLong, InLine}
 use Rattle.texts.specs.declared.remaining.Remaining.{Remaining}
@@ -60,3 +62,9 @@ FindsRecord read last place places old d (Err c) = read ≡ wrong (complaint_in 
 abbrev pub records_in : District → Result (Unit {0}) Complaint → Reading C.Complaint District (List Line)
 records_in d (Ok u) = found d []
 records_in d (Err c) = wrong (complaint_in c)
+
+-- ---- a text
+
+abbrev pub formed_in : District → Result Form Complaint → Result Formed C.Complaint
+formed_in d (Ok form) = Ok (record { form = form_number form; district = d })
+formed_in d (Err c) = Err (complaint_in c)

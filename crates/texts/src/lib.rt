@@ -2,6 +2,10 @@
 // sections they name.
 #![tactic(auto)]
 
+ghost use Rattle.std.specs.Prelude.{◌≡◌};
+ghost use Rattle.texts.specs.Reading.{read_text};
+ghost use Rattle.texts.specs.Found.{formed_in};
+
 mod faults;
 mod numbers;
 mod printing;
@@ -9,3 +13,27 @@ mod reading;
 mod records;
 mod remaining;
 mod words;
+
+pub use faults::{Complaint, Fault};
+use grammar::Form;
+use remaining::Remaining;
+use rules::District;
+
+// A text may have so many bytes.
+pub const LONGEST_TEXT: usize = 65_536;
+
+// The text's district, into one that is lent, and its form. A text that is no district's leaves there what it came to.
+pub fn read_text<'a>(text: &'a [u8], d: &mut District) -> Result<Form, Complaint<'a>>
+    ensures { read_text text.now ≡ formed_in d.new result }
+{
+    if LONGEST_TEXT < text.len() {
+        return Err(Complaint::TooLong);
+    }
+    let lines = Remaining {
+        bytes: text,
+        number: 1,
+    };
+    let form = reading::form_in(lines);
+    reading::read_records(form, d, lines)?;
+    Ok(form)
+}
