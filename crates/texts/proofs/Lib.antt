@@ -8,3 +8,4 @@ pub mod Places
 pub mod Fronts
 mod Printed
 mod Told
+mod Lined

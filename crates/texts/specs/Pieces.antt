@@ -4,6 +4,10 @@ use Rattle.base.specs.Choice.{pick}
 use Rattle.base.specs.Text.{text, decimal}
 use Rattle.texts.specs.Numbers.{minus_sign}
 use Rattle.texts.specs.Complaints.{plain, longest_quoted, Fault, OutOfRange, Complaint, TooLong, InLine}
+use Rattle.rules.specs.District.{District, value_at}
+use Rattle.rules.specs.Format.{field_at, Slot}
+use Rattle.texts.specs.Records.{is_due}
+use Rattle.texts.specs.Printing.{number_text}
 use Rattle.texts.specs.declared.printing.Piece.{Piece}
 use Rattle.texts.specs.declared.printing.Piece.TheVariants.{Bytes, Plain, Number}
 
@@ -33,3 +37,7 @@ Few f = Unit {0}
 abbrev pub FewIn : Complaint → Type 0
 FewIn TooLong = Unit {0}
 FewIn (InLine n f) = Few f
+
+-- the n-th number of a record, which stands at the place, where the district has it
+abbrev pub due_text : District → Slot → ℕ → ℕ → List ℕ
+due_text d s n place = pick (is_due d s n) (number_text (field_at d s n) (value_at d place)) []

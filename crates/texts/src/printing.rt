@@ -1,13 +1,20 @@
 // What is told of a text and of a file, and a district's text, written to the front of a lent buffer, as listing's writers do.
-ghost use Rattle.std.specs.Prelude.{◌≡◌, ◌++◌, ◌≤◌, ◌<◌, ◌^◌, length, map, nat_abs};
-ghost use Rattle.base.specs.Text.{Put};
+ghost use Rattle.std.specs.Prelude.{◌≡◌, ◌+◌, ◌++◌, ◌≤◌, ◌<◌, ◌^◌, length, map, nat_abs};
+ghost use Rattle.base.specs.Text.{text, Put};
 ghost use Rattle.texts.specs.Numbers.{written};
 ghost use Rattle.texts.specs.Complaints.{plain, not_in, fault_text, complaint_text, TooLong, InLine};
-ghost use Rattle.texts.specs.Pieces.{sign_of, piece_text, pieces_text, dots, Few, FewIn};
+ghost use Rattle.texts.specs.Pieces.{sign_of, piece_text, pieces_text, dots, Few, FewIn, due_text};
+ghost use Rattle.grammar.specs.Slots.{slot_in};
+ghost use Rattle.rules.specs.District.{district_places};
+ghost use Rattle.rules.specs.Format.{file_records, present};
+ghost use Rattle.texts.specs.Records.{is_numbered, name_of};
+ghost use Rattle.texts.specs.Printing.{number_text, numbers_text, comment_of, record_text};
 ghost use Rattle.texts.specs.Found.{fault_in, complaint_in};
 
 use crate::faults::{Complaint, Fault};
-use crate::records;
+use crate::{numbers, records};
+use grammar::{Kind, Slot};
+use rules::{District, Field};
 
 // What stands in front of a number's digits.
 fn sign_of(v: i128) -> &'static [u8]
@@ -206,4 +213,121 @@ pub fn put_complaint(out: &mut [u8], complaint: Complaint) -> usize
         Complaint::TooLong => put_too_long(out),
         Complaint::InLine(n, fault) => put_in_line(out, n, fault),
     }
+}
+
+// ---- a district's text
+
+// A number behind one space.
+#[tactic(auto, using(base::proofs::Text::front_fits, listing::proofs::Pieces::second_fits, listing::proofs::Pieces::put_two), unfolding(base::specs::Text::text))]
+fn put_shown(out: &mut [u8], f: Field, x: usize) -> usize
+    requires { length (number_text f x) ≤ length out.old }
+    ensures { Put (number_text f x) out.old out.new result }
+{
+    let at = listing::put(out, b" ");
+    at + put_written(&mut out[at..], numbers::shown_in(f, x))
+}
+
+// The same, of the `n`-th number of the record, where the district has it.
+fn put_due(out: &mut [u8], d: &District, s: Slot, n: usize, place: usize) -> usize
+    requires room { length (due_text d.now (slot_in s) n place) ≤ length out.old }
+    requires within { place < district_places }
+    ensures { Put (due_text d.now (slot_in s) n place) out.old out.new result }
+{
+    if records::is_due(d, s, n) {
+        put_shown(out, grammar::field_at(d, s, n), d[place])
+    } else {
+        0
+    }
+}
+
+// The numbers of the record, by a loop, as listing's lines.
+fn put_numbers(out: &mut [u8], d: &District, s: Slot, place: usize) -> usize
+    requires room { length (numbers_text s.places d.now (slot_in s) 0 place) ≤ length out.old }
+    requires within { place + s.places ≤ district_places }
+    ensures { Put (numbers_text s.places d.now (slot_in s) 0 place) out.old out.new result }
+{
+    let mut at = 0;
+    for i in 0..s.places {
+        at += put_due(&mut out[at..], d, s, i, place + i);
+    }
+    at
+}
+
+fn is_numbered(s: Slot) -> bool
+    ensures { result ≡ is_numbered (slot_in s) }
+{
+    matches!(s.kind, Kind::Strategy | Kind::Pavement | Kind::Segment)
+}
+
+// The record's name. There are not so many of a kind as there are records.
+fn put_name(out: &mut [u8], s: Slot) -> usize
+    requires room { length (name_of (slot_in s)) ≤ length out.old }
+    requires few { s.nth ≤ file_records }
+    ensures { Put (name_of (slot_in s)) out.old out.new result }
+{
+    let word = records::word_of(s.kind_number());
+    if is_numbered(s) {
+        put_pieces(
+            out,
+            &[
+                Piece::Bytes(word),
+                Piece::Bytes(b" "),
+                Piece::Number(s.nth + 1),
+            ],
+        )
+    } else {
+        listing::put(out, word)
+    }
+}
+
+#[tactic(auto, using(base::proofs::Text::front_fits, listing::proofs::Pieces::second_fits, listing::proofs::Pieces::put_two), unfolding(base::specs::Text::text))]
+fn put_name_comment(out: &mut [u8], s: Slot) -> usize
+    requires room { length (text " # " ++ name_of (slot_in s)) ≤ length out.old }
+    requires few { s.nth ≤ file_records }
+    ensures { Put (text " # " ++ name_of (slot_in s)) out.old out.new result }
+{
+    let at = listing::put(out, b" # ");
+    at + put_name(&mut out[at..], s)
+}
+
+#[tactic(auto, unfolding(crate::specs::Printing::comment_of, base::specs::Text::text))]
+fn put_comment(out: &mut [u8], s: Slot) -> usize
+    requires room { length (comment_of (slot_in s)) ≤ length out.old }
+    requires few { s.nth ≤ file_records }
+    ensures { Put (comment_of (slot_in s)) out.old out.new result }
+{
+    match s.kind {
+        Kind::Counts => listing::put(
+            out,
+            b" # segments, strategies, years, distress types, pavement types, resources",
+        ),
+        Kind::Strategy | Kind::Pavement | Kind::Segment => put_name_comment(out, s),
+        Kind::Limits | Kind::Greatest | Kind::End => 0,
+    }
+}
+
+#[tactic(auto, using(base::proofs::Text::front_fits, listing::proofs::Pieces::second_fits, listing::proofs::Pieces::put_two), unfolding(base::specs::Text::text))]
+fn put_ending(out: &mut [u8], s: Slot) -> usize
+    requires room { length (comment_of (slot_in s) ++ text "\n") ≤ length out.old }
+    requires few { s.nth ≤ file_records }
+    ensures { Put (comment_of (slot_in s) ++ text "\n") out.old out.new result }
+{
+    let at = put_comment(out, s);
+    at + listing::put(&mut out[at..], b"\n")
+}
+
+// The line of the record, where the district has it.
+#[tactic(auto, using(base::proofs::Text::front_fits, listing::proofs::Pieces::second_of_three_fits, listing::proofs::Pieces::third_fits, listing::proofs::Pieces::put_three))]
+fn put_record(out: &mut [u8], d: &District, s: Slot, place: usize) -> usize
+    requires room { length (record_text (present d.now (slot_in s)) d.now (slot_in s) place) ≤ length out.old }
+    requires few { s.nth ≤ file_records }
+    requires within { place + s.places ≤ district_places }
+    ensures { Put (record_text (present d.now (slot_in s)) d.now (slot_in s) place) out.old out.new result }
+{
+    if !grammar::is_present(d, s) {
+        return 0;
+    }
+    let mut at = listing::put(out, records::word_of(s.kind_number()));
+    at += put_numbers(&mut out[at..], d, s, place);
+    at + put_ending(&mut out[at..], s)
 }

@@ -1,0 +1,32 @@
+-- The numbers of a record, and the records of a text, printed one after another.
+use Rattle.std.proofs.Common.{ℕ, suc, ◌+◌, ◌-◌, ◌<◌, ◌≡◌, true, false, List, [], ◌++◌, append-nil, refl, arith}
+use Rattle.base.specs.Text.{text, decimal}
+use Rattle.base.proofs.Buffers.{Written}
+use Rattle.rules.specs.District.{District}
+use Rattle.rules.specs.Format.{Slot}
+use Rattle.texts.specs.Records.{word_of, is_numbered, name_of}
+use Rattle.texts.specs.Printing.{numbers_text}
+use Rattle.texts.specs.Pieces.{due_text}
+
+-- a number is to come
+numbers_next : (d : District) (s : Slot) (m i place : ℕ) → i < m → numbers_text (m - i) d s i (place + i) ≡ due_text d s i (place + i) ++ numbers_text (m - (i + 1)) d s (i + 1) (place + (i + 1))
+unfolding numbers_text
+numbers_next d s m i place h =
+    let more : m - i ≡ suc (m - (i + 1)) = omega arith in
+    let next : place + (i + 1) ≡ place + i + 1 = omega arith in
+    rw (more, next) refl
+
+pub number_next :
+    {old whole out : List ℕ} {at : ℕ} (d : District) (s : Slot) (m i place : ℕ) → i < m → Written old whole (numbers_text (m - i) d s i (place + i)) at out
+    → Written old whole (due_text d s i (place + i) ++ numbers_text (m - (i + 1)) d s (i + 1) (place + (i + 1))) at out
+number_next d s m i place h w = rw (numbers_next d s m i place h) at w
+
+-- ---- a record's name
+
+pub numbered : (s : Slot) {word : List ℕ} → is_numbered s ≡ true → word ≡ word_of s.kind → name_of s ≡ word ++ (text " " ++ (decimal (s.nth + 1) ++ []))
+unfolding name_of
+numbered s e w = rw (w, append-nil (decimal (s.nth + 1)), e) refl
+
+pub unnumbered : (s : Slot) {word : List ℕ} → is_numbered s ≡ false → word ≡ word_of s.kind → name_of s ≡ word
+unfolding name_of
+unnumbered s e w = rw (w, e) (append-nil (word_of s.kind))
