@@ -1,11 +1,12 @@
 -- The numbers of a record, and the records of a text, printed one after another.
-use Rattle.std.proofs.Common.{ℕ, suc, ◌+◌, ◌-◌, ◌<◌, ◌≡◌, true, false, List, [], ◌++◌, append-nil, refl, arith}
+use Rattle.std.proofs.Common.{ℕ, suc, ◌+◌, ◌-◌, ◌<◌, ◌≤◌, ◌≡◌, true, false, List, [], ◌++◌, append-nil, refl, arith, rules}
+use Rattle.base.proofs.Choice.{picks}
 use Rattle.base.specs.Text.{text, decimal}
 use Rattle.base.proofs.Buffers.{Written}
 use Rattle.rules.specs.District.{District}
-use Rattle.rules.specs.Format.{Slot}
+use Rattle.rules.specs.Format.{Slot, slot_of, present, file_records}
 use Rattle.texts.specs.Records.{word_of, is_numbered, name_of}
-use Rattle.texts.specs.Printing.{numbers_text}
+use Rattle.texts.specs.Printing.{numbers_text, record_text, records_text}
 use Rattle.texts.specs.Pieces.{due_text}
 
 -- a number is to come
@@ -30,3 +31,24 @@ numbered s e w = rw (w, append-nil (decimal (s.nth + 1)), e) refl
 pub unnumbered : (s : Slot) {word : List ℕ} → is_numbered s ≡ false → word ≡ word_of s.kind → name_of s ≡ word
 unfolding name_of
 unnumbered s e w = rw (w, e) (append-nil (word_of s.kind))
+
+-- ---- the records
+
+-- a record is to come, whose numbers stand where those before end
+records_next :
+    (form : ℕ) (d : District) (n place : ℕ) → n < file_records → (s : Slot) → s ≡ slot_of form n
+    → records_text form (file_records - n) d n place ≡ record_text (present d s) d s place ++ records_text form (file_records - (n + 1)) d (n + 1) (place + s.places)
+unfolding records_text
+records_next form d n place h s e =
+    let more : file_records - n ≡ suc (file_records - (n + 1)) = omega arith in
+    rw (more, e) refl
+
+pub record_next :
+    {old whole out : List ℕ} {at : ℕ} (form : ℕ) (d : District) (n place : ℕ) → n < file_records → (s : Slot) → s ≡ slot_of form n
+    → Written old whole (records_text form (file_records - n) d n place) at out
+    → Written old whole (record_text (present d s) d s place ++ records_text form (file_records - (n + 1)) d (n + 1) (place + s.places)) at out
+record_next form d n place h s e w = rw (records_next form d n place h s e) at w
+
+-- it is no later one of its kind than it is of all
+pub nth_few : (form n : ℕ) → (slot_of form n).nth ≤ n
+nth_few form n = search (rules, picks)

@@ -4,16 +4,17 @@ ghost use Rattle.base.specs.Text.{text, Put};
 ghost use Rattle.texts.specs.Numbers.{written};
 ghost use Rattle.texts.specs.Complaints.{plain, not_in, fault_text, complaint_text, TooLong, InLine};
 ghost use Rattle.texts.specs.Pieces.{sign_of, piece_text, pieces_text, dots, Few, FewIn, due_text};
-ghost use Rattle.grammar.specs.Slots.{slot_in};
+ghost use Rattle.grammar.specs.Slots.{form_number, slot_in};
 ghost use Rattle.rules.specs.District.{district_places};
 ghost use Rattle.rules.specs.Format.{file_records, present};
 ghost use Rattle.texts.specs.Records.{is_numbered, name_of};
-ghost use Rattle.texts.specs.Printing.{number_text, numbers_text, comment_of, record_text};
+ghost use Rattle.texts.specs.Printing.{number_text, numbers_text, comment_of, record_text, text_of};
 ghost use Rattle.texts.specs.Found.{fault_in, complaint_in};
 
 use crate::faults::{Complaint, Fault};
 use crate::{numbers, records};
-use grammar::{Kind, Slot};
+use grammar::{Form, Kind, Slot};
+use rules::records::RECORDS;
 use rules::{District, Field};
 
 // What stands in front of a number's digits.
@@ -330,4 +331,19 @@ fn put_record(out: &mut [u8], d: &District, s: Slot, place: usize) -> usize
     let mut at = listing::put(out, records::word_of(s.kind_number()));
     at += put_numbers(&mut out[at..], d, s, place);
     at + put_ending(&mut out[at..], s)
+}
+
+// The text of the district in the form.
+pub fn put_text(out: &mut [u8], form: Form, d: &District) -> usize
+    requires { length (text_of (form_number form) d.now) ≤ length out.old }
+    ensures { Put (text_of (form_number form) d.now) out.old out.new result }
+{
+    let mut at = 0;
+    let mut place = 0;
+    for n in 0..RECORDS {
+        let s = grammar::slot_at(form, n);
+        at += put_record(&mut out[at..], d, s, place);
+        place += s.places;
+    }
+    at
 }
