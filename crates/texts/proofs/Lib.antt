@@ -4,6 +4,8 @@ mod Digits
 pub mod Lines
 mod Passed
 mod Taken
+mod Held
+pub mod Ranged
 pub mod Places
 pub mod Fronts
 mod Printed

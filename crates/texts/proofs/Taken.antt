@@ -9,12 +9,12 @@ use Rattle.texts.specs.Complaints.{BehindEnd, Complaint, InLine}
 use Rattle.texts.specs.Reading.{wrong, found, read_record, read_records}
 
 module _ (form last m n : ℕ) (d : District) (ls : List Line) where
-  record_found : (vs : List ℕ) (rest : List Line) → read_record (present d (slot_of form n)) last d (slot_of form n) ls ≡ found vs rest
+  pub record_found : (vs : List ℕ) (rest : List Line) → read_record (present d (slot_of form n)) last d (slot_of form n) ls ≡ found vs rest
       → read_records form last (suc m) n d ls ≡ read_records form last m (n + 1) (d ++ vs) rest
   unfolding read_records
   record_found vs rest e = rw e
 
-  record_wrong : (c : Complaint) → read_record (present d (slot_of form n)) last d (slot_of form n) ls ≡ wrong c → read_records form last (suc m) n d ls ≡ wrong c
+  pub record_wrong : (c : Complaint) → read_record (present d (slot_of form n)) last d (slot_of form n) ls ≡ wrong c → read_records form last (suc m) n d ls ≡ wrong c
   unfolding read_records
   record_wrong c e = rw e
 
