@@ -6,6 +6,7 @@ mod Passed
 mod Taken
 mod Held
 pub mod Ranged
+pub mod Loads
 pub mod Places
 pub mod Fronts
 mod Printed
