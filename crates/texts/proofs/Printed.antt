@@ -1,23 +1,33 @@
 -- Numbers with their sign, and pieces one after another.
-use Rattle.std.proofs.Common.{ℕ, ◌+◌, ◌<◌, ◌≡◌, refl, ℤ, pos, negsuc, nat_abs, sym, ap, ap₂, ◌∙◌, List, ◌++◌, length, get_or, drop, drop-cons, add-one}
+use Rattle.std.proofs.Common.{ℕ, zero, suc, ◌-◌, ◌/◌, ◌%◌, ◌≤◌, [], ◌∷◌, arith, append-nil, ◌+◌, ◌<◌, ◌≡◌, refl, ℤ, pos, negsuc, nat_abs, sym, ap, ap₂, ◌∙◌, List, ◌++◌, length, get_or, drop, drop-cons, add-one}
 use Rattle.base.proofs.Buffers.{Written}
-use Rattle.base.specs.Text.{decimal}
-use Rattle.listing.specs.Listing.{named}
+use Rattle.base.specs.Text.{digits_of, decimal}
+use borrow.Author.Tests.{lt-ltb, le-ltb}
 use Rattle.texts.specs.Numbers.{written}
 use Rattle.texts.specs.Pieces.{sign_of, piece_text, pieces_text}
 use Rattle.texts.specs.declared.printing.Piece.{Piece}
 
-named_as : (v : ℤ) → written v ≡ named (sign_of v) (nat_abs v)
-unfolding written named
-named_as (pos n) = refl
-named_as (negsuc n) = refl
-
-pub written_named : (v : ℤ) {sign : List ℕ} {size : ℕ} → sign ≡ sign_of v → size ≡ nat_abs v → written v ≡ named sign size
-written_named v s n = named_as v ∙ ap₂ named (sym s) (sym n)
+signed : (v : ℤ) → written v ≡ sign_of v ++ decimal (nat_abs v)
+unfolding written
+signed (pos n) = refl
+signed (negsuc n) = refl
 
 pub written_as : (v : ℤ) {sign : List ℕ} {size : ℕ} → sign ≡ sign_of v → size ≡ nat_abs v → written v ≡ sign ++ decimal size
-unfolding named
-written_as v s n = written_named v s n
+written_as v s n = signed v ∙ ap₂ (λ (l : List ℕ) (m : ℕ). l ++ decimal m) (sym s) (sym n)
+
+pub written_pieces : (v : ℤ) {sign : List ℕ} {size : ℕ} → sign ≡ sign_of v → size ≡ nat_abs v → written v ≡ sign ++ (decimal size ++ [])
+written_pieces v {sign} {size} s n = rw (append-nil (decimal size)) (written_as v s n)
+
+-- a digit, and one more behind those of the tenth
+pub digits_one : (k n : ℕ) → 1 ≤ k → n < 10 → digits_of k n ≡ (48 + n) ∷ []
+unfolding digits_of
+digits_one zero n l h = absurd (omega arith)
+digits_one (suc k) n l h = rw (lt-ltb n 10 h) refl
+
+pub digits_tenth : (k n : ℕ) → 1 ≤ k → 10 ≤ n → digits_of k n ≡ digits_of (k - 1) (n / 10) ++ ((48 + n % 10) ∷ [])
+unfolding digits_of
+digits_tenth zero n l h = absurd (omega arith)
+digits_tenth (suc k) n l h = let e : suc k - 1 ≡ k = omega arith in rw (le-ltb n 10 h, e) refl
 
 -- a piece is to come
 pieces_next : (ps : List Piece) (i : ℕ) (p : Piece) → i < length ps → pieces_text (drop i ps) ≡ piece_text (get_or ps i p) ++ pieces_text (drop (i + 1) ps)

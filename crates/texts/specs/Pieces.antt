@@ -1,15 +1,15 @@
 -- What the code prints, piece by piece, as the definitions have it.
-use Rattle.std.specs.Prelude.{ℕ, List, [], ◌<◌, ◌^◌, nat_abs, ◌∷◌, ◌++◌, leb, length, map, ℤ, pos, negsuc}
+use Rattle.std.specs.Prelude.{ℕ, List, [], ◌∷◌, ◌++◌, leb, length, map, ℤ, pos, negsuc}
 use Rattle.base.specs.Choice.{pick}
 use Rattle.base.specs.Text.{text, decimal}
 use Rattle.texts.specs.Numbers.{minus_sign}
-use Rattle.texts.specs.Complaints.{plain, longest_quoted, Fault, OutOfRange, Complaint, TooLong, InLine}
+use Rattle.texts.specs.Complaints.{plain, longest_quoted}
 use Rattle.rules.specs.District.{District, value_at}
 use Rattle.rules.specs.Format.{field_at, Slot}
 use Rattle.texts.specs.Records.{is_due}
 use Rattle.texts.specs.Printing.{number_text}
 use Rattle.texts.specs.declared.printing.Piece.{Piece}
-use Rattle.texts.specs.declared.printing.Piece.TheVariants.{Bytes, Plain, Number}
+use Rattle.texts.specs.declared.printing.Piece.TheVariants.{Bytes, Plain, Number, Size}
 
 abbrev pub sign_of : ℤ → List ℕ
 sign_of (pos n) = []
@@ -19,6 +19,7 @@ abbrev pub piece_text : Piece → List ℕ
 piece_text (Bytes bytes) = bytes.now
 piece_text (Plain bytes) = map plain bytes.now
 piece_text (Number n) = decimal n
+piece_text (Size n) = decimal n
 
 -- one after another
 unfoldable pub pieces_text : List Piece → List ℕ
@@ -28,15 +29,6 @@ pieces_text (p ∷ ps) = piece_text p ++ pieces_text ps
 -- behind the quoted bytes of a word
 abbrev pub dots : List ℕ → List ℕ
 dots w = pick (leb (length w) longest_quoted) [] (text "..")
-
--- numbers of 64 bits stand in it
-abbrev pub Few : Fault → Type 0
-Few (OutOfRange w lo hi) = (nat_abs lo < 2 ^ 64) × (nat_abs hi < 2 ^ 64)
-Few f = Unit {0}
-
-abbrev pub FewIn : Complaint → Type 0
-FewIn TooLong = Unit {0}
-FewIn (InLine n f) = Few f
 
 -- the n-th number of a record, which stands at the place, where the district has it
 abbrev pub due_text : District → Slot → ℕ → ℕ → List ℕ

@@ -1,5 +1,5 @@
 // Words as numbers, and the numbers of a field as a text has them (specs/Numbers.antt).
-ghost use Rattle.std.specs.Prelude.{◌≡◌, ◌<◌, ◌^◌, IfSome, Some, IsTrue, ◌<ℤ◌, pos, nat_abs};
+ghost use Rattle.std.specs.Prelude.{◌≡◌, ◌<◌, ◌^◌, IfSome, Some, IsTrue, ◌<ℤ◌, pos};
 ghost use Rattle.texts.specs.Numbers.{with_sign, has_minus, behind_minus, size_of, value_of, shown_in, in_field, held_as};
 
 use rules::Field;
@@ -59,8 +59,7 @@ pub fn value(word: &[u8]) -> Option<i128>
 
 // What a number of the district is, where it stands in the field.
 pub fn shown_in(f: Field, x: usize) -> i128
-    ensures value { result ≡ shown_in f x }
-    ensures few { nat_abs result < 2 ^ 64 }
+    ensures { result ≡ shown_in f x }
 {
     if f.hi < f.lo && 128 <= x {
         x as i128 - 256

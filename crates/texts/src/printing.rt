@@ -1,9 +1,9 @@
 // What is told of a text and of a file, and a district's text, written to the front of a lent buffer, as listing's writers do.
-ghost use Rattle.std.specs.Prelude.{◌≡◌, ◌+◌, ◌++◌, ◌≤◌, ◌<◌, ◌^◌, length, map, nat_abs};
-ghost use Rattle.base.specs.Text.{text, Put};
+ghost use Rattle.std.specs.Prelude.{◌≡◌, ◌+◌, ◌++◌, ◌≤◌, ◌<◌, length, map};
+ghost use Rattle.base.specs.Text.{text, digits_of, Put};
 ghost use Rattle.texts.specs.Numbers.{written};
 ghost use Rattle.texts.specs.Complaints.{plain, not_in, fault_text, complaint_text, TooLong, InLine};
-ghost use Rattle.texts.specs.Pieces.{sign_of, piece_text, pieces_text, dots, Few, FewIn, due_text};
+ghost use Rattle.texts.specs.Pieces.{sign_of, piece_text, pieces_text, dots, due_text};
 ghost use Rattle.grammar.specs.Slots.{form_number, slot_in};
 ghost use Rattle.rules.specs.District.{district_places};
 ghost use Rattle.rules.specs.Format.{file_records, present};
@@ -17,6 +17,24 @@ use grammar::{Form, Kind, Slot};
 use rules::records::RECORDS;
 use rules::{District, Field};
 
+// The last `k` digits of the value, as the definition takes them: so it is said of every value of 128 bits, where listing's
+// `put_number` has 64.
+fn put_digits(out: &mut [u8], k: usize, value: u128) -> usize
+    requires { length (digits_of k value) ≤ length out.old }
+    ensures { Put (digits_of k value) out.old out.new result }
+{
+    if k == 0 {
+        return 0;
+    }
+    if value < 10 {
+        out[0] = b'0' + value as u8;
+        return 1;
+    }
+    let at = put_digits(out, k - 1, value / 10);
+    out[at] = b'0' + (value % 10) as u8;
+    at + 1
+}
+
 // What stands in front of a number's digits.
 fn sign_of(v: i128) -> &'static [u8]
     ensures { result.now ≡ sign_of v }
@@ -24,13 +42,15 @@ fn sign_of(v: i128) -> &'static [u8]
     if v < 0 { b"-" } else { b"" }
 }
 
-// A whole number of 64 bits, with its sign.
+// A whole number with its sign.
 pub fn put_written(out: &mut [u8], v: i128) -> usize
-    requires room { length (written v) ≤ length out.old }
-    requires few { nat_abs v < 2 ^ 64 }
+    requires { length (written v) ≤ length out.old }
     ensures { Put (written v) out.old out.new result }
 {
-    listing::put_named(out, sign_of(v), v.unsigned_abs() as usize)
+    put_pieces(
+        out,
+        &[Piece::Bytes(sign_of(v)), Piece::Size(v.unsigned_abs())],
+    )
 }
 
 // What a line is put together of, one piece after another.
@@ -40,6 +60,8 @@ pub enum Piece<'a> {
     // A word's bytes, '?' for each that is no plain letter.
     Plain(&'a [u8]),
     Number(usize),
+    // What stands behind a sign.
+    Size(u128),
 }
 
 fn plain(byte: u8) -> u8
@@ -62,6 +84,7 @@ fn put_plain(out: &mut [u8], bytes: &[u8]) -> usize
     bytes.len()
 }
 
+#[tactic(auto, unfolding(base::specs::Text::decimal))]
 pub fn put_piece(out: &mut [u8], piece: Piece) -> usize
     requires { length (piece_text piece) ≤ length out.old }
     ensures { Put (piece_text piece.entry) out.old out.new result }
@@ -70,6 +93,7 @@ pub fn put_piece(out: &mut [u8], piece: Piece) -> usize
         Piece::Bytes(bytes) => listing::put(out, bytes),
         Piece::Plain(bytes) => put_plain(out, bytes),
         Piece::Number(n) => listing::put_number(out, n),
+        Piece::Size(n) => put_digits(out, 20, n),
     }
 }
 
@@ -94,8 +118,7 @@ fn dots(word: &[u8]) -> &'static [u8]
 
 // A range, behind what is not in it.
 fn put_not_in(out: &mut [u8], lo: i128, hi: i128) -> usize
-    requires room { length (not_in lo hi) ≤ length out.old }
-    requires few { (nat_abs lo < 2 ^ 64) × (nat_abs hi < 2 ^ 64) }
+    requires { length (not_in lo hi) ≤ length out.old }
     ensures { Put (not_in lo hi) out.old out.new result }
 {
     put_pieces(
@@ -103,18 +126,17 @@ fn put_not_in(out: &mut [u8], lo: i128, hi: i128) -> usize
         &[
             Piece::Bytes(b" is not "),
             Piece::Bytes(sign_of(lo)),
-            Piece::Number(lo.unsigned_abs() as usize),
+            Piece::Size(lo.unsigned_abs()),
             Piece::Bytes(b" to "),
             Piece::Bytes(sign_of(hi)),
-            Piece::Number(hi.unsigned_abs() as usize),
+            Piece::Size(hi.unsigned_abs()),
         ],
     )
 }
 
 #[tactic(auto, using(base::proofs::Text::front_fits, listing::proofs::Pieces::second_fits, listing::proofs::Pieces::put_two))]
 fn put_out_of_range(out: &mut [u8], word: &[u8], lo: i128, hi: i128) -> usize
-    requires room { length (word.now ++ not_in lo hi) ≤ length out.old }
-    requires few { (nat_abs lo < 2 ^ 64) × (nat_abs hi < 2 ^ 64) }
+    requires { length (word.now ++ not_in lo hi) ≤ length out.old }
     ensures { Put (word.now ++ not_in lo hi) out.old out.new result }
 {
     let at = listing::put(out, word);
@@ -122,8 +144,7 @@ fn put_out_of_range(out: &mut [u8], word: &[u8], lo: i128, hi: i128) -> usize
 }
 
 fn put_fault(out: &mut [u8], fault: Fault) -> usize
-    requires room { length (fault_text (fault_in fault)) ≤ length out.old }
-    requires few { Few (fault_in fault) }
+    requires { length (fault_text (fault_in fault)) ≤ length out.old }
     ensures { Put (fault_text (fault_in fault.entry)) out.old out.new result }
 {
     match fault {
@@ -180,8 +201,7 @@ fn put_fault(out: &mut [u8], fault: Fault) -> usize
 
 // The same as a line, with the line's number.
 fn put_in_line(out: &mut [u8], n: usize, fault: Fault) -> usize
-    requires room { length (complaint_text (InLine n (fault_in fault))) ≤ length out.old }
-    requires few { Few (fault_in fault) }
+    requires { length (complaint_text (InLine n (fault_in fault))) ≤ length out.old }
     ensures { Put (complaint_text (InLine n (fault_in fault.entry))) out.old out.new result }
 {
     let mut at = put_pieces(
@@ -206,8 +226,7 @@ fn put_too_long(out: &mut [u8]) -> usize
 
 // What is wrong with a text, as a line.
 pub fn put_complaint(out: &mut [u8], complaint: Complaint) -> usize
-    requires room { length (complaint_text (complaint_in complaint)) ≤ length out.old }
-    requires few { FewIn (complaint_in complaint) }
+    requires { length (complaint_text (complaint_in complaint)) ≤ length out.old }
     ensures { Put (complaint_text (complaint_in complaint.entry)) out.old out.new result }
 {
     match complaint {

@@ -10,7 +10,7 @@ pub put_pieces-requires : goal.put_pieces-requires
 unfolding pieces_text text
 put_pieces-requires c =
     let f = c.in-OtherWord in
-    rw (f.is, other_word f.word.now f.kind c.take.ensures c.dots.ensures c.word_of.ensures) at c.requires.room
+    rw (f.is, other_word f.word.now f.kind c.take.ensures c.dots.ensures c.word_of.ensures) at c.requires
 
 pub returns-in-OtherWord : goal.returns-in-OtherWord
 unfolding pieces_text text
@@ -20,7 +20,7 @@ returns-in-OtherWord c =
 
 pub put_pieces-requires-in-NumberMissing : goal.put_pieces-requires-in-NumberMissing
 unfolding fault_text pieces_text text
-put_pieces-requires-in-NumberMissing c = rw c.in-NumberMissing.is at c.requires.room
+put_pieces-requires-in-NumberMissing c = rw c.in-NumberMissing.is at c.requires
 
 pub returns-in-NumberMissing : goal.returns-in-NumberMissing
 unfolding fault_text pieces_text text
@@ -30,7 +30,7 @@ pub put_pieces-requires-in-NoNumber : goal.put_pieces-requires-in-NoNumber
 unfolding pieces_text text
 put_pieces-requires-in-NoNumber c =
     let f = c.in-NoNumber in
-    rw (f.is, no_number f.word.now c.take-in-NoNumber.ensures c.dots-in-NoNumber.ensures) at c.requires.room
+    rw (f.is, no_number f.word.now c.take-in-NoNumber.ensures c.dots-in-NoNumber.ensures) at c.requires
 
 pub returns-in-NoNumber : goal.returns-in-NoNumber
 unfolding pieces_text text
@@ -38,9 +38,9 @@ returns-in-NoNumber c =
     let f = c.in-NoNumber in
     rw (f.is, no_number f.word.now c.take-in-NoNumber.ensures c.dots-in-NoNumber.ensures) c.put_pieces-in-NoNumber.ensures
 
-pub put_out_of_range-requires-clause-room : goal.put_out_of_range-requires-clause-room
+pub put_out_of_range-requires : goal.put_out_of_range-requires
 unfolding fault_text
-put_out_of_range-requires-clause-room c = search rules
+put_out_of_range-requires c = search rules
 
 pub returns-in-OutOfRange : goal.returns-in-OutOfRange
 unfolding fault_text
@@ -48,7 +48,7 @@ returns-in-OutOfRange c = search rules
 
 pub put_pieces-requires-in-NumberTooMany : goal.put_pieces-requires-in-NumberTooMany
 unfolding fault_text pieces_text text
-put_pieces-requires-in-NumberTooMany c = rw c.in-NumberTooMany.is at c.requires.room
+put_pieces-requires-in-NumberTooMany c = rw c.in-NumberTooMany.is at c.requires
 
 pub returns-in-NumberTooMany : goal.returns-in-NumberTooMany
 unfolding fault_text pieces_text text
@@ -56,7 +56,7 @@ returns-in-NumberTooMany c = rw c.in-NumberTooMany.is c.put_pieces-in-NumberTooM
 
 pub put-requires : goal.put-requires
 unfolding fault_text text
-put-requires c = rw c.in-BehindEnd.is at c.requires.room
+put-requires c = rw c.in-BehindEnd.is at c.requires
 
 pub returns-in-BehindEnd : goal.returns-in-BehindEnd
 unfolding fault_text text
@@ -66,7 +66,7 @@ pub put_pieces-requires-in-EndMissing : goal.put_pieces-requires-in-EndMissing
 unfolding pieces_text text
 put_pieces-requires-in-EndMissing c =
     let f = c.in-EndMissing in
-    rw (f.is, end_missing f.kind c.word_of-in-EndMissing.ensures) at c.requires.room
+    rw (f.is, end_missing f.kind c.word_of-in-EndMissing.ensures) at c.requires
 
 pub returns-in-EndMissing : goal.returns-in-EndMissing
 unfolding pieces_text text

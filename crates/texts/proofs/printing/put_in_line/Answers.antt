@@ -16,22 +16,22 @@ pub put_pieces-at-requires : goal.put_pieces-at-requires
 unfolding pieces_text text
 put_pieces-at-requires c =
     let a = c.args in
-    front_fits (front a.n) (fault_text (fault_in a.fault) ++ text "\n") (rw (in_line a.n (fault_in a.fault)) at c.requires.room)
+    front_fits (front a.n) (fault_text (fault_in a.fault) ++ text "\n") (rw (in_line a.n (fault_in a.fault)) at c.requires)
 
-pub put_fault-at-requires-clause-room : goal.put_fault-at-requires-clause-room
+pub put_fault-at-requires : goal.put_fault-at-requires
 unfolding pieces_text text
-put_fault-at-requires-clause-room c =
+put_fault-at-requires c =
     let a = c.args in
-    second_of_three_fits (front a.n) (fault_text (fault_in a.fault)) (text "\n") (rw (in_line a.n (fault_in a.fault)) at c.requires.room) c.put_pieces-at.ensures
+    second_of_three_fits (front a.n) (fault_text (fault_in a.fault)) (text "\n") (rw (in_line a.n (fault_in a.fault)) at c.requires) c.put_pieces-at.ensures
 
 pub put-requires : goal.put-requires
 unfolding pieces_text text
 put-requires c =
     let a = c.args in
-    third_fits (front a.n) (fault_text (fault_in a.fault)) (text "\n") (rw (in_line a.n (fault_in a.fault)) at c.requires.room) c.put_pieces-at.ensures c.put_fault-at.ensures
+    third_fits (front a.n) (fault_text (fault_in a.fault)) (text "\n") (rw (in_line a.n (fault_in a.fault)) at c.requires) c.put_pieces-at.ensures c.put_fault-at.ensures
 
 pub returns : goal.returns
 unfolding pieces_text text
 returns c =
     let a = c.args in
-    rw (in_line a.n (fault_in a.fault)) (put_three (front a.n) (fault_text (fault_in a.fault)) (text "\n") (rw (in_line a.n (fault_in a.fault)) at c.requires.room) c.put_pieces-at.ensures c.put_fault-at.ensures c.put.ensures)
+    rw (in_line a.n (fault_in a.fault)) (put_three (front a.n) (fault_text (fault_in a.fault)) (text "\n") (rw (in_line a.n (fault_in a.fault)) at c.requires) c.put_pieces-at.ensures c.put_fault-at.ensures c.put.ensures)

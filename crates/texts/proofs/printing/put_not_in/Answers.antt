@@ -12,7 +12,7 @@ put_pieces-requires c =
     let m : c.unsigned_abs.result ≡ nat_abs c.args.lo = search rules in
     let t : c.sign_of-2.result.now ≡ sign_of c.args.hi = search rules in
     let n : c.unsigned_abs-2.result ≡ nat_abs c.args.hi = search rules in
-    rw (range_told c.args.lo c.args.hi s m t n) at c.requires.room
+    rw (range_told c.args.lo c.args.hi s m t n) at c.requires
 
 pub returns : goal.returns
 unfolding pieces_text text
