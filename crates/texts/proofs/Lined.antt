@@ -1,6 +1,5 @@
 -- The numbers of a record, and the records of a text, printed one after another.
-use Rattle.std.proofs.Common.{ℕ, suc, ◌+◌, ◌-◌, ◌<◌, ◌≤◌, ◌≡◌, true, false, List, [], ◌++◌, append-nil, refl, arith, rules}
-use Rattle.base.proofs.Choice.{picks}
+use Rattle.std.proofs.Common.{ℕ, suc, ◌+◌, ◌-◌, ◌<◌, ◌≡◌, true, false, List, [], ◌++◌, append-nil, refl, arith}
 use Rattle.base.specs.Text.{text, decimal}
 use Rattle.base.proofs.Buffers.{Written}
 use Rattle.rules.specs.District.{District}
@@ -48,7 +47,3 @@ pub record_next :
     → Written old whole (records_text form (file_records - n) d n place) at out
     → Written old whole (record_text (present d s) d s place ++ records_text form (file_records - (n + 1)) d (n + 1) (place + s.places)) at out
 record_next form d n place h s e w = rw (records_next form d n place h s e) at w
-
--- it is no later one of its kind than it is of all
-pub nth_few : (form n : ℕ) → (slot_of form n).nth ≤ n
-nth_few form n = search (rules, picks)

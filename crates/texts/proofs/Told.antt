@@ -1,9 +1,12 @@
 -- What is told of a line, as its pieces.
-use Rattle.std.proofs.Common.{ℕ, ◌≡◌, List, [], ◌∷◌, ◌++◌, take, map, append_assoc, append-nil, sym, ap, ◌∙◌, ℤ, nat_abs}
-use Rattle.base.specs.Text.{text, decimal}
-use Rattle.texts.specs.Records.{word_of}
+use Rattle.std.proofs.Common.{ℕ, ◌≤◌, length, ◌≡◌, List, [], ◌∷◌, ◌++◌, take, map, append_assoc, append-nil, sym, ap, ◌∙◌, ℤ, nat_abs}
+use Rattle.base.specs.Text.{text, decimal, Put}
+use Rattle.texts.specs.Numbers.{written}
+use Rattle.texts.specs.Records.{word_of, name_of}
 use Rattle.texts.specs.Complaints.{plain, longest_quoted, quoted, quoted_due, not_in, fault_text, complaint_text, Fault, InLine, OtherWord, NoNumber, EndMissing}
-use Rattle.texts.specs.Pieces.{dots, sign_of}
+use Rattle.texts.specs.Pieces.{dots, sign_of, range_end, number_told}
+use Rattle.texts.specs.Places.{record_named}
+use Rattle.rules.specs.Format.{Slot}
 use Rattle.texts.proofs.Printed.{written_as}
 
 quoted_then : (w more : List ℕ) → quoted w ++ more ≡ text "'" ++ (map plain (take longest_quoted w) ++ (dots w ++ (text "'" ++ more)))
@@ -46,3 +49,18 @@ range_told lo hi {s} {t} {m} {n} sl ml th nh =
 pub in_line : (n : ℕ) (f : Fault) → complaint_text (InLine n f) ≡ (text "line " ++ (decimal n ++ text ": ")) ++ (fault_text f ++ text "\n")
 unfolding complaint_text text
 in_line n f = ap (λ (l : List ℕ). text "line " ++ l) (sym (append_assoc (decimal n) (text ": ") (fault_text f ++ text "\n")))
+
+-- three pieces of a record that is named, and of a number that is told
+pub named_in_three : (p : ℕ) (s : Slot) → record_named p s ≡ (text "record " ++ (decimal p ++ text " (")) ++ (name_of s ++ text ")")
+unfolding text
+named_in_three p s = ap (λ (l : List ℕ). text "record " ++ l) (sym (append_assoc (decimal p) (text " (") (name_of s ++ text ")")))
+
+pub number_in_three : (q : ℕ) (v lo hi : ℤ) → number_told q v lo hi ≡ (text ", number " ++ (decimal q ++ text ": ")) ++ (written v ++ range_end lo hi)
+unfolding text
+number_in_three q v lo hi = ap (λ (l : List ℕ). text ", number " ++ l) (sym (append_assoc (decimal q) (text ": ") (written v ++ range_end lo hi)))
+
+pub room_as : {a b : List ℕ} {n : ℕ} → a ≡ b → length a ≤ n → length b ≤ n
+room_as e h = rw e at h
+
+pub put_as : {a b old new : List ℕ} {n : ℕ} → a ≡ b → Put b old new n → Put a old new n
+put_as e p = rw e p

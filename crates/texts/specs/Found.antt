@@ -2,7 +2,7 @@
 use Rattle.std.specs.Prelude.{ℕ, ◌+◌, ◌≡◌, List, [], take, drop, Result, Ok, Err}
 use Rattle.std.specs.Borrow.{Bor}
 use Rattle.rules.specs.District.{District}
-use Rattle.grammar.specs.Slots.{form_number}
+use Rattle.grammar.specs.Slots.{form_number, slot_in}
 use Rattle.grammar.specs.declared.kinds.Form.{Form}
 use Rattle.texts.specs.Words.{Words, words_in, Line, is_line_feed, parts, lines_in, lines_from}
 use Rattle.texts.specs.Complaints as C
@@ -10,6 +10,9 @@ use Rattle.texts.specs.Reading.{Reading, wrong, found, Formed}
 use Rattle.texts.specs.declared.faults.Complaint.{Complaint}
 use Rattle.texts.specs.declared.faults.Complaint.TheVariants.{TooLong, InLine}
 use Rattle.texts.specs.declared.remaining.Remaining.{Remaining}
+use Rattle.texts.specs.Places as P
+use Rattle.texts.specs.declared.refused.Place.{Place}
+use Rattle.texts.specs.declared.refused.Place.TheVariants.{EndsWithin, OtherKind, OtherLength, OutOfRange as OutsideRange, BehindEnd as FollowsEnd}
 use Rattle.texts.specs.declared.faults.Fault.{Fault}
 use Rattle.texts.specs.declared.faults.Fault.TheVariants.{OtherWord, NumberMissing, NoNumber, OutOfRange, NumberTooMany, BehindEnd, EndMissing}
 
@@ -68,3 +71,12 @@ records_in d (Err c) = wrong (complaint_in c)
 abbrev pub formed_in : District → Result Form Complaint → Result Formed C.Complaint
 formed_in d (Ok form) = Ok (record { form = form_number form; district = d })
 formed_in d (Err c) = Err (complaint_in c)
+
+-- ---- places of a file
+
+abbrev pub place_of : Place → P.Place
+place_of (EndsWithin p s) = P.EndsWithin p (slot_in s)
+place_of (OtherKind p kind due) = P.OtherKind p kind due
+place_of (OtherLength p s size due) = P.OtherLength p (slot_in s) size due
+place_of (OutsideRange p s q v lo hi) = P.OutOfRange p (slot_in s) q v lo hi
+place_of (FollowsEnd n) = P.BehindEnd n

@@ -2,8 +2,8 @@
 use Rattle.std.specs.Prelude.{ℕ, List, [], ◌∷◌, ◌++◌, leb, length, map, ℤ, pos, negsuc}
 use Rattle.base.specs.Choice.{pick}
 use Rattle.base.specs.Text.{text, decimal}
-use Rattle.texts.specs.Numbers.{minus_sign}
-use Rattle.texts.specs.Complaints.{plain, longest_quoted}
+use Rattle.texts.specs.Numbers.{minus_sign, written}
+use Rattle.texts.specs.Complaints.{plain, longest_quoted, not_in}
 use Rattle.rules.specs.District.{District, value_at}
 use Rattle.rules.specs.Format.{field_at, Slot}
 use Rattle.texts.specs.Records.{is_due}
@@ -33,3 +33,12 @@ dots w = pick (leb (length w) longest_quoted) [] (text "..")
 -- the n-th number of a record, which stands at the place, where the district has it
 abbrev pub due_text : District → Slot → ℕ → ℕ → List ℕ
 due_text d s n place = pick (is_due d s n) (number_text (field_at d s n) (value_at d place)) []
+
+-- ---- what is told of a place
+
+-- a range that ends its line, and a number that is not in it
+abbrev pub range_end : ℤ → ℤ → List ℕ
+range_end lo hi = not_in lo hi ++ text "\n"
+
+abbrev pub number_told : ℕ → ℤ → ℤ → ℤ → List ℕ
+number_told q v lo hi = text ", number " ++ (decimal q ++ (text ": " ++ (written v ++ range_end lo hi)))

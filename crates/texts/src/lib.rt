@@ -11,11 +11,13 @@ mod numbers;
 mod printing;
 mod reading;
 mod records;
+mod refused;
 mod remaining;
 mod words;
 
 pub use faults::{Complaint, Fault};
 use grammar::Form;
+pub use refused::Place;
 use remaining::Remaining;
 use rules::District;
 

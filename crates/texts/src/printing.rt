@@ -3,10 +3,11 @@ ghost use Rattle.std.specs.Prelude.{◌≡◌, ◌+◌, ◌++◌, ◌≤◌, ◌
 ghost use Rattle.base.specs.Text.{text, digits_of, Put};
 ghost use Rattle.texts.specs.Numbers.{written};
 ghost use Rattle.texts.specs.Complaints.{plain, not_in, fault_text, complaint_text, TooLong, InLine};
-ghost use Rattle.texts.specs.Pieces.{sign_of, piece_text, pieces_text, dots, due_text};
+ghost use Rattle.texts.specs.Places.{record_named};
+ghost use Rattle.texts.specs.Pieces.{sign_of, piece_text, pieces_text, dots, due_text, range_end, number_told};
 ghost use Rattle.grammar.specs.Slots.{form_number, slot_in};
 ghost use Rattle.rules.specs.District.{district_places};
-ghost use Rattle.rules.specs.Format.{file_records, present};
+ghost use Rattle.rules.specs.Format.{present};
 ghost use Rattle.texts.specs.Records.{is_numbered, name_of};
 ghost use Rattle.texts.specs.Printing.{number_text, numbers_text, comment_of, record_text, text_of};
 ghost use Rattle.texts.specs.Found.{fault_in, complaint_in};
@@ -279,10 +280,9 @@ fn is_numbered(s: Slot) -> bool
     matches!(s.kind, Kind::Strategy | Kind::Pavement | Kind::Segment)
 }
 
-// The record's name. There are not so many of a kind as there are records.
+// The record's name.
 fn put_name(out: &mut [u8], s: Slot) -> usize
-    requires room { length (name_of (slot_in s)) ≤ length out.old }
-    requires few { s.nth ≤ file_records }
+    requires { length (name_of (slot_in s)) ≤ length out.old }
     ensures { Put (name_of (slot_in s)) out.old out.new result }
 {
     let word = records::word_of(s.kind_number());
@@ -292,7 +292,7 @@ fn put_name(out: &mut [u8], s: Slot) -> usize
             &[
                 Piece::Bytes(word),
                 Piece::Bytes(b" "),
-                Piece::Number(s.nth + 1),
+                Piece::Size(s.nth as u128 + 1),
             ],
         )
     } else {
@@ -302,8 +302,7 @@ fn put_name(out: &mut [u8], s: Slot) -> usize
 
 #[tactic(auto, using(base::proofs::Text::front_fits, listing::proofs::Pieces::second_fits, listing::proofs::Pieces::put_two), unfolding(base::specs::Text::text))]
 fn put_name_comment(out: &mut [u8], s: Slot) -> usize
-    requires room { length (text " # " ++ name_of (slot_in s)) ≤ length out.old }
-    requires few { s.nth ≤ file_records }
+    requires { length (text " # " ++ name_of (slot_in s)) ≤ length out.old }
     ensures { Put (text " # " ++ name_of (slot_in s)) out.old out.new result }
 {
     let at = listing::put(out, b" # ");
@@ -312,8 +311,7 @@ fn put_name_comment(out: &mut [u8], s: Slot) -> usize
 
 #[tactic(auto, unfolding(crate::specs::Printing::comment_of, base::specs::Text::text))]
 fn put_comment(out: &mut [u8], s: Slot) -> usize
-    requires room { length (comment_of (slot_in s)) ≤ length out.old }
-    requires few { s.nth ≤ file_records }
+    requires { length (comment_of (slot_in s)) ≤ length out.old }
     ensures { Put (comment_of (slot_in s)) out.old out.new result }
 {
     match s.kind {
@@ -328,8 +326,7 @@ fn put_comment(out: &mut [u8], s: Slot) -> usize
 
 #[tactic(auto, using(base::proofs::Text::front_fits, listing::proofs::Pieces::second_fits, listing::proofs::Pieces::put_two), unfolding(base::specs::Text::text))]
 fn put_ending(out: &mut [u8], s: Slot) -> usize
-    requires room { length (comment_of (slot_in s) ++ text "\n") ≤ length out.old }
-    requires few { s.nth ≤ file_records }
+    requires { length (comment_of (slot_in s) ++ text "\n") ≤ length out.old }
     ensures { Put (comment_of (slot_in s) ++ text "\n") out.old out.new result }
 {
     let at = put_comment(out, s);
@@ -340,7 +337,6 @@ fn put_ending(out: &mut [u8], s: Slot) -> usize
 #[tactic(auto, using(base::proofs::Text::front_fits, listing::proofs::Pieces::second_of_three_fits, listing::proofs::Pieces::third_fits, listing::proofs::Pieces::put_three))]
 fn put_record(out: &mut [u8], d: &District, s: Slot, place: usize) -> usize
     requires room { length (record_text (present d.now (slot_in s)) d.now (slot_in s) place) ≤ length out.old }
-    requires few { s.nth ≤ file_records }
     requires within { place + s.places ≤ district_places }
     ensures { Put (record_text (present d.now (slot_in s)) d.now (slot_in s) place) out.old out.new result }
 {
@@ -365,4 +361,48 @@ pub fn put_text(out: &mut [u8], form: Form, d: &District) -> usize
         place += s.places;
     }
     at
+}
+
+// ---- where a file is refused
+
+// The record that is due, with its name.
+fn put_record_named(out: &mut [u8], p: usize, s: Slot) -> usize
+    requires { length (record_named p (slot_in s)) ≤ length out.old }
+    ensures { Put (record_named p (slot_in s)) out.old out.new result }
+{
+    let mut at = put_pieces(
+        out,
+        &[
+            Piece::Bytes(b"record "),
+            Piece::Number(p),
+            Piece::Bytes(b" ("),
+        ],
+    );
+    at += put_name(&mut out[at..], s);
+    at + listing::put(&mut out[at..], b")")
+}
+
+#[tactic(auto, using(base::proofs::Text::front_fits, listing::proofs::Pieces::second_fits, listing::proofs::Pieces::put_two), unfolding(base::specs::Text::text))]
+fn put_range_end(out: &mut [u8], lo: i128, hi: i128) -> usize
+    requires { length (range_end lo hi) ≤ length out.old }
+    ensures { Put (range_end lo hi) out.old out.new result }
+{
+    let at = put_not_in(out, lo, hi);
+    at + listing::put(&mut out[at..], b"\n")
+}
+
+fn put_number_told(out: &mut [u8], q: usize, v: i128, lo: i128, hi: i128) -> usize
+    requires { length (number_told q v lo hi) ≤ length out.old }
+    ensures { Put (number_told q v lo hi) out.old out.new result }
+{
+    let mut at = put_pieces(
+        out,
+        &[
+            Piece::Bytes(b", number "),
+            Piece::Number(q),
+            Piece::Bytes(b": "),
+        ],
+    );
+    at += put_written(&mut out[at..], v);
+    at + put_range_end(&mut out[at..], lo, hi)
 }

@@ -7,4 +7,4 @@ use Rattle.texts.proofs.printing.put_ending.Goals as goal
 
 pub returns : goal.returns
 unfolding text
-returns c = put_two (comment_of (slot_in c.args.s)) (text "\n") c.requires.room c.put_comment-at.ensures c.put.ensures
+returns c = put_two (comment_of (slot_in c.args.s)) (text "\n") c.requires c.put_comment-at.ensures c.put.ensures

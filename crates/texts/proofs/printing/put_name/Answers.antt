@@ -10,11 +10,11 @@ use Rattle.texts.proofs.printing.put_name.Goals as goal
 pub put_pieces-requires : goal.put_pieces-requires
 unfolding pieces_text text
 put_pieces-requires c =
-    rw (numbered (slot_in c.args.s) (sym c.if-is_numbered.ensures) (c.word_of-word.ensures ∙ ap word_of c.kind_number.ensures)) at c.requires.room
+    rw (numbered (slot_in c.args.s) (sym c.if-is_numbered.ensures) (c.word_of-word.ensures ∙ ap word_of c.kind_number.ensures)) at c.requires
 
 pub put-requires : goal.put-requires
 put-requires c =
-    rw (unnumbered (slot_in c.args.s) (sym c.if-is_numbered.ensures) (c.word_of-word.ensures ∙ ap word_of c.kind_number.ensures)) at c.requires.room
+    rw (unnumbered (slot_in c.args.s) (sym c.if-is_numbered.ensures) (c.word_of-word.ensures ∙ ap word_of c.kind_number.ensures)) at c.requires
 
 pub returns-then-is_numbered : goal.returns-then-is_numbered
 unfolding pieces_text text

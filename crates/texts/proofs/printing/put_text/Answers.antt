@@ -6,7 +6,7 @@ use Rattle.grammar.specs.Slots.{form_number, slot_in}
 use Rattle.grammar.proofs.Slots.{record_room, start_next}
 use Rattle.rules.specs.Format.{file_records, present, Slot}
 use Rattle.texts.specs.Printing.{records_text, record_text, text_of}
-use Rattle.texts.proofs.Lined.{record_next, nth_few}
+use Rattle.texts.proofs.Lined.{record_next}
 use Rattle.texts.proofs.printing.put_text.Goals as goal
 
 pub loop-n-init : goal.loop-n-init
@@ -19,9 +19,6 @@ put_record-at-requires-clause-room c =
     let l = c.loop-n in
     let s = slot_in c.slot_at-s.result in
     tail_fits (record_text (present d s) d s l.place) _ (record_next (form_number c.args.form) d l.n l.place (omega arith) s c.slot_at-s.ensures l.invariant.0) c.requires
-
-pub put_record-at-requires-clause-few : goal.put_record-at-requires-clause-few
-put_record-at-requires-clause-few c = omega (arith, ap (λ (t : Slot). t.nth) c.slot_at-s.ensures, nth_few (form_number c.args.form) c.loop-n.n)
 
 pub put_record-at-requires-clause-within : goal.put_record-at-requires-clause-within
 put_record-at-requires-clause-within c =
