@@ -7,6 +7,7 @@ mod Taken
 mod Held
 pub mod Ranged
 pub mod Loads
+mod Short
 pub mod Places
 pub mod Fronts
 mod Printed
