@@ -42,3 +42,6 @@ range_end lo hi = not_in lo hi ++ text "\n"
 
 abbrev pub number_told : ℕ → ℤ → ℤ → ℤ → List ℕ
 number_told q v lo hi = text ", number " ++ (decimal q ++ (text ": " ++ (written v ++ range_end lo hi)))
+
+abbrev pub lengths_told : ℕ → ℕ → List ℕ
+lengths_told size due = text ": " ++ (decimal size ++ (text " bytes stand where " ++ (decimal due ++ text " are due\n")))

@@ -3,16 +3,17 @@ ghost use Rattle.std.specs.Prelude.{◌≡◌, ◌+◌, ◌++◌, ◌≤◌, ◌
 ghost use Rattle.base.specs.Text.{text, digits_of, Put};
 ghost use Rattle.texts.specs.Numbers.{written};
 ghost use Rattle.texts.specs.Complaints.{plain, not_in, fault_text, complaint_text, TooLong, InLine};
-ghost use Rattle.texts.specs.Places.{record_named};
-ghost use Rattle.texts.specs.Pieces.{sign_of, piece_text, pieces_text, dots, due_text, range_end, number_told};
+ghost use Rattle.texts.specs.Places.{record_named, place_text, EndsWithin, OtherLength, OutOfRange};
+ghost use Rattle.texts.specs.Pieces.{sign_of, piece_text, pieces_text, dots, due_text, range_end, number_told, lengths_told};
 ghost use Rattle.grammar.specs.Slots.{form_number, slot_in};
 ghost use Rattle.rules.specs.District.{district_places};
 ghost use Rattle.rules.specs.Format.{present};
 ghost use Rattle.texts.specs.Records.{is_numbered, name_of};
 ghost use Rattle.texts.specs.Printing.{number_text, numbers_text, comment_of, record_text, text_of};
-ghost use Rattle.texts.specs.Found.{fault_in, complaint_in};
+ghost use Rattle.texts.specs.Found.{fault_in, complaint_in, place_of};
 
 use crate::faults::{Complaint, Fault};
+use crate::refused::Place;
 use crate::{numbers, records};
 use grammar::{Form, Kind, Slot};
 use rules::records::RECORDS;
@@ -405,4 +406,75 @@ fn put_number_told(out: &mut [u8], q: usize, v: i128, lo: i128, hi: i128) -> usi
     );
     at += put_written(&mut out[at..], v);
     at + put_range_end(&mut out[at..], lo, hi)
+}
+
+#[tactic(auto, using(base::proofs::Text::front_fits, listing::proofs::Pieces::second_fits, listing::proofs::Pieces::put_two), unfolding(crate::specs::Places::place_text, base::specs::Text::text))]
+fn put_ends_within(out: &mut [u8], p: usize, s: Slot) -> usize
+    requires { length (place_text (EndsWithin p (slot_in s))) ≤ length out.old }
+    ensures { Put (place_text (EndsWithin p (slot_in s))) out.old out.new result }
+{
+    let at = put_record_named(out, p, s);
+    at + listing::put(&mut out[at..], b": the file ends within it\n")
+}
+
+fn put_lengths(out: &mut [u8], size: usize, due: usize) -> usize
+    requires { length (lengths_told size due) ≤ length out.old }
+    ensures { Put (lengths_told size due) out.old out.new result }
+{
+    put_pieces(
+        out,
+        &[
+            Piece::Bytes(b": "),
+            Piece::Number(size),
+            Piece::Bytes(b" bytes stand where "),
+            Piece::Number(due),
+            Piece::Bytes(b" are due\n"),
+        ],
+    )
+}
+
+#[tactic(auto, using(base::proofs::Text::front_fits, listing::proofs::Pieces::second_fits, listing::proofs::Pieces::put_two), unfolding(crate::specs::Places::place_text, base::specs::Text::text))]
+fn put_other_length(out: &mut [u8], p: usize, s: Slot, size: usize, due: usize) -> usize
+    requires { length (place_text (OtherLength p (slot_in s) size due)) ≤ length out.old }
+    ensures { Put (place_text (OtherLength p (slot_in s) size due)) out.old out.new result }
+{
+    let at = put_record_named(out, p, s);
+    at + put_lengths(&mut out[at..], size, due)
+}
+
+#[tactic(auto, using(base::proofs::Text::front_fits, listing::proofs::Pieces::second_fits, listing::proofs::Pieces::put_two), unfolding(crate::specs::Places::place_text, base::specs::Text::text))]
+fn put_outside(out: &mut [u8], p: usize, s: Slot, q: usize, v: i128, lo: i128, hi: i128) -> usize
+    requires { length (place_text (OutOfRange p (slot_in s) q v lo hi)) ≤ length out.old }
+    ensures { Put (place_text (OutOfRange p (slot_in s) q v lo hi)) out.old out.new result }
+{
+    let at = put_record_named(out, p, s);
+    at + put_number_told(&mut out[at..], q, v, lo, hi)
+}
+
+// Where a file is refused, as a line.
+pub fn put_place(out: &mut [u8], place: Place) -> usize
+    requires { length (place_text (place_of place)) ≤ length out.old }
+    ensures { Put (place_text (place_of place)) out.old out.new result }
+{
+    match place {
+        Place::EndsWithin(p, s) => put_ends_within(out, p, s),
+        Place::OtherKind(p, kind, due) => put_pieces(
+            out,
+            &[
+                Piece::Bytes(b"record "),
+                Piece::Number(p),
+                Piece::Bytes(b": kind "),
+                Piece::Number(kind),
+                Piece::Bytes(b" stands where "),
+                Piece::Number(due),
+                Piece::Bytes(b" is due\n"),
+            ],
+        ),
+        Place::OtherLength(p, s, size, due) => put_other_length(out, p, s, size, due),
+        Place::OutOfRange(p, s, q, v, lo, hi) => put_outside(out, p, s, q, v, lo, hi),
+        Place::BehindEnd(n) => put_pieces(
+            out,
+            &[Piece::Number(n), Piece::Bytes(b" bytes follow the end\n")],
+        ),
+    }
 }
