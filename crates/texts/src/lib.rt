@@ -5,6 +5,8 @@
 ghost use Rattle.std.specs.Prelude.{◌≡◌};
 ghost use Rattle.texts.specs.Reading.{read_text};
 ghost use Rattle.texts.specs.Found.{formed_in};
+ghost use Rattle.texts.specs.Programs.{packed};
+ghost use Rattle.base.specs.Text.{Put};
 
 mod faults;
 mod numbers;
@@ -20,6 +22,8 @@ use grammar::Form;
 pub use refused::Place;
 use remaining::Remaining;
 use rules::District;
+use rules::places::DISTRICT_PLACES;
+use rules::records::LONGEST_FILE;
 
 // A text may have so many bytes.
 pub const LONGEST_TEXT: usize = 65_536;
@@ -38,4 +42,15 @@ pub fn read_text<'a>(text: &'a [u8], d: &mut District) -> Result<Form, Complaint
     let form = reading::form_in(lines);
     reading::read_records(form, d, lines)?;
     Ok(form)
+}
+
+// What pack prints for the text, its file or the complaint, to the front of an array that has room for both.
+pub fn pack(text: &[u8], out: &mut [u8; LONGEST_FILE]) -> usize
+    ensures { Put (packed text.now) out.old out.new result }
+{
+    let mut d = [0; DISTRICT_PLACES];
+    match read_text(text, &mut d) {
+        Ok(form) => file::export_as(form, &d, out).unwrap_or(0),
+        Err(complaint) => printing::put_complaint(out, complaint),
+    }
 }
