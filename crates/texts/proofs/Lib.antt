@@ -8,6 +8,7 @@ mod Held
 pub mod Ranged
 pub mod Loads
 mod Short
+mod Written
 pub mod Places
 pub mod Fronts
 mod Printed
