@@ -14,3 +14,4 @@ pub mod Fronts
 mod Printed
 mod Told
 mod Lined
+pub mod Lengths

@@ -152,19 +152,19 @@ twelve kind =
     (either _ (text "pavement") _ (omega arith)
     (either _ (text "segment") (text "end") (omega arith) (record { few = omega arith })))))))
 
-kind_short : (kind : ℕ) → length (word_of kind) ≤ 12
+pub kind_short : (kind : ℕ) → length (word_of kind) ≤ 12
 kind_short kind = (twelve kind).few
 
 due_short : (kind : ℕ) → length (quoted_due kind) ≤ 14
 unfolding quoted_due text
 due_short kind = omega (arith, kind_short kind, length-append (word_of kind) (text "'"))
 
-written_short : (v : ℤ) → length (written v) ≤ most_digits + 1
+pub written_short : (v : ℤ) → length (written v) ≤ most_digits + 1
 unfolding written
 written_short (pos n) = omega (arith, decimal_few n)
 written_short (negsuc n) = omega (arith, decimal_few (suc n))
 
-not_in_short : (lo hi : ℤ) → length (not_in lo hi) ≤ 54
+pub not_in_short : (lo hi : ℤ) → length (not_in lo hi) ≤ 54
 unfolding not_in text
 not_in_short lo hi = omega (arith, written_short lo, written_short hi, length-append (written lo) (text " to " ++ written hi))
 

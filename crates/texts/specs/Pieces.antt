@@ -45,3 +45,7 @@ number_told q v lo hi = text ", number " ++ (decimal q ++ (text ": " ++ (written
 
 abbrev pub lengths_told : ℕ → ℕ → List ℕ
 lengths_told size due = text ": " ++ (decimal size ++ (text " bytes stand where " ++ (decimal due ++ text " are due\n")))
+
+-- no place's line has more bytes
+abbrev pub longest_place : ℕ
+longest_place = 170

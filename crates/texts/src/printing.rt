@@ -1,10 +1,11 @@
 // What is told of a text and of a file, and a district's text, written to the front of a lent buffer, as listing's writers do.
 ghost use Rattle.std.specs.Prelude.{◌≡◌, ◌+◌, ◌++◌, ◌≤◌, ◌<◌, length, map};
 ghost use Rattle.base.specs.Text.{text, digits_of, Put};
+ghost use Rattle.listing.specs.Listing.{refusal, longest_refusal};
 ghost use Rattle.texts.specs.Numbers.{written};
 ghost use Rattle.texts.specs.Complaints.{plain, not_in, fault_text, complaint_text, TooLong, InLine};
-ghost use Rattle.texts.specs.Places.{record_named, place_text, EndsWithin, OtherLength, OutOfRange};
-ghost use Rattle.texts.specs.Pieces.{sign_of, piece_text, pieces_text, dots, due_text, range_end, number_told, lengths_told};
+ghost use Rattle.texts.specs.Places.{record_named, refusal_at, place_text, EndsWithin, OtherLength, OutOfRange};
+ghost use Rattle.texts.specs.Pieces.{sign_of, piece_text, pieces_text, dots, due_text, range_end, number_told, lengths_told, longest_place};
 ghost use Rattle.grammar.specs.Slots.{form_number, slot_in};
 ghost use Rattle.rules.specs.District.{district_places};
 ghost use Rattle.rules.specs.Format.{present};
@@ -14,7 +15,7 @@ ghost use Rattle.texts.specs.Found.{fault_in, complaint_in, place_of};
 
 use crate::faults::{Complaint, Fault};
 use crate::refused::Place;
-use crate::{numbers, records};
+use crate::{numbers, records, refused};
 use grammar::{Form, Kind, Slot};
 use rules::records::RECORDS;
 use rules::{District, Field};
@@ -477,4 +478,14 @@ pub fn put_place(out: &mut [u8], place: Place) -> usize
             &[Piece::Number(n), Piece::Bytes(b" bytes follow the end\n")],
         ),
     }
+}
+
+// The two lines of a file that is refused.
+#[tactic(auto, using(crate::proofs::Lengths::refused_fits, listing::proofs::Lengths::refusal_few, base::proofs::Text::front_fits, listing::proofs::Pieces::second_fits, listing::proofs::Pieces::put_two))]
+pub fn put_refused_at(out: &mut [u8], place: Place) -> usize
+    requires { longest_refusal + longest_place ≤ length out.old }
+    ensures { Put (refusal (refusal_at (place_of place)) ++ place_text (place_of place)) out.old out.new result }
+{
+    let at = listing::put_refused(out, refused::refusal_at(place));
+    at + put_place(&mut out[at..], place)
 }

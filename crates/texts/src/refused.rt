@@ -1,7 +1,11 @@
 // Where the first test is that a file does not meet (specs/Places.antt). The first number is which record of the file it is, from 1;
 // a slot is the record due there.
+ghost use Rattle.std.specs.Prelude.{◌≡◌};
+ghost use Rattle.texts.specs.Places.{refusal_at};
+ghost use Rattle.texts.specs.Found.{place_of};
 
 use grammar::Slot;
+use rules::Refusal;
 
 #[derive(Clone, Copy)]
 pub enum Place {
@@ -14,4 +18,19 @@ pub enum Place {
     OutOfRange(usize, Slot, usize, i128, i128, i128),
     // How many bytes follow the end.
     BehindEnd(usize),
+}
+
+// The number of the test.
+#[tactic(auto, unfolding(crate::specs::Places::refusal_at))]
+pub fn refusal_at(place: Place) -> usize
+    ensures { result ≡ refusal_at (place_of place) }
+{
+    let refusal = match place {
+        Place::EndsWithin(..) => Refusal::CutShort,
+        Place::OtherKind(..) => Refusal::OtherKind,
+        Place::OtherLength(..) => Refusal::OtherLength,
+        Place::OutOfRange(..) => Refusal::OutOfRange,
+        Place::BehindEnd(_) => Refusal::BytesFollow,
+    };
+    usize::from(refusal)
 }
