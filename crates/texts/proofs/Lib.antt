@@ -9,6 +9,7 @@ pub mod Ranged
 pub mod Loads
 mod Short
 mod Written
+mod Shown
 pub mod Places
 pub mod Fronts
 mod Printed
