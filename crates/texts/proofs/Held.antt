@@ -1,14 +1,12 @@
 -- A number of a text that is in its field's range is one that the field may hold.
-use Rattle.std.proofs.Common.{ℕ, zero, suc, ◌-◌, ◌<◌, ◌≡◌, Bool, true, false, ◌&&◌, ltb, leb, ℤ, pos, negsuc, refl, arith}
-use lib.Dec.{lit<}
+use Rattle.std.proofs.Common.{ℕ, ◌-◌, ◌<◌, ◌≡◌, Bool, true, false, ◌&&◌, ltb, leb, ℤ, pos, negsuc, refl, arith}
 use borrow.Author.Tests.{leb-true, le-leb, lt-leb, ltb-true, ltb-false, lt-ltb}
 use Rattle.std.specs.Int.Signed.{le_z}
 use Rattle.std.proofs.lemmas.Bool.{and_parts}
-use Rattle.base.proofs.Choice.{pick_all}
-use Rattle.base.specs.Choice.{pick}
-use Rattle.rules.specs.District.{District}
-use Rattle.rules.specs.Format.{number, absent, inside, ranged, count_field, limit_field, greatest_field, strategy_field, pavement_field, segment_field, kind_field, field_at, Slot}
+use Rattle.rules.specs.District.{District, pavements_of}
+use Rattle.rules.specs.Format.{number, absent, inside, ranged, field_at, Slot}
 use Rattle.rules.specs.declared.Field.{Field}
+use Rattle.texts.proofs.Fields.{field_all}
 use Rattle.grammar.proofs.Bounds.{inside_number}
 use Rattle.texts.specs.Numbers.{in_field, held_as}
 
@@ -16,10 +14,6 @@ use Rattle.texts.specs.Numbers.{in_field, held_as}
 pub record Holds (f : Field) : Type 0 where
   pub held : (v : ℤ) → in_field f v ≡ true → inside f (held_as v) ≡ true
   pub none : ltb 0 f.width ≡ false → inside f 0 ≡ true
-
--- for the ruleset: `search` does not find the property of `pick_all`
-holds_pick : (t : Bool) (f g : Field) → Holds f → Holds g → Holds (pick t f g)
-holds_pick t f g h k = pick_all Holds t f g h k
 
 -- a range that does not run past the largest number holds no negative one
 straight : (w lo hi : ℕ) (v : ℤ) → (le_z (pos lo) v && le_z v (pos hi)) ≡ true → inside (number w lo hi) (held_as v) ≡ true
@@ -51,37 +45,5 @@ holds_gain = record { held = each; none = λ e. absurd cc }
         let l = leb-true n 49 (and_parts (leb n 49) true e).0 in
         rw (lt-leb (255 - n) 50 (omega arith), le-leb 206 (255 - n) (omega arith), le-leb (255 - n) 255 (omega arith)) refl
 
-ruleset holding = (tt, lit<, holds_pick, holds_number, holds_absent, holds_gain)
-
-count_holds : (n : ℕ) → Holds (count_field n)
-count_holds zero = search holding depth 10
-count_holds (suc zero) = search holding depth 10
-count_holds (suc (suc zero)) = search holding depth 10
-count_holds (suc (suc (suc zero))) = search holding depth 10
-count_holds (suc (suc (suc (suc zero)))) = search holding depth 10
-count_holds (suc (suc (suc (suc (suc zero))))) = search holding depth 10
-count_holds (suc (suc (suc (suc (suc (suc n)))))) = search holding depth 10
-
-module _ (d : District) (s : Slot) (n : ℕ) where
-  limit_holds : Holds (limit_field d n)
-  limit_holds = search holding depth 10
-
-  greatest_holds : Holds (greatest_field d n)
-  greatest_holds = search holding depth 10
-
-  strategy_holds : Holds (strategy_field d n)
-  strategy_holds = search holding depth 20
-
-  pavement_holds : Holds (pavement_field d n)
-  pavement_holds = search holding depth 20
-
-  segment_holds : Holds (segment_field d s n)
-  segment_holds = search holding depth 20
-
-  kind_holds : Holds (kind_field d s n)
-  kind_holds =
-      holds_pick _ _ _ (count_holds n) (holds_pick _ _ _ limit_holds (holds_pick _ _ _ greatest_holds (holds_pick _ _ _ strategy_holds (holds_pick _ _ _ pavement_holds (holds_pick _ _ _ segment_holds holds_absent)))))
-
-  pub field_holds : Holds (field_at d s n)
-  unfolding field_at
-  field_holds = holds_pick _ _ _ kind_holds holds_absent
+pub field_holds : (d : District) (s : Slot) (n : ℕ) → Holds (field_at d s n)
+field_holds d = field_all Holds (λ w lo hi h l e. holds_number w lo hi h l) holds_gain holds_absent d (holds_number 1 1 (pavements_of d) (omega arith) (omega arith))

@@ -4,6 +4,7 @@ mod Digits
 pub mod Lines
 mod Passed
 mod Taken
+mod Fields
 mod Held
 pub mod Ranged
 pub mod Loads
