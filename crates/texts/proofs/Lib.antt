@@ -17,3 +17,4 @@ mod Printed
 mod Told
 mod Lined
 pub mod Lengths
+mod Outside
