@@ -6,7 +6,7 @@ use mathlib.Core.List.{List, [], ◌∷◌, ◌++◌, append-nil}
 use native.Mathlib.Numerals.{add-one}
 use native.Mathlib.Omega.{arith}
 use lib.ListN.{length, get_or, take, drop, set, replicate, length-append, length-drop}
-use lib.Seq.{append_snoc, take-suc-set, drop-set-add}
+use lib.Seq.{append_snoc, take-add, take-suc-set, drop-set-add}
 use Rattle.base.proofs.Bytes.{length_bytes}
 use Rattle.base.proofs.Choice.{picks, pick_yes, pick_no, pick_all}
 use Rattle.base.specs.Bytes.{bytes_of, number_of}
@@ -177,3 +177,26 @@ pub records_over : (form n : ℕ) (d bs : List ℕ) → 0 < length bs → read_r
 unfolding read_records
 records_over form n d [] h = absurd (omega arith)
 records_over form n d (b ∷ bs) h = refl
+
+-- what is read of the n-th record, which has its place after the numbers of those before, says of those from it on
+module _ (form n place : ℕ) (slot : Slot) (d bs : List ℕ) (h : n < file_records) (e : slot ≡ slot_of form n) (p : place ≡ start_of n) where
+  pub placed : read_record (take (start_of n) d) (slot_of form n) bs ≡ read_record (take place d) slot bs
+  placed = ap (λ (s : Slot). read_record (take (start_of n) d) s bs) (sym e) ∙ ap (λ (q : ℕ). read_record (take q d) slot bs) (sym p)
+
+  pub joined : (next : List ℕ) → take place next ≡ take place d → take (start_of n) d ++ take slot.places (drop place next) ≡ take (start_of (n + 1)) next
+  joined next before =
+      let vs = take slot.places (drop place next) in
+      let end : place + slot.places ≡ start_of (n + 1) = omega (arith, p, ap (λ (s : Slot). s.places) e, start_next form n) in
+      ap (λ (q : ℕ). take q d ++ vs) (sym p) ∙ ap (λ (l : List ℕ). l ++ vs) (sym before) ∙ sym (take-add place slot.places next) ∙ ap (λ (q : ℕ). take q next) end
+
+  one_less : read_records form (file_records - n) n (take (start_of n) d) bs ≡ read_records form (suc (file_records - (n + 1))) n (take (start_of n) d) bs
+  one_less = ap (λ (m : ℕ). read_records form m n (take (start_of n) d) bs) (less file_records n h)
+
+  pub took : (next rest : List ℕ) → take place next ≡ take place d → read_record (take place d) slot bs ≡ found (take slot.places (drop place next)) rest → read_records form (file_records - n) n (take (start_of n) d) bs ≡ read_records form (file_records - (n + 1)) (n + 1) (take (start_of (n + 1)) next) rest
+  took next rest before r =
+      one_less
+      ∙ records_found form (file_records - (n + 1)) n (take (start_of n) d) bs (take slot.places (drop place next)) rest (placed ∙ r)
+      ∙ ap (λ (l : List ℕ). read_records form (file_records - (n + 1)) (n + 1) l rest) (joined next before)
+
+  pub refuses : (k : ℕ) → read_record (take place d) slot bs ≡ refused k → read_records form (file_records - n) n (take (start_of n) d) bs ≡ refused k
+  refuses k r = one_less ∙ records_refused form (file_records - (n + 1)) n (take (start_of n) d) bs k (placed ∙ r)

@@ -1,13 +1,13 @@
 -- Which form a file has, and which a district's.
 use Prim.Native.Nat.{ℕ, ◌+◌, ◌-◌, ◌*◌, ◌≤◌, ◌<◌, min}
-use mathlib.Core.Path.{◌≡◌, refl, sym, ◌∙◌}
+use mathlib.Core.Path.{◌≡◌, refl, sym, ap, ◌∙◌}
 use mathlib.Core.Bool.{Bool, true, false, ◌&&◌}
 use mathlib.Core.List.{List, []}
 use mathlib.Core.Logic.{inl, inr}
 use native.Mathlib.Omega.{arith}
-use lib.Dec.{eqb, leb}
+use lib.Dec.{eqb, leb, ltb}
 use lib.ListN.{length, get_or-eq_default}
-use borrow.Author.Tests.{leb-true, leb-false, eq-eqb, ne_eqb}
+use borrow.Author.Tests.{leb-true, leb-false, ltb-true, eq-eqb, ne_eqb}
 use Rattle.base.proofs.All.{all_fails, all_true}
 use Rattle.base.proofs.Choice.{picks, pick_all}
 use Rattle.base.specs.Choice.{pick}
@@ -60,13 +60,18 @@ short_as form f file h =
 
 -- ---- in which form a file is read
 
-pub read_short : (form : ℕ) → Form form → (file : List ℕ) → length file < 4 → decode_as form file ≡ decode file
+read_short : (form : ℕ) → Form form → (file : List ℕ) → length file < 4 → decode_as form file ≡ decode file
 unfolding decode
 read_short form f file h = short_as form f file h ∙ sym (short_as (form_in file) (form_in_lem file) file h)
 
-pub read_as : (form : ℕ) (file : List ℕ) → form_in file ≡ form → decode_as form file ≡ decode file
+-- the one that the code reads it in: a file that ends before its first kind does is refused in both
+pub read_own : (form : ℕ) (file : List ℕ) → form ≡ pick (ltb (length file) 4) plain_form (form_in file) → decode_as form file ≡ decode file
 unfolding decode
-read_as form file e = rw e
+read_own form file e = ap (λ (g : ℕ). decode_as g file) e ∙ go (ltb (length file) 4) refl
+  where
+    go : (t : Bool) → ltb (length file) 4 ≡ t → decode_as (pick t plain_form (form_in file)) file ≡ decode_as (form_in file) file
+    go true q = read_short plain_form (inl refl) file (ltb-true (length file) 4 q)
+    go false q = refl
 
 -- ---- whether a leader is set
 

@@ -1,17 +1,19 @@
 // Which form a file has, and which form the file of a district gets.
-ghost use Rattle.std.specs.Prelude.{◌≡◌};
+ghost use Rattle.std.specs.Prelude.{◌≡◌, ltb, length};
+ghost use Rattle.base.specs.Choice.{pick};
 ghost use Rattle.grammar.specs.Slots.{form_number};
-ghost use Rattle.rules.specs.File.{decode_as, decode, leaderless, form_of};
+ghost use Rattle.rules.specs.File.{form_in, leaderless, form_of};
+ghost use Rattle.rules.specs.Format.{plain_form};
 
 use crate::bytes;
 use grammar::Form;
 use rules::District;
 use rules::places::*;
 
-// The form in which a file is read. One that ends before its first kind does is refused in both.
-#[tactic(auto, using(base::proofs::Choice::picks, crate::proofs::TwoForms::read_short, crate::proofs::TwoForms::read_as))]
+// The form in which a file is read. One that ends before its first kind does is refused in both (proofs/TwoForms.antt).
+#[tactic(auto, using(base::proofs::Choice::picks))]
 pub fn form_in(file: &[u8]) -> Form
-    ensures { decode_as (form_number result) file.now ≡ decode file.now }
+    ensures { form_number result ≡ pick (ltb (length file.now) 4) plain_form (form_in file.now) }
 {
     if file.len() < 4 {
         return Form::Plain;

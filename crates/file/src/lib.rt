@@ -4,8 +4,8 @@
 pub mod bytes;
 pub mod forms;
 mod ranges;
-mod reading;
-mod records;
+pub mod reading;
+pub mod records;
 mod writing;
 
 ghost use Rattle.std.specs.Prelude.{true, ◌≡◌, IfOk};

@@ -1,9 +1,9 @@
-// Reading a file's records into a district. Each reader gives the bytes that follow what it read.
-ghost use Rattle.std.specs.Prelude.{[], ◌≡◌, ◌≤◌, length, take, MatchResult};
+// Reading a file's records into a district. Each reader gives the bytes that follow what it read, and leaves the places before
+// the record as they are, also where it refuses: what stands there says where that is.
+ghost use Rattle.std.specs.Prelude.{[], ◌≡◌, ◌≤◌, length, take, drop, MatchResult};
 ghost use Rattle.grammar.specs.Slots.{slot_in};
 ghost use Rattle.rules.specs.Answers.{refusal_number};
-ghost use Rattle.rules.specs.File.{refused, size, read_numbers, read_record};
-ghost use Rattle.file.specs.Readings.{Finds};
+ghost use Rattle.rules.specs.File.{refused, found, size, read_numbers, read_record};
 ghost use Rattle.rules.specs.Format.{most_places};
 
 use crate::bytes;
@@ -25,7 +25,8 @@ impl Placed {
     // The numbers of the record, to their places of the district.
     fn read_numbers<'a>(self, d: &mut District, file: &'a [u8]) -> Result<&'a [u8], Refusal>
         requires { size (take self.place d.old) (slot_in self.slot) ≤ length file.now }
-        ensures { let read = read_numbers self.slot.places (take self.place d.old) (slot_in self.slot) 0 [] file.now in MatchResult result (λ rest. Finds read self.place self.slot.places d.old d.new rest.now) (λ refusal. read ≡ refused (refusal_number refusal)) }
+        ensures before { take self.place d.new ≡ take self.place d.old }
+        ensures numbers { let read = read_numbers self.slot.places (take self.place d.old) (slot_in self.slot) 0 [] file.now in MatchResult result (λ rest. read ≡ found (take self.slot.places (drop self.place d.new)) rest.now) (λ refusal. read ≡ refused (refusal_number refusal)) }
     {
         let mut rest = file;
         // A loop, as in read_as: the district is written, and read for each next number.
@@ -44,7 +45,8 @@ impl Placed {
 
     // The record that stands first, where the district has it. Else its numbers are zeros, and it has no bytes.
     pub fn read<'a>(self, d: &mut District, file: &'a [u8]) -> Result<&'a [u8], Refusal>
-        ensures { let read = read_record (take self.place d.old) (slot_in self.slot) file.now in MatchResult result (λ rest. Finds read self.place self.slot.places d.old d.new rest.now) (λ refusal. read ≡ refused (refusal_number refusal)) }
+        ensures before { take self.place d.new ≡ take self.place d.old }
+        ensures numbers { let read = read_record (take self.place d.old) (slot_in self.slot) file.now in MatchResult result (λ rest. read ≡ found (take self.slot.places (drop self.place d.new)) rest.now) (λ refusal. read ≡ refused (refusal_number refusal)) }
     {
         if !grammar::is_present(d, self.slot) {
             d[self.place..self.place + self.slot.places].fill(0);

@@ -4,7 +4,7 @@ use Rattle.base.specs.Bytes.{number_of}
 use Rattle.base.specs.Choice.{pick}
 use Rattle.base.proofs.Choice.{pick_yes}
 use borrow.Author.Tests.{ltb-true}
-use Rattle.file.proofs.TwoForms.{read_short}
+use Rattle.file.proofs.TwoForms.{read_own}
 use Rattle.file.proofs.Steps.{numbers_none, record_none}
 use Rattle.rules.specs.Answers.{cut_short, other_kind, other_length, out_of_range}
 use Rattle.rules.specs.Calls.{load_refusal_of, load_refusal}
@@ -73,14 +73,9 @@ module _ (form : ℕ) where
   refusals_agree zero n p d (b ∷ bs) = refl
   refusals_agree (suc m) n p d bs = step m n p d bs (read_record d (slot_of form n) bs) refl (λ q u rest. refusals_agree m (n + 1) q u rest)
 
--- a file that ends before its first kind is refused in either form
-form_agrees : (bs : List ℕ) → decode_as (form_read bs) bs ≡ decode bs
-unfolding form_read decode
-form_agrees bs = go (ltb (length bs) 4) refl
-  where
-    go : (t : Bool) → ltb (length bs) 4 ≡ t → decode_as (pick t plain_form (form_in bs)) bs ≡ decode_as (form_in bs) bs
-    go true e = read_short plain_form (inl refl) bs (ltb-true (length bs) 4 e)
-    go false e = refl
+pub form_agrees : (bs : List ℕ) → decode_as (form_read bs) bs ≡ decode bs
+unfolding form_read
+form_agrees bs = read_own (form_read bs) bs refl
 
 pub same_refusal : (file : List ℕ) → refusal_of (place_in file) ≡ load_refusal file
 unfolding place_in load_refusal decode_as

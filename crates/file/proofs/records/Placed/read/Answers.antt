@@ -56,43 +56,43 @@ returns-then-not-is_present c =
     let part = length-between d p.place (p.place + p.slot.places) room ∙ places in
     let zeros = c.fill.ensures.after (λ y q. q) ∙ ap (λ (n : ℕ). replicate n 0) part in
     rw (places, zeros) (record {
-      same =
+      before = search (overwrites, arith);
+      numbers =
           record_none (take p.place d) (slot_in p.slot) file none
           ∙ numbers_none p.slot.places (take p.place d) (slot_in p.slot) 0 [] file none
           ∙ ap (λ (l : List ℕ). found l file) (sym (search (overwrites, arith)));
-      before = search (overwrites, arith);
     })
 
-pub returns-in_default : goal.returns-in_default
-returns-in_default c =
+pub returns-in_default-clause-numbers : goal.returns-in_default-clause-numbers
+returns-in_default-clause-numbers c =
     let p = c.args.self in
-    record_short (take p.place c.args.d.now) (slot_in p.slot) c.args.file.now (there (goal.at.returns-in_default c).Else-not-is_present) c.in_default.ensures.cases
+    record_short (take p.place c.args.d.now) (slot_in p.slot) c.args.file.now (there (goal.at.returns-in_default-clause-numbers c).Else-not-is_present) c.in_default.ensures.cases
 
-pub returns-then-kind-due : goal.returns-then-kind-due
-returns-then-kind-due c =
+pub returns-then-kind-due-clause-numbers : goal.returns-then-kind-due-clause-numbers
+returns-then-kind-due-clause-numbers c =
     let p = c.args.self in
-    let at = goal.at.returns-then-kind-due c in
+    let at = goal.at.returns-then-kind-due-clause-numbers c in
     record_other (take p.place c.args.d.now) (slot_in p.slot) c.args.file.now (there at.Else-not-is_present) (long at.After-number-kind) (λ q. c.if-kind-due.true (kind at.After-number-kind ∙ q ∙ sym c.kind_number-due.ensures))
 
-pub returns-then-length-size : goal.returns-then-length-size
-returns-then-length-size c =
+pub returns-then-length-size-clause-numbers : goal.returns-then-length-size-clause-numbers
+returns-then-length-size-clause-numbers c =
     let p = c.args.self in
-    let at = goal.at.returns-then-length-size c in
+    let at = goal.at.returns-then-length-size-clause-numbers c in
     record_unlike (take p.place c.args.d.now) (slot_in p.slot) c.args.file.now (there at.Else-not-is_present) (long at.After-number-kind) (due at.After-number-kind c.if-kind-due.false) (λ q. c.if-length-size.true (len at.After-number-kind ∙ q ∙ sym (sized at.After-number-kind)))
 
-pub returns-then-body-size : goal.returns-then-body-size
-returns-then-body-size c =
+pub returns-then-body-size-clause-numbers : goal.returns-then-body-size-clause-numbers
+returns-then-body-size-clause-numbers c =
     let p = c.args.self in
-    let at = goal.at.returns-then-body-size c in
+    let at = goal.at.returns-then-body-size-clause-numbers c in
     record_cut (take p.place c.args.d.now) (slot_in p.slot) c.args.file.now (there at.Else-not-is_present) (long at.After-number-kind) (due at.After-number-kind c.if-kind-due.false) (full at.After-number-kind c.if-length-size.false) (omega (arith, sized at.After-number-kind, c.in-Some.ensures.cases.4))
 
 pub read_numbers-requires : goal.read_numbers-requires
 read_numbers-requires c = omega (arith, sized (goal.at.read_numbers-requires c).After-number-kind)
 
-pub returns : goal.returns
-returns c =
+pub returns-clause-numbers : goal.returns-clause-numbers
+returns-clause-numbers c =
     let p = c.args.self in
-    let at = goal.at.returns c in
+    let at = goal.at.returns-clause-numbers c in
     let file = c.args.file.now in
     let read = record_there (take p.place c.args.d.now) (slot_in p.slot) file (there at.Else-not-is_present) (long at.After-number-kind) (due at.After-number-kind c.if-kind-due.false) (full at.After-number-kind c.if-length-size.false) (omega (arith, sized at.After-number-kind, c.in-Some.ensures.cases.4)) in
-    rw (read, ← c.in-Some.ensures.cases.2) c.read_numbers.ensures
+    rw (read, ← c.in-Some.ensures.cases.2) c.read_numbers.ensures.numbers

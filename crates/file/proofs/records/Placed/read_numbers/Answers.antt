@@ -36,14 +36,14 @@ number-x-requires c =
     let l = c.loop-i in
     omega (arith, width_small l.d (slot_in c.args.self.slot) l.i, ap (λ (f : Field). f.width) c.field_at-f.ensures, ap length c.split_at.ensures.front, length-take-le c.field_at-f.result.width l.rest.now (omega (arith, left (goal.at.number-x-requires c).After-field_at-f)))
 
-pub returns-then-not-is_inside : goal.returns-then-not-is_inside
-returns-then-not-is_inside c =
+pub returns-then-not-is_inside-clause-numbers : goal.returns-then-not-is_inside-clause-numbers
+returns-then-not-is_inside-clause-numbers c =
     let l = c.loop-i in
     let p = c.args.self in
     let x = c.number-x in
     l.invariant.0
     ∙ ap (λ (m : ℕ). read_numbers m (take p.place c.args.d.now) (slot_in p.slot) l.i (take l.i (drop p.place l.d)) l.rest.now) (less p.slot.places l.i (omega arith))
-    ∙ number_bad _ _ _ _ _ _ c.field_at-f.result x.result (field (goal.at.returns-then-not-is_inside c).After-field_at-f) (x.ensures ∙ ap number_of c.split_at.ensures.front) (sym c.is_inside.ensures ∙ c.if-not-is_inside.true)
+    ∙ number_bad _ _ _ _ _ _ c.field_at-f.result x.result (field (goal.at.returns-then-not-is_inside-clause-numbers c).After-field_at-f) (x.ensures ∙ ap number_of c.split_at.ensures.front) (sym c.is_inside.ensures ∙ c.if-not-is_inside.true)
 
 pub split_at-requires : goal.split_at-requires
 split_at-requires c = omega (arith, left (goal.at.split_at-requires c).After-field_at-f)
@@ -63,10 +63,10 @@ loop-i-preserved c =
       take-set-le p.place l.d (p.place + l.i) x.result (omega arith) ∙ l.invariant.2,
     )
 
-pub returns : goal.returns
+pub returns-clause-numbers : goal.returns-clause-numbers
 unfolding read_numbers
-returns c =
+returns-clause-numbers c =
     let l = c.loop-i in
     let z : l.i ≡ c.args.self.slot.places = omega arith in
     let k = rw z at l.invariant.0 in
-    record { same = rw sub_self at k; before = l.invariant.2 }
+    rw sub_self at k
