@@ -16,5 +16,8 @@ pub mod Fronts
 mod Printed
 mod Told
 mod Lined
+mod Unmarked
+mod Spelt
+mod PrintedLines
 pub mod Lengths
 mod Outside
