@@ -20,4 +20,5 @@ mod Unmarked
 mod Spelt
 mod PrintedLines
 pub mod Lengths
+pub mod Longest
 mod Outside
