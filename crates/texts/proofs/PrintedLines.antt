@@ -14,6 +14,8 @@ use Rattle.texts.proofs.Passed.{first_line}
 use Rattle.texts.proofs.Unmarked.{Unmarked, part_ends, part_alone, up_past}
 use Rattle.texts.proofs.Spelt.{Spelt, word_spelt, written_spelt, spelt_all, numbers_all, Shown, line_shown}
 
+-- ---- what they are
+
 -- the words of m numbers of the record s, from its n-th on, which stand in the district from a place on
 unfoldable pub number_words : ℕ → District → Slot → ℕ → ℕ → Words
 number_words zero d s n place = []
@@ -44,7 +46,7 @@ unfolding not_empty
 not_dropped [] l ps = absurd (omega arith)
 not_dropped (b ∷ bs) l ps = refl
 
--- with a space behind it
+-- a word with a space behind it, and with nothing
 word_then : (w : Word) (rest : List ℕ) → Spelt w → words_in (w ++ 32 ∷ rest) ≡ w ∷ words_in rest
 unfolding words_in
 word_then w rest s = ap not_empty (part_ends is_blank w 32 rest (whole s) refl) ∙ not_dropped w s.some (parts is_blank rest)
@@ -54,7 +56,7 @@ unfolding words_in not_empty
 word_alone [] s = absurd (omega (arith, s.some))
 word_alone (b ∷ bs) s = ap not_empty (part_alone is_blank b bs (whole s))
 
--- no word more
+-- behind a word, it holds no other
 abbrev Last : List ℕ → Type 0
 Last bs = (w : Word) → Spelt w → words_in (w ++ bs) ≡ w ∷ []
 

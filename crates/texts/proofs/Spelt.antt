@@ -1,4 +1,4 @@
--- What the bytes of a printed text are: the words and the numbers of '-' and bytes behind it, where no mark stands.
+-- The bytes of a printed text: words and numbers are spelt in bytes from '-' on, where no mark stands, and a record's line in bytes from the space on.
 use Rattle.std.proofs.Common.{ℕ, zero, suc, ◌+◌, ◌/◌, ◌%◌, ◌≤◌, ◌≡◌, true, leb, ltb, eqb, List, [], ◌∷◌, ◌++◌, length, length-append, ℤ, pos, negsuc, refl, arith, leb-true}
 use Rattle.std.specs.List.{All, list_all}
 use Rattle.std.proofs.lemmas.List.Elements.{All-nil, All-cons, All-append, All-weaker, All-from_get_or}
@@ -14,11 +14,11 @@ use Rattle.texts.specs.Numbers.{minus_sign, written, shown_in}
 use Rattle.texts.specs.Records.{word_of, is_numbered, name_of, is_due}
 use Rattle.texts.specs.Printing.{numbers_text, comment_of}
 
--- from a byte on
+-- a test of all bytes says it of each
 from_on : (low : ℕ) (bs : List ℕ) → list_all (leb low) bs ≡ true → All (λ b. low ≤ b) bs
 from_on low bs e = All-weaker _ (λ b. low ≤ b) (λ b t. leb-true low b t) bs (AllPass-from_list_all (leb low) bs e)
 
--- what digits, letters and '-' spell
+-- not empty, and of bytes from '-' on, as digits and letters are
 pub record Spelt (w : Word) : Type 0 where
   pub some : 1 ≤ length w
   pub high : All (λ b. minus_sign ≤ b) w
