@@ -19,6 +19,7 @@ mod Lined
 mod Unmarked
 mod Spelt
 mod PrintedLines
+mod ReadBack
 pub mod Lengths
 pub mod Longest
 mod Outside
