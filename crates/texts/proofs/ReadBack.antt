@@ -1,5 +1,5 @@
--- The lines of a printed text are read as the district.
-use Rattle.std.proofs.Common.{ℕ, zero, suc, ◌+◌, ◌^◌, ◌≤◌, ◌<◌, ◌≡◌, Bool, true, false, ltb, List, [], ◌∷◌, ◌++◌, length, get_or, take, drop, replicate, nat_abs, ℤ, pos, ◌-ℤ◌, refl, sym, ap, ◌∙◌, add-zero, zero-add, add-one, le-leb, eq-eqb, ltb-false, length-drop, length-take-le, get_or-drop, get_or-take, take-suc, take-add, take_all, ext_get_or, arith}
+-- A district's text is read as the district, in the form in which it is printed.
+use Rattle.std.proofs.Common.{ℕ, zero, suc, ◌+◌, ◌^◌, ◌≤◌, ◌<◌, ◌≡◌, Bool, true, false, ltb, List, [], ◌∷◌, ◌++◌, length, get_or, take, drop, replicate, Ok, nat_abs, ℤ, pos, ◌-ℤ◌, refl, sym, ap, ◌∙◌, add-zero, zero-add, add-one, le-leb, eq-eqb, ltb-false, length-drop, length-take-le, get_or-drop, get_or-take, take-suc, take-add, take_all, ext_get_or, arith}
 use native.Mathlib.Nat.{pow-le-pow_right}
 use Rattle.std.proofs.lemmas.Int.{ints}
 use Rattle.std.proofs.lemmas.List.{get_or-replicate, length-replicate}
@@ -9,19 +9,23 @@ use Rattle.base.specs.Choice.{pick}
 use Rattle.base.specs.Same.{same}
 use Rattle.base.specs.Text.{text}
 use Rattle.rules.specs.District.{District, value_at, pavements_of, district_places}
+use Rattle.rules.specs.File.{in_range}
 use Rattle.rules.specs.Format.{present, field_at, inside, slot_of, file_records, Slot}
 use Rattle.rules.specs.declared.Field.{Field}
-use Rattle.grammar.specs.Places.{Form, start_of, Ready}
-use Rattle.grammar.proofs.Forms.{range_form, form_fits}
+use Rattle.grammar.specs.Places.{Form, Suits, start_of, Ready}
+use Rattle.grammar.proofs.Forms.{form_range, range_form, form_fits}
 use Rattle.grammar.proofs.InRange.{InRange, in_range_lem}
 use Rattle.grammar.proofs.InRanges.{pavements}
 use Rattle.grammar.proofs.Slots.{form_all, start_next, ready, width_small}
-use Rattle.texts.specs.Words.{Word, Words, Line}
+use Rattle.texts.specs.Words.{Word, Words, Line, lines_in}
 use Rattle.texts.specs.Numbers.{written, shown_in}
 use Rattle.texts.specs.Records.{word_of, is_due}
-use Rattle.texts.specs.Reading.{found, read_number, read_numbers, read_line, read_record, read_records, form_in}
+use Rattle.texts.specs.Complaints.{longest_text}
+use Rattle.texts.specs.Printing.{text_of}
+use Rattle.texts.specs.Reading.{found, read_number, read_numbers, read_line, read_record, read_records, form_in, read_lines, read_text}
 use Rattle.texts.proofs.Lines.{number_take, number_found}
-use Rattle.texts.proofs.PrintedLines.{number_words, record_words, printed_lines}
+use Rattle.texts.proofs.Longest.{printed_short}
+use Rattle.texts.proofs.PrintedLines.{number_words, record_words, printed_lines, lines_printed}
 use Rattle.texts.proofs.Shown.{field_shows}
 use Rattle.texts.proofs.Taken.{record_found}
 use Rattle.texts.proofs.Written.{written_read}
@@ -95,7 +99,7 @@ module _ (d : District) (some : 1 ≤ pavements_of d) (s : Slot) (place : ℕ) (
     none_back : present d s ≡ false → read_record (present (take place d) s) last (take place d) s ls ≡ found (take s.places (drop place d)) ls
     none_back t = rw (r.here d ∙ t) (ap (λ vs. found vs ls) (zeros t))
 
--- ---- the text
+-- ---- the lines
 
 module _ (form : ℕ) (f : Form form) (d : District) (ok : InRange form d) (last : ℕ) where
   some_pavement : 1 ≤ pavements_of d
@@ -133,13 +137,21 @@ module _ (form : ℕ) (f : Form form) (d : District) (ok : InRange form d) (last
         go false t = record_read _ k (none_back d some_pavement s p r room (λ i. ok.values n i h) (λ i. form_fits form f d ok n i h) last k (rest k) t)
 
   -- for any number of the line behind the last
-  pub lines_read : (m n k : ℕ) → n + m ≡ file_records → read_records form last m n (take (start_of n) d) (printed_lines form m d n (start_of n) k) ≡ found d []
+  lines_read : (m n k : ℕ) → n + m ≡ file_records → read_records form last m n (take (start_of n) d) (printed_lines form m d n (start_of n) k) ≡ found d []
   unfolding read_records printed_lines
   lines_read zero n k e =
       let z : n ≡ file_records = omega arith in
       rw z (ap (λ (l : List ℕ). found l []) (take_all district_places d (omega (arith, ok.places))))
   lines_read (suc m) n k e = next_read m n (omega arith) (λ j. lines_read m (n + 1) j (omega arith)) k
 
-pub form_printed : (form : ℕ) → Form form → (d : District) → form_in (printed_lines form file_records d 0 0 1) ≡ form
+form_printed : (form : ℕ) → Form form → (d : District) → form_in (printed_lines form file_records d 0 0 1) ≡ form
 unfolding form_in printed_lines word_of same text
 form_printed form f d = form_all (λ (g : ℕ). form_in (printed_lines g file_records d 0 0 1) ≡ g) refl refl form f
+
+-- ---- the text
+
+pub printed_read : (form : ℕ) → Form form → (d : District) → in_range d ≡ true → Suits form d → read_text (text_of form d) ≡ Ok (record { form = form; district = d })
+unfolding read_text read_lines
+printed_read form f d e s =
+    let bs = text_of form d in
+    rw (le-leb (length bs) longest_text (omega (arith, printed_short form f d e)), lines_printed form d, form_printed form f d, lines_read form f d (form_range form f d e s) (lines_in bs + 1) file_records 0 1 refl) refl
