@@ -2,11 +2,12 @@
 // sections they name.
 #![tactic(auto)]
 
-ghost use Rattle.std.specs.Prelude.{◌≡◌};
+ghost use Rattle.std.specs.Prelude.{◌≡◌, ◌≤◌, length};
 ghost use Rattle.texts.specs.Reading.{read_text};
 ghost use Rattle.texts.specs.Found.{formed_in};
 ghost use Rattle.texts.specs.Programs.{packed};
 ghost use Rattle.base.specs.Text.{Put};
+ghost use Rattle.rules.specs.File.{longest_file};
 
 mod faults;
 mod numbers;
@@ -23,10 +24,11 @@ pub use refused::Place;
 use remaining::Remaining;
 use rules::District;
 use rules::places::DISTRICT_PLACES;
-use rules::records::LONGEST_FILE;
 
-// A text may have so many bytes.
+// A text may have so many bytes, and one more tells that it is too long.
 pub const LONGEST_TEXT: usize = 65_536;
+
+pub const MOST_TEXT_READ: usize = LONGEST_TEXT + 1;
 
 // The text's district, into one that is lent, and its form. A text that is no district's leaves there what it came to.
 pub fn read_text<'a>(text: &'a [u8], d: &mut District) -> Result<Form, Complaint<'a>>
@@ -44,8 +46,9 @@ pub fn read_text<'a>(text: &'a [u8], d: &mut District) -> Result<Form, Complaint
     Ok(form)
 }
 
-// What pack prints for the text, its file or the complaint, to the front of an array that has room for both.
-pub fn pack(text: &[u8], out: &mut [u8; LONGEST_FILE]) -> usize
+// What is printed for a text, its file or the complaint, to the front of `out`.
+pub fn pack(text: &[u8], out: &mut [u8]) -> usize
+    requires { longest_file ≤ length out.old }
     ensures { Put (packed text.now) out.old out.new result }
 {
     let mut d = [0; DISTRICT_PLACES];
