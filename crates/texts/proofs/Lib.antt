@@ -23,3 +23,4 @@ mod ReadBack
 pub mod Lengths
 pub mod Longest
 mod Outside
+mod Walked

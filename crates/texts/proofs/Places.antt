@@ -1,16 +1,15 @@
 -- The place that is told has the number by which the file is refused.
-use Rattle.std.proofs.Common.{ℕ, zero, suc, ◌+◌, ◌-◌, ◌≡◌, inl, Bool, true, false, ltb, eqb, List, [], ◌∷◌, ◌++◌, length, take, drop, refl, sym, ap, ◌∙◌}
+use Rattle.std.proofs.Common.{ℕ, zero, suc, ◌+◌, ◌-◌, ◌≡◌, Bool, true, false, ltb, eqb, List, [], ◌∷◌, ◌++◌, length, take, drop, refl, sym, ap, ◌∙◌}
 use Rattle.base.specs.Bytes.{number_of}
 use Rattle.base.specs.Choice.{pick}
 use Rattle.base.proofs.Choice.{pick_yes}
-use borrow.Author.Tests.{ltb-true}
 use Rattle.file.proofs.TwoForms.{read_own}
 use Rattle.file.proofs.Steps.{numbers_none, record_none}
 use Rattle.rules.specs.Answers.{cut_short, other_kind, other_length, out_of_range}
 use Rattle.rules.specs.Calls.{load_refusal_of, load_refusal}
 use Rattle.rules.specs.District.{District}
-use Rattle.rules.specs.File.{Read, refused, found, value, size, kind_in, read_numbers, read_record, read_records, and_then, decode_as, decode, form_in}
-use Rattle.rules.specs.Format.{field_at, present, inside, slot_of, file_records, plain_form, Slot}
+use Rattle.rules.specs.File.{Read, refused, found, value, size, kind_in, read_numbers, read_record, read_records, and_then, decode_as, decode}
+use Rattle.rules.specs.Format.{field_at, present, inside, slot_of, file_records, Slot}
 use Rattle.texts.specs.Places.{refusal_at, unless_in_range, number_place, record_place, or_behind, places_from, form_read, place_in}
 use Rattle.texts.specs.Promises.{refusal_of}
 

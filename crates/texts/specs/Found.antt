@@ -1,5 +1,5 @@
 -- What the code finds, as the definitions have it.
-use Rattle.std.specs.Prelude.{ℕ, ◌+◌, ◌≡◌, List, [], take, drop, Result, Ok, Err}
+use Rattle.std.specs.Prelude.{ℕ, ◌+◌, ◌≡◌, List, [], take, drop, Option, None, Some, Result, Ok, Err}
 use Rattle.std.specs.Borrow.{Bor}
 use Rattle.rules.specs.District.{District}
 use Rattle.grammar.specs.Slots.{form_number, slot_in}
@@ -80,3 +80,7 @@ place_of (OtherKind p kind due) = P.OtherKind p kind due
 place_of (OtherLength p s size due) = P.OtherLength p (slot_in s) size due
 place_of (OutsideRange p s q v lo hi) = P.OutOfRange p (slot_in s) q v lo hi
 place_of (FollowsEnd n) = P.BehindEnd n
+
+abbrev pub refused_in : {A : Type 0} → Result A Place → Option P.Place
+refused_in (Ok x) = None
+refused_in (Err place) = Some (place_of place)

@@ -5,7 +5,8 @@
 ghost use Rattle.std.specs.Prelude.{◌≡◌, ◌≤◌, length};
 ghost use Rattle.texts.specs.Reading.{read_text};
 ghost use Rattle.texts.specs.Found.{formed_in};
-ghost use Rattle.texts.specs.Programs.{packed};
+ghost use Rattle.texts.specs.Programs.{packed, unpacked};
+ghost use Rattle.texts.specs.Promises.{longest_printed};
 ghost use Rattle.base.specs.Text.{Put};
 ghost use Rattle.rules.specs.File.{longest_file};
 
@@ -29,6 +30,9 @@ use rules::places::DISTRICT_PLACES;
 pub const LONGEST_TEXT: usize = 65_536;
 
 pub const MOST_TEXT_READ: usize = LONGEST_TEXT + 1;
+
+// The longest text of a district has so many.
+pub const LONGEST_PRINTED: usize = 12_234;
 
 // The text's district, into one that is lent, and its form. A text that is no district's leaves there what it came to.
 pub fn read_text<'a>(text: &'a [u8], d: &mut District) -> Result<Form, Complaint<'a>>
@@ -55,5 +59,17 @@ pub fn pack(text: &[u8], out: &mut [u8]) -> usize
     match read_text(text, &mut d) {
         Ok(form) => file::export_as(form, &d, out).unwrap_or(0),
         Err(complaint) => printing::put_complaint(out, complaint),
+    }
+}
+
+// What is printed for a file, its text or where it is refused, to the front of `out`.
+pub fn unpack(file: &[u8], out: &mut [u8]) -> usize
+    requires { longest_printed ≤ length out.old }
+    ensures { Put (unpacked file.now) out.old out.new result }
+{
+    let mut d = [0; DISTRICT_PLACES];
+    match refused::read(file, &mut d) {
+        Ok(form) => printing::put_text(out, form, &d),
+        Err(place) => printing::put_refused_at(out, place),
     }
 }
