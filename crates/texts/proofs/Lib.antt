@@ -22,5 +22,7 @@ mod PrintedLines
 mod ReadBack
 pub mod Lengths
 pub mod Longest
+pub mod Unread
+pub mod Trips
 mod Outside
 mod Walked

@@ -1,9 +1,9 @@
 -- A file that pack gives loads as just the district that the text says, which is in the file's ranges.
-use Rattle.std.proofs.Common.{ℕ, ◌≡◌, Bool, true, false, leb, List, [], ◌∷◌, length, Ok, inl, inr, refl}
+use Rattle.std.proofs.Common.{ℕ, ◌≡◌, Bool, true, false, leb, List, [], ◌∷◌, length, Ok, inl, inr, refl, ap, ◌∙◌}
 use mathlib.Core.Path.{subst}
 use Rattle.base.proofs.Choice.{pick_all}
 use Rattle.rules.specs.District.{District}
-use Rattle.rules.specs.File.{found, decode, in_range}
+use Rattle.rules.specs.File.{found, decode, encode_as, in_range}
 use Rattle.rules.specs.Format.{plain_form, leader_form, file_records}
 use Rattle.grammar.specs.Places.{Form, Suits}
 use Rattle.grammar.proofs.InRange.{InRange}
@@ -46,6 +46,9 @@ read_sound bs f e = go (leb (length bs) longest_text) e
 pub read_ranged : (bs : List ℕ) (f : Formed) → read_text bs ≡ Ok f → Form f.form × (in_range f.district ≡ true) × Suits f.form f.district
 read_ranged bs f e = let s = read_sound bs f e in let r = range_form f.form s.form f.district s.held in (s.form, r.0, r.1)
 
-pub loads : (bs : List ℕ) (f : Formed) → read_text bs ≡ Ok f → (decode (packed bs) ≡ found f.district []) × (in_range f.district ≡ true)
+pub file_packed : (bs : List ℕ) (f : Formed) → read_text bs ≡ Ok f → packed bs ≡ encode_as f.form f.district
 unfolding packed
-loads bs f e = let r = read_ranged bs f e in (rw e (decode_own f.form r.0 f.district r.1 r.2), r.1)
+file_packed bs f e = rw e refl
+
+pub loads : (bs : List ℕ) (f : Formed) → read_text bs ≡ Ok f → (decode (packed bs) ≡ found f.district []) × (in_range f.district ≡ true)
+loads bs f e = let r = read_ranged bs f e in (ap decode (file_packed bs f e) ∙ decode_own f.form r.0 f.district r.1 r.2, r.1)

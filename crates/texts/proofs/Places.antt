@@ -1,16 +1,18 @@
 -- The place that is told has the number by which the file is refused.
-use Rattle.std.proofs.Common.{ℕ, zero, suc, ◌+◌, ◌-◌, ◌≡◌, Bool, true, false, ltb, eqb, List, [], ◌∷◌, ◌++◌, length, take, drop, refl, sym, ap, ◌∙◌}
+use Rattle.std.proofs.Common.{ℕ, zero, suc, ◌+◌, ◌-◌, ◌≡◌, Bool, true, false, ltb, eqb, List, [], ◌∷◌, ◌++◌, length, take, drop, None, refl, sym, ap, ◌∙◌}
 use Rattle.base.specs.Bytes.{number_of}
 use Rattle.base.specs.Choice.{pick}
 use Rattle.base.proofs.Choice.{pick_yes}
 use Rattle.file.proofs.TwoForms.{read_own}
 use Rattle.file.proofs.Steps.{numbers_none, record_none}
 use Rattle.rules.specs.Answers.{cut_short, other_kind, other_length, out_of_range}
-use Rattle.rules.specs.Calls.{load_refusal_of, load_refusal}
+use Rattle.rules.specs.Calls.{load_refusal_of, load_refusal, district_in}
 use Rattle.rules.specs.District.{District}
 use Rattle.rules.specs.File.{Read, refused, found, value, size, kind_in, read_numbers, read_record, read_records, and_then, decode_as, decode}
 use Rattle.rules.specs.Format.{field_at, present, inside, slot_of, file_records, Slot}
 use Rattle.texts.specs.Places.{refusal_at, unless_in_range, number_place, record_place, or_behind, places_from, form_read, place_in}
+use Rattle.texts.specs.Printing.{text_of}
+use Rattle.texts.specs.Programs.{unpacked}
 use Rattle.texts.specs.Promises.{refusal_of}
 
 module _ (p : ℕ) (d : District) (s : Slot) where
@@ -79,3 +81,7 @@ form_agrees bs = read_own (form_read bs) bs refl
 pub same_refusal : (file : List ℕ) → refusal_of (place_in file) ≡ load_refusal file
 unfolding place_in load_refusal decode_as
 same_refusal file = refusals_agree (form_read file) file_records 0 1 [] file ∙ ap load_refusal_of (form_agrees file)
+
+pub text_unpacked : (file : List ℕ) → place_in file ≡ None → unpacked file ≡ text_of (form_read file) (district_in file)
+unfolding unpacked
+text_unpacked file e = rw e refl

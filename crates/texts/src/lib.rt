@@ -6,9 +6,9 @@ ghost use Rattle.std.specs.Prelude.{◌≡◌, ◌≤◌, length};
 ghost use Rattle.texts.specs.Reading.{read_text};
 ghost use Rattle.texts.specs.Found.{formed_in};
 ghost use Rattle.texts.specs.Programs.{packed, unpacked};
-ghost use Rattle.texts.specs.Promises.{longest_printed};
 ghost use Rattle.base.specs.Text.{Put};
 ghost use Rattle.rules.specs.File.{longest_file};
+ghost use Rattle.texts.specs.Promises.{longest_printed, Promises};
 
 mod faults;
 mod numbers;
@@ -72,4 +72,12 @@ pub fn unpack(file: &[u8], out: &mut [u8]) -> usize
         Ok(form) => printing::put_text(out, form, &d),
         Err(place) => printing::put_refused_at(out, place),
     }
+}
+
+// How many bytes the longest text has that is printed. The contract says of pack and unpack what holds of any bytes and of each
+// district that a file may hold.
+pub fn most_printed() -> usize
+    ensures { (result ≡ longest_printed) × Promises }
+{
+    LONGEST_PRINTED
 }

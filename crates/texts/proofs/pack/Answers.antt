@@ -11,15 +11,10 @@ use Rattle.file.proofs.Longest.{longest_as}
 use Rattle.file.proofs.Refusals.{exported_fits}
 use Rattle.texts.specs.Complaints.{Complaint, complaint_text}
 use Rattle.texts.specs.Programs.{packed}
-use Rattle.texts.specs.Reading.{Formed, read_text}
-use Rattle.texts.proofs.Loads.{read_ranged}
+use Rattle.texts.specs.Reading.{read_text}
+use Rattle.texts.proofs.Loads.{read_ranged, file_packed}
 use Rattle.texts.proofs.Short.{complaint_short}
 use Rattle.texts.proofs.pack.Goals as goal
-
--- the file, or the complaint
-file_packed : (bs : List ℕ) (f : Formed) → read_text bs ≡ Ok f → packed bs ≡ encode_as f.form f.district
-unfolding packed
-file_packed bs f e = rw e refl
 
 complaint_packed : (bs : List ℕ) (c : Complaint) → read_text bs ≡ Err c → packed bs ≡ complaint_text c
 unfolding packed

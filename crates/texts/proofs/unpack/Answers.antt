@@ -1,19 +1,13 @@
 -- `unpack` meets its contract.
-use Rattle.std.proofs.Common.{◌≡◌, List, ℕ, ◌++◌, None, Some, refl, arith}
+use Rattle.std.proofs.Common.{◌≡◌, List, ℕ, ◌++◌, Some, refl, arith}
 use Rattle.listing.specs.Listing.{refusal}
 use Rattle.grammar.proofs.Named.{is_form}
 use Rattle.grammar.specs.Slots.{form_number}
-use Rattle.rules.specs.Calls.{district_in}
-use Rattle.texts.specs.Places.{Place, refusal_at, form_read, place_in, place_text}
-use Rattle.texts.specs.Printing.{text_of}
+use Rattle.texts.specs.Places.{Place, refusal_at, place_in, place_text}
 use Rattle.texts.specs.Programs.{unpacked}
 use Rattle.texts.proofs.Longest.{printed_short}
+use Rattle.texts.proofs.Places.{text_unpacked}
 use Rattle.texts.proofs.unpack.Goals as goal
-
--- the text, or the place
-text_unpacked : (file : List ℕ) → place_in file ≡ None → unpacked file ≡ text_of (form_read file) (district_in file)
-unfolding unpacked
-text_unpacked file e = rw e refl
 
 place_unpacked : (file : List ℕ) (p : Place) → place_in file ≡ Some p → unpacked file ≡ refusal (refusal_at p) ++ place_text p
 unfolding unpacked
