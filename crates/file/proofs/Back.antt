@@ -2,15 +2,14 @@
 use Prim.Native.Nat.{ℕ, zero, suc, ◌+◌, ◌^◌, ◌≤◌, ◌<◌}
 use mathlib.Core.Path.{◌≡◌, refl, sym, ap, ◌∙◌}
 use mathlib.Core.Bool.{Bool, true, false}
-use mathlib.Core.List.{List, [], ◌∷◌, ◌++◌, append_assoc}
+use mathlib.Core.List.{List, [], ◌++◌, append_assoc}
 use native.Mathlib.Nat.{add-zero, zero-add}
-use native.Mathlib.Numerals.{add-one}
 use native.Mathlib.Omega.{arith}
-use lib.ListN.{length, take, drop, length-append, length-drop}
-use lib.Seq.{get_or-drop, take_at, drop_at, take-suc, take_all, take-add}
+use lib.ListN.{length, take, drop, length-append}
+use lib.Seq.{take_at, drop_at, take-add}
 use Rattle.base.proofs.Bytes.{length_bytes, number_bytes_lem}
 use Rattle.base.specs.Bytes.{bytes_of, number_of}
-use Rattle.rules.specs.District.{District, value_at, district_places}
+use Rattle.rules.specs.District.{District, value_at}
 use Rattle.rules.specs.File.{found, size, read_numbers, read_record, read_records, decode_as, decode, number_bytes, record_bytes, records_bytes, encode_as, form_of, encode, in_range}
 use Rattle.rules.specs.Format.{slot_of, present, field_at, inside, file_records, Slot}
 use Rattle.grammar.specs.Places.{Form, Suits, start_of, Ready}
@@ -18,7 +17,7 @@ use Rattle.grammar.proofs.InRange.{InRange}
 use Rattle.grammar.proofs.Forms.{form_range, form_fits}
 use Rattle.grammar.proofs.Slots.{form_all, slot_all, start_next, ready}
 use Rattle.file.proofs.TwoForms.{form_of_lem, suits_own, form_encoded}
-use Rattle.file.proofs.Steps.{widths_small, widths_take, number_good, length_numbers, header_there, header_none, record_none, record_there, records_found}
+use Rattle.file.proofs.Steps.{widths_small, widths_take, number_good, value_more, all_places, length_numbers, header_there, header_none, record_none, record_there, records_found}
 
 -- what is written first is read first
 module _ (w x : ℕ) (ys rest : List ℕ) where
@@ -41,10 +40,8 @@ module _ (d : District) (s : Slot) (place : ℕ) (r : Ready s place) (room : pla
       let e : place + n + 1 ≡ place + (n + 1) = omega arith in
       let q : n + 1 + m ≡ n + suc m = omega arith in
       let ih = rw q at (numbers_back m (n + 1) rest (omega arith)) in
-      let l : n < length (drop place d) = simp length-drop (omega arith) in
-      let t : take n (drop place d) ++ x ∷ [] ≡ take (n + 1) (drop place d) = rw (add-one n, take-suc (drop place d) n 0 l, get_or-drop place d n 0) in
       number_good m (take place d) s n (take n (drop place d)) ((bytes_of f.width x ++ ys) ++ rest) f x (sym (r.field d n (omega arith))) (first_read f.width x ys rest (fits n (omega arith))) (good n (omega arith))
-      ∙ rw (first_left f.width x ys rest, t, e) ih
+      ∙ rw (first_left f.width x ys rest, value_more d place n (omega arith), e) ih
 
   module _ (rest : List ℕ) where
     all_back : read_numbers s.places (take place d) s 0 [] (number_bytes s.places d s 0 place ++ rest) ≡ found (take s.places (drop place d)) rest
@@ -74,9 +71,7 @@ kind_small form f = slot_all (λ (s : Slot). s.kind < 65536) form (form_all (λ 
 module _ (form : ℕ) (f : Form form) (d : District) (ok : InRange form d) where
   records_back : (m n : ℕ) → n + m ≡ file_records → read_records form m n (take (start_of n) d) (records_bytes form m d n (start_of n)) ≡ found d []
   unfolding read_records records_bytes
-  records_back zero n e =
-      let z : n ≡ file_records = omega arith in
-      rw z (ap (λ (l : List ℕ). found l []) (take_all district_places d (omega (arith, ok.places))))
+  records_back zero n e = ap (λ (l : List ℕ). found l []) (all_places d ok.places n (omega arith))
   records_back (suc m) n e =
       let p = start_of n in
       let s = slot_of form n in

@@ -2,13 +2,12 @@
 use Prim.Native.Nat.{ℕ, zero, suc, ◌+◌, ◌-◌, ◌≤◌, ◌<◌}
 use mathlib.Core.Path.{◌≡◌, refl, sym, ap, subst, ◌∙◌}
 use mathlib.Core.Bool.{Bool, true, false, ◌&&◌}
-use mathlib.Core.List.{List, [], ◌∷◌, ◌++◌, append_assoc, append-nil}
-use mathlib.Core.Logic.{⊎_elim}
-use native.Mathlib.Nat.{add-zero, zero-add, eq-or-lt_of_le}
+use mathlib.Core.List.{List, [], ◌∷◌, ◌++◌, append_assoc}
+use native.Mathlib.Nat.{add-zero}
 use native.Mathlib.Omega.{arith}
 use lib.Dec.{ltb, eqb}
 use lib.ListN.{length, get_or, take, drop, length-append, length-drop, take-append-drop}
-use lib.Seq.{append_snoc, get_or-append-add, get_or-take, take_all, take_at, take-take, drop-drop}
+use lib.Seq.{drop-drop}
 use borrow.Author.Tests.{ltb-false, eqb-true}
 use Rattle.base.proofs.Bytes.{bytes_drop, bytes_suffix, front_bytes}
 use Rattle.base.proofs.Choice.{pick_yes}
@@ -19,7 +18,7 @@ use Rattle.rules.specs.Answers.{refusal_in}
 use Rattle.rules.specs.declared.refusals.Refusal.{Refusal}
 use Rattle.rules.specs.Calls.{load_refusal_of, load_refusal, loaded_of, district_in}
 use Rattle.rules.specs.Demands.{led_by_none}
-use Rattle.rules.specs.District.{District, value_at, district_places}
+use Rattle.rules.specs.District.{District}
 use Rattle.rules.specs.File.{Read, refused, found, value, widths, size, read_numbers, read_record, read_records, decode_as, form_in, decode, number_bytes, header_bytes, record_bytes, records_bytes, encode_as, leaderless, encode, in_range}
 use Rattle.rules.specs.Format.{leader_form, slot_of, present, field_at, inside, file_records, Slot}
 use Rattle.grammar.specs.Places.{Form, Suits, start_of, Ready}
@@ -28,6 +27,7 @@ use Rattle.grammar.proofs.Slots.{start_next, ready}
 use Rattle.file.specs.Forms.{load_refusal_as, district_as}
 use Rattle.file.proofs.TwoForms.{form_in_lem, form_kept}
 use Rattle.file.proofs.Refusals.{refusals_as}
+use Rattle.file.proofs.Took.{Took, TookRecord, TookAll, took_none, took_more, took_record, took_end, this_front, agree, value_is, took_next, took_range}
 use Rattle.file.proofs.Steps.{widths_none, widths_take, header_there, header_none, record_none, records_found, records_refused}
 
 -- ---- what is found was not refused
@@ -47,45 +47,34 @@ value_bytes u s n [] = []
 value_bytes u s n (x ∷ ws) = bytes_of (field_at u s n).width x ++ value_bytes u s (n + 1) ws
 
 -- what it says of the bytes that m numbers are read
-record Took (u : District) (s : Slot) (m n : ℕ) (vs bs all rest : List ℕ) : Type 0 where
-  ws : List ℕ
-  all_is : all ≡ vs ++ ws
-  count : length ws ≡ m
-  bytes : Bytes bs → bs ≡ value_bytes u s n ws ++ rest
-  good : (i : ℕ) → i < m → inside (field_at u s (n + i)) (get_or ws i 0) ≡ true
+record TookFrom (u : District) (s : Slot) (m n : ℕ) (vs bs all rest : List ℕ) : Type 0 where
+  took : Took u s m n vs all
+  bytes : Bytes bs → bs ≡ value_bytes u s n took.ws ++ rest
 
 module _ (u : District) (s : Slot) where
   -- one number in front
-  took_more : (m n : ℕ) (vs bs all rest : List ℕ) → let f = field_at u s n in let x = value f bs in f.width ≤ length bs → inside f x ≡ true → Took u s m (n + 1) (vs ++ x ∷ []) (drop f.width bs) all rest → Took u s (suc m) n vs bs all rest
+  more_from : (m n : ℕ) (vs bs all rest : List ℕ) → let f = field_at u s n in let x = value f bs in f.width ≤ length bs → inside f x ≡ true → TookFrom u s m (n + 1) (vs ++ x ∷ []) (drop f.width bs) all rest → TookFrom u s (suc m) n vs bs all rest
   unfolding value_bytes
-  took_more m n vs bs all rest l t ih =
+  more_from m n vs bs all rest l t ih =
       let w = (field_at u s n).width in
       let x = value (field_at u s n) bs in
       record {
-        ws = x ∷ ih.ws;
-        all_is = ih.all_is ∙ append_snoc vs x ih.ws;
-        count = ap suc ih.count;
+        took = took_more u s m n x vs all t ih.took;
         bytes = λ h.
             sym (take-append-drop w bs)
             ∙ ap (λ (y : List ℕ). y ++ drop w bs) (sym (front_bytes w bs h l))
             ∙ ap (λ (y : List ℕ). bytes_of w x ++ y) (ih.bytes (bytes_drop w bs h))
-            ∙ sym (append_assoc (bytes_of w x) (value_bytes u s (n + 1) ih.ws) rest);
-        good = every;
+            ∙ sym (append_assoc (bytes_of w x) (value_bytes u s (n + 1) ih.took.ws) rest);
       }
-    where
-      every : (i : ℕ) → i < suc m → inside (field_at u s (n + i)) (get_or (value (field_at u s n) bs ∷ ih.ws) i 0) ≡ true
-      every zero q = rw add-zero t
-      every (suc j) q = let y : n + 1 + j ≡ n + suc j = omega arith in rw y at (ih.good j (omega arith))
 
-  numbers_forth : (m n : ℕ) (vs bs all rest : List ℕ) → widths m u s n ≤ length bs → read_numbers m u s n vs bs ≡ found all rest → Took u s m n vs bs all rest
+  numbers_forth : (m n : ℕ) (vs bs all rest : List ℕ) → widths m u s n ≤ length bs → read_numbers m u s n vs bs ≡ found all rest → TookFrom u s m n vs bs all rest
   unfolding value_bytes read_numbers
-  numbers_forth zero n vs bs all rest l e =
-      record { ws = []; all_is = let v : vs ≡ all = cc in sym v ∙ sym (append-nil vs); count = refl; bytes = λ h. cc; good = λ i q. absurd (omega arith) }
+  numbers_forth zero n vs bs all rest l e = record { took = took_none u s n vs all (cc); bytes = λ h. cc }
   numbers_forth (suc m) n vs bs all rest l e =
       let f = field_at u s n in
       let x = value f bs in
       let t = passed true (inside f x) 4 _ all rest e in
-      took_more m n vs bs all rest (omega arith) t.0
+      more_from m n vs bs all rest (omega arith) t.0
       (numbers_forth m (n + 1) (vs ++ x ∷ []) (drop f.width bs) all rest (simp length-drop (omega arith)) t.1)
 
 -- the same bytes, as the export writes them
@@ -102,10 +91,9 @@ values_are d u s agree (x ∷ ws) (suc m) n place c h g =
 -- ---- a record
 
 -- what it says of the bytes that a record is read, with the numbers vs
-record TookRecord (u : District) (s : Slot) (bs vs rest : List ℕ) : Type 0 where
-  count : length vs ≡ s.places
+record RecordFrom (u : District) (s : Slot) (bs vs rest : List ℕ) : Type 0 where
+  took : TookRecord u s vs
   bytes : Bytes bs → bs ≡ header_bytes u s ++ (value_bytes u s 0 vs ++ rest)
-  good : (i : ℕ) → i < s.places → inside (field_at u s i) (get_or vs i 0) ≡ true
 
 module _ (u : District) (s : Slot) (bs vs rest : List ℕ) where
   -- what the tests say
@@ -130,18 +118,17 @@ module _ (u : District) (s : Slot) (bs vs rest : List ℕ) where
       ∙ ap (λ (y : List ℕ). bytes_of 2 (size u s) ++ y) (sym (take-append-drop 2 (drop 2 bs)) ∙ ap (λ (y : List ℕ). y ++ drop 2 (drop 2 bs)) b ∙ ap (λ (y : List ℕ). bytes_of 2 s.kind ++ y) (drop-drop 2 2 bs))
       ∙ ap (λ (y : List ℕ). y ++ drop 4 bs) (sym (header_there u s t))
 
-  with_header : (cs : List ℕ) → (Bytes bs → bs ≡ header_bytes u s ++ cs) → (Bytes bs → Bytes cs) → Took u s s.places 0 [] cs vs rest → TookRecord u s bs vs rest
+  with_header : (cs : List ℕ) → (Bytes bs → bs ≡ header_bytes u s ++ cs) → (Bytes bs → Bytes cs) → TookFrom u s s.places 0 [] cs vs rest → RecordFrom u s bs vs rest
   with_header cs e b k =
       record {
-        count = ap length k.all_is ∙ k.count;
-        bytes = λ h. e h ∙ ap (λ (y : List ℕ). header_bytes u s ++ y) (k.bytes (b h) ∙ ap (λ (y : List ℕ). value_bytes u s 0 y ++ rest) (sym k.all_is));
-        good = λ i q. rw k.all_is (rw zero-add at (k.good i q));
+        took = took_record u s vs k.took;
+        bytes = λ h. e h ∙ ap (λ (y : List ℕ). header_bytes u s ++ y) (k.bytes (b h) ∙ ap (λ (y : List ℕ). value_bytes u s 0 y ++ rest) (sym k.took.all_is));
       }
 
-  record_forth : read_record u s bs ≡ found vs rest → TookRecord u s bs vs rest
+  record_forth : read_record u s bs ≡ found vs rest → RecordFrom u s bs vs rest
   record_forth e = go (present u s) refl
     where
-      go : (b : Bool) → present u s ≡ b → TookRecord u s bs vs rest
+      go : (b : Bool) → present u s ≡ b → RecordFrom u s bs vs rest
       go false t =
           with_header bs (λ h. ap (λ (y : List ℕ). y ++ bs) (sym (header_none u s t))) (λ h. h)
           (numbers_forth u s s.places 0 [] bs vs rest (omega (arith, widths_none s.places u s 0 t)) (sym (record_none u s bs t) ∙ e))
@@ -154,38 +141,16 @@ module _ (u : District) (s : Slot) (bs vs rest : List ℕ) where
 -- ---- the file
 
 -- what it says of the bytes that the records from the n-th on are read as d, after the numbers u, and leave the bytes end
-record TookAll (form : ℕ) (d : District) (m n : ℕ) (u bs end : List ℕ) : Type 0 where
+record AllFrom (form : ℕ) (d : District) (m n : ℕ) (u bs end : List ℕ) : Type 0 where
   none : end ≡ []
-  front : take (start_of n) d ≡ u
-  all_of : length d ≡ district_places
+  took : TookAll form d n u
   bytes : Bytes bs → bs ≡ records_bytes form m d n (start_of n)
-  good : (q i : ℕ) → n ≤ q → q < file_records → i < (slot_of form q).places → inside (field_at d (slot_of form q) i) (value_at d (start_of q + i)) ≡ true
 
 header_take : {s : Slot} {place : ℕ} → Ready s place → (d : District) → header_bytes (take place d) s ≡ header_bytes d s
 header_take {s} {place} r d = rw (r.here d, widths_take r d s.places 0 (omega arith))
 
 -- one record in front
-module _ (form : ℕ) (f : Form form) (d : District) (m n : ℕ) (lt : n < file_records) (u bs vs rest end : List ℕ) (len : length u ≡ start_of n) (k : TookRecord u (slot_of form n) bs vs rest) (ih : TookAll form d m (n + 1) (u ++ vs) rest end) where
-  next_front : take (start_of n + (slot_of form n).places) d ≡ u ++ vs
-  next_front = rw (start_next form n) at ih.front
-
-  this_front : take (start_of n) d ≡ u
-  this_front =
-      sym (take-take (start_of n) (start_of n + (slot_of form n).places) d (omega arith)) ∙ ap (take (start_of n)) next_front ∙ take_at u vs (start_of n) len
-
-  agree : (i : ℕ) → i < (slot_of form n).places → field_at u (slot_of form n) i ≡ field_at d (slot_of form n) i
-  agree i h = ap (λ (l : List ℕ). field_at l (slot_of form n) i) (sym this_front) ∙ (ready form f n lt).field d i h
-
-  value_is : (i : ℕ) → i < (slot_of form n).places → get_or d (start_of n + i) 0 ≡ get_or vs i 0
-  value_is i h =
-      sym (get_or-take (start_of n + (slot_of form n).places) d (start_of n + i) 0 (omega arith))
-      ∙ ap (λ (l : List ℕ). get_or l (start_of n + i) 0) next_front
-      ∙ ap (λ (p : ℕ). get_or (u ++ vs) (p + i) 0) (sym len)
-      ∙ get_or-append-add u vs i 0
-
-  this_good : (i : ℕ) → i < (slot_of form n).places → inside (field_at d (slot_of form n) i) (value_at d (start_of n + i)) ≡ true
-  this_good i h = rw (← agree i h, value_is i h) (k.good i h)
-
+module _ (form : ℕ) (f : Form form) (d : District) (m n : ℕ) (lt : n < file_records) (u bs vs rest end : List ℕ) (len : length u ≡ start_of n) (k : RecordFrom u (slot_of form n) bs vs rest) (ih : AllFrom form d m (n + 1) (u ++ vs) rest end) where
   rest_bytes : Bytes bs → Bytes rest
   rest_bytes h =
       bytes_suffix (value_bytes u (slot_of form n) 0 vs) rest (bytes_suffix (header_bytes u (slot_of form n)) (value_bytes u (slot_of form n) 0 vs ++ rest) (subst Bytes (k.bytes h) h))
@@ -196,44 +161,34 @@ module _ (form : ℕ) (f : Form form) (d : District) (m n : ℕ) (lt : n < file_
       let s = slot_of form n in
       let p = start_of n in
       k.bytes h
-      ∙ ap (λ (y : List ℕ). y ++ (value_bytes u s 0 vs ++ rest)) (ap (λ (l : List ℕ). header_bytes l s) (sym this_front) ∙ header_take (ready form f n lt) d)
-      ∙ ap (λ (y : List ℕ). header_bytes d s ++ (y ++ rest)) (values_are d u s agree vs s.places 0 p k.count (omega arith) value_is)
+      ∙ ap (λ (y : List ℕ). y ++ (value_bytes u s 0 vs ++ rest)) (ap (λ (l : List ℕ). header_bytes l s) (sym (this_front form f d n lt u vs len k.took ih.took)) ∙ header_take (ready form f n lt) d)
+      ∙ ap (λ (y : List ℕ). header_bytes d s ++ (y ++ rest)) (values_are d u s (agree form f d n lt u vs len k.took ih.took) vs s.places 0 p k.took.count (omega arith) (value_is form f d n lt u vs len k.took ih.took))
       ∙ sym (append_assoc (header_bytes d s) (number_bytes s.places d s 0 p) rest)
       ∙ ap (λ (y : List ℕ). record_bytes d s p ++ y) (rw (start_next form n) at (ih.bytes (rest_bytes h)))
 
-  took_record : TookAll form d (suc m) n u bs end
-  took_record = record { none = ih.none; front = this_front; all_of = ih.all_of; bytes = these_bytes; good = every }
-    where
-      every : (q i : ℕ) → n ≤ q → q < file_records → i < (slot_of form q).places → inside (field_at d (slot_of form q) i) (value_at d (start_of q + i)) ≡ true
-      every q i a b c =
-          ⊎_elim (λ (e : n ≡ q). subst (λ (q : ℕ). i < (slot_of form q).places → inside (field_at d (slot_of form q) i) (value_at d (start_of q + i)) ≡ true) e (this_good i) c)
-          (λ l. ih.good q i (omega arith) b c)
-          (eq-or-lt_of_le a)
+  record_from : AllFrom form d (suc m) n u bs end
+  record_from = record { none = ih.none; took = took_next form f d n lt u vs len k.took ih.took; bytes = these_bytes }
 
 module _ (form : ℕ) (f : Form form) where
-  records_forth : (d : District) (m n : ℕ) (u bs rest : List ℕ) → n + m ≡ file_records → length u ≡ start_of n → read_records form m n u bs ≡ found d rest → TookAll form d m n u bs rest
+  records_forth : (d : District) (m n : ℕ) (u bs rest : List ℕ) → n + m ≡ file_records → length u ≡ start_of n → read_records form m n u bs ≡ found d rest → AllFrom form d m n u bs rest
   unfolding read_records records_bytes
-  records_forth d zero n u [] rest e l q =
-      let z : n ≡ file_records = omega arith in
-      let a : length u ≡ district_places = rw z at l in
-      let v : u ≡ d = cc in
-      record { none = cc; front = rw z (take_all district_places d (omega (arith, ap length v)) ∙ sym v); all_of = omega (arith, ap length v); bytes = λ h. refl; good = λ q i x y w. absurd (omega arith) }
+  records_forth d zero n u [] rest e l q = record { none = cc; took = took_end form d n u (omega arith) l (cc); bytes = λ h. refl }
   records_forth d zero n u (b ∷ bs) rest e l q = absurd cc
   records_forth d (suc m) n u bs rest e l q = go (read_record u (slot_of form n) bs) refl (λ vs cs. records_forth d m (n + 1) (u ++ vs) cs rest (omega arith))
     where
-      go : (o : Read) → read_record u (slot_of form n) bs ≡ o → ((vs cs : List ℕ) → length (u ++ vs) ≡ start_of (n + 1) → read_records form m (n + 1) (u ++ vs) cs ≡ found d rest → TookAll form d m (n + 1) (u ++ vs) cs rest) → TookAll form d (suc m) n u bs rest
+      go : (o : Read) → read_record u (slot_of form n) bs ≡ o → ((vs cs : List ℕ) → length (u ++ vs) ≡ start_of (n + 1) → read_records form m (n + 1) (u ++ vs) cs ≡ found d rest → AllFrom form d m (n + 1) (u ++ vs) cs rest) → AllFrom form d (suc m) n u bs rest
       go (refused k) t ih = absurd (cc (sym (records_refused form m n u bs k t) ∙ q))
       go (found vs cs) t ih =
           let k = record_forth u (slot_of form n) bs vs cs t in
-          let c : length (u ++ vs) ≡ start_of (n + 1) = omega (arith, length-append u vs, start_next form n, k.count) in
-          took_record form f d m n (omega arith) u bs vs cs rest l k (ih vs cs c (sym (records_found form m n u bs vs cs t) ∙ q))
+          let c : length (u ++ vs) ≡ start_of (n + 1) = omega (arith, length-append u vs, start_next form n, k.took.count) in
+          record_from form f d m n (omega arith) u bs vs cs rest l k (ih vs cs c (sym (records_found form m n u bs vs cs t) ∙ q))
 
 -- of each form,
 pub encode_decode_as : (form : ℕ) → Form form → (file d rest : List ℕ) → decode_as form file ≡ found d rest → (Bytes file → encode_as form d ≡ file) × (in_range d ≡ true) × Suits form d × (rest ≡ [])
 unfolding decode_as encode_as
 encode_decode_as form f file d rest e =
     let k = records_forth form f d file_records 0 [] file rest refl refl e in
-    let r = range_form form f d (record { places = k.all_of; values = λ n i a b. k.good n i (omega arith) a b }) in
+    let r = range_form form f d (took_range form d [] k.took) in
     ((λ h. sym (k.bytes h)), r.0, r.1, k.none)
 
 -- and of the form that the file names, where that is the form of the district's file

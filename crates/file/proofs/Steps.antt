@@ -6,11 +6,11 @@ use mathlib.Core.List.{List, [], ◌∷◌, ◌++◌, append-nil}
 use native.Mathlib.Numerals.{add-one}
 use native.Mathlib.Omega.{arith}
 use lib.ListN.{length, get_or, take, drop, set, replicate, length-append, length-drop}
-use lib.Seq.{append_snoc, take-add, take-suc-set, drop-set-add}
+use lib.Seq.{append_snoc, get_or-drop, take-suc, take_all, take-add, take-suc-set, drop-set-add}
 use Rattle.base.proofs.Bytes.{length_bytes}
 use Rattle.base.proofs.Choice.{picks, pick_yes, pick_no, pick_all}
 use Rattle.base.specs.Bytes.{bytes_of, number_of}
-use Rattle.rules.specs.District.{District}
+use Rattle.rules.specs.District.{District, district_places}
 use Rattle.rules.specs.File.{refused, found, value, widths, size, read_numbers, kind_in, read_record, read_records, number_bytes, header_bytes, record_bytes, records_bytes}
 use Rattle.rules.specs.Format.{absent, ranged, present, field_at, inside, slot_of, file_records, Slot}
 use Rattle.rules.specs.declared.Field.{Field}
@@ -67,6 +67,16 @@ pub stored : (d : List ℕ) (place i x : ℕ) → place + i < length d → take 
 stored d place i x h =
     let l : i < length (drop place d) = simp length-drop (omega arith) in
     rw (drop-set-add place d i x, add-one i) (take-suc-set (drop place d) i x l)
+
+-- a value more, which stands there
+pub value_more : (d : List ℕ) (place i : ℕ) → place + i < length d → take i (drop place d) ++ get_or d (place + i) 0 ∷ [] ≡ take (i + 1) (drop place d)
+value_more d place i h =
+    let l : i < length (drop place d) = simp length-drop (omega arith) in
+    rw (add-one i, take-suc (drop place d) i 0 l, get_or-drop place d i 0)
+
+-- the places of all records are those of the district
+pub all_places : (d : List ℕ) → length d ≡ district_places → (n : ℕ) → n ≡ file_records → take (start_of n) d ≡ d
+all_places d l n z = rw z (take_all district_places d (omega arith))
 
 -- ---- the bytes of a record
 

@@ -1,19 +1,15 @@
 -- What a text is read as is in the ranges of its form.
-use Rattle.std.proofs.Common.{ℕ, zero, suc, ◌+◌, ◌≤◌, ◌<◌, ◌≡◌, Bool, true, false, List, [], ◌∷◌, ◌++◌, length, get_or, take, replicate, ℤ, Option, None, Some, refl, sym, ap, ◌∙◌, add-zero, arith}
-use mathlib.Core.Path.{subst}
-use mathlib.Core.List.{append-nil}
-use mathlib.Core.Logic.{⊎_elim}
-use native.Mathlib.Nat.{zero-add, eq-or-lt_of_le}
+use Rattle.std.proofs.Common.{ℕ, zero, suc, ◌+◌, ◌≡◌, Bool, true, false, List, [], ◌∷◌, ◌++◌, length, get_or, replicate, ℤ, Option, None, Some, refl, sym, ap, ◌∙◌, arith}
 use lib.ListN.{length-append, length-replicate}
-use lib.Seq.{append_snoc, get_or-append-add, get_or-take, take_all, take_at, take-take}
 use Rattle.std.proofs.lemmas.List.{get_or-replicate}
 use Rattle.base.specs.Choice.{pick}
 use Rattle.base.specs.Same.{same}
-use Rattle.rules.specs.District.{District, value_at, district_places}
+use Rattle.rules.specs.District.{District}
 use Rattle.rules.specs.Format.{ranged, present, field_at, inside, slot_of, file_records, Slot}
 use Rattle.grammar.specs.Places.{Form, start_of}
 use Rattle.grammar.proofs.InRange.{InRange}
-use Rattle.grammar.proofs.Slots.{start_next, ready}
+use Rattle.grammar.proofs.Slots.{start_next}
+use Rattle.file.proofs.Took.{Took, TookRecord, TookAll, took_none, took_more, took_record, took_end, took_next, took_range}
 use Rattle.texts.specs.Words.{Word, Words, Line}
 use Rattle.texts.specs.Numbers.{value_of, least, most, in_field, held_as}
 use Rattle.texts.specs.Records.{word_of, is_due}
@@ -24,17 +20,6 @@ use Rattle.texts.proofs.Lines.{number_found, number_wrong}
 use Rattle.texts.proofs.Taken.{record_found, record_wrong}
 
 -- ---- a record's numbers
-
--- m numbers are read behind vs, from the record's n-th on
-record Took (u : District) (s : Slot) (m n : ℕ) (vs all : List ℕ) : Type 0 where
-  ws : List ℕ
-  all_is : all ≡ vs ++ ws
-  count : length ws ≡ m
-  good : (i : ℕ) → i < m → inside (field_at u s (n + i)) (get_or ws i 0) ≡ true
-
-record TookRecord (u : District) (s : Slot) (vs : List ℕ) : Type 0 where
-  count : length vs ≡ s.places
-  good : (i : ℕ) → i < s.places → inside (field_at u s i) (get_or vs i 0) ≡ true
 
 module _ (u : District) (s : Slot) where
   value_held : (n : ℕ) (w : Word) (v : Option ℤ) (ws rest : Words) (x : ℕ) → read_value (field_at u s n) w v ws ≡ found x rest → inside (field_at u s n) x ≡ true
@@ -50,34 +35,23 @@ module _ (u : District) (s : Slot) where
   number_held true n [] rest x q e = absurd cc
   number_held true n (w ∷ ws) rest x q e = value_held n w (value_of w) ws rest x e
 
-  took_more : (m n x : ℕ) (vs all : List ℕ) → inside (field_at u s n) x ≡ true → Took u s m (n + 1) (vs ++ x ∷ []) all → Took u s (suc m) n vs all
-  took_more m n x vs all t ih = record { ws = x ∷ ih.ws; all_is = ih.all_is ∙ append_snoc vs x ih.ws; count = ap suc ih.count; good = every }
-    where
-      every : (i : ℕ) → i < suc m → inside (field_at u s (n + i)) (get_or (x ∷ ih.ws) i 0) ≡ true
-      every zero q = rw add-zero t
-      every (suc j) q = let y : n + 1 + j ≡ n + suc j = omega arith in rw y at (ih.good j (omega arith))
-
   numbers_held : (m n : ℕ) (vs : List ℕ) (ws rest : Words) (all : List ℕ) → read_numbers m u s n vs ws ≡ found all rest → Took u s m n vs all
   unfolding read_numbers
-  numbers_held zero n vs [] rest all e =
-      record { ws = []; all_is = let v : vs ≡ all = cc in sym v ∙ sym (append-nil vs); count = refl; good = λ i q. absurd (omega arith) }
+  numbers_held zero n vs [] rest all e = took_none u s n vs all (cc)
   numbers_held zero n vs (w ∷ ws) rest all e = absurd cc
   numbers_held (suc m) n vs ws rest all e = go (read_number (is_due u s n) u s n ws) refl (λ x rs. numbers_held m (n + 1) (vs ++ x ∷ []) rs rest all)
     where
       go : (o : Reading Fault ℕ Words) → read_number (is_due u s n) u s n ws ≡ o
           → ((x : ℕ) (rs : Words) → read_numbers m u s (n + 1) (vs ++ x ∷ []) rs ≡ found all rest → Took u s m (n + 1) (vs ++ x ∷ []) all) → Took u s (suc m) n vs all
       go (wrong f) t ih = absurd (cc (sym (number_wrong m u s n vs ws f t) ∙ e))
-      go (found x rs) t ih = took_more m n x vs all (number_held (is_due u s n) n ws rs x refl t) (ih x rs (sym (number_found m u s n vs ws x rs t) ∙ e))
-
-  whole : (vs : List ℕ) → Took u s s.places 0 [] vs → TookRecord u s vs
-  whole vs k = record { count = ap length k.all_is ∙ k.count; good = λ i q. rw k.all_is (rw zero-add at (k.good i q)) }
+      go (found x rs) t ih = took_more u s m n x vs all (number_held (is_due u s n) n ws rs x refl t) (ih x rs (sym (number_found m u s n vs ws x rs t) ∙ e))
 
   words_held : (ws rest : Words) (vs : List ℕ) → read_line u s ws ≡ found vs rest → TookRecord u s vs
   words_held [] rest vs e = absurd cc
   words_held (w ∷ ws) rest vs e = go (same w (word_of s.kind)) e
     where
       go : (t : Bool) → pick t (read_numbers s.places u s 0 [] ws) (wrong (OtherWord w s.kind)) ≡ found vs rest → TookRecord u s vs
-      go true k = whole vs (numbers_held s.places 0 [] ws rest vs k)
+      go true k = took_record u s vs (numbers_held s.places 0 [] ws rest vs k)
       go false k = absurd cc
 
   line_held : (n : ℕ) (ws : Words) (ls rest : List Line) (vs : List ℕ) (o : Reading Fault (List ℕ) Words) → read_line u s ws ≡ o → in_line n o ls ≡ found vs rest → TookRecord u s vs
@@ -100,51 +74,10 @@ module _ (u : District) (s : Slot) where
 
 -- ---- all records
 
--- those from the n-th on, after the numbers u
-record TookAll (form : ℕ) (d : District) (n : ℕ) (u : List ℕ) : Type 0 where
-  front : take (start_of n) d ≡ u
-  all_of : length d ≡ district_places
-  good : (q i : ℕ) → n ≤ q → q < file_records → i < (slot_of form q).places → inside (field_at d (slot_of form q) i) (value_at d (start_of q + i)) ≡ true
-
--- one record in front
-module _ (form : ℕ) (f : Form form) (d : District) (n : ℕ) (lt : n < file_records) (u vs : List ℕ) (len : length u ≡ start_of n) (k : TookRecord u (slot_of form n) vs) (ih : TookAll form d (n + 1) (u ++ vs)) where
-  next_front : take (start_of n + (slot_of form n).places) d ≡ u ++ vs
-  next_front = rw (start_next form n) at ih.front
-
-  this_front : take (start_of n) d ≡ u
-  this_front =
-      sym (take-take (start_of n) (start_of n + (slot_of form n).places) d (omega arith)) ∙ ap (take (start_of n)) next_front ∙ take_at u vs (start_of n) len
-
-  agree : (i : ℕ) → i < (slot_of form n).places → field_at u (slot_of form n) i ≡ field_at d (slot_of form n) i
-  agree i h = ap (λ (l : List ℕ). field_at l (slot_of form n) i) (sym this_front) ∙ (ready form f n lt).field d i h
-
-  value_is : (i : ℕ) → i < (slot_of form n).places → get_or d (start_of n + i) 0 ≡ get_or vs i 0
-  value_is i h =
-      sym (get_or-take (start_of n + (slot_of form n).places) d (start_of n + i) 0 (omega arith))
-      ∙ ap (λ (l : List ℕ). get_or l (start_of n + i) 0) next_front
-      ∙ ap (λ (p : ℕ). get_or (u ++ vs) (p + i) 0) (sym len)
-      ∙ get_or-append-add u vs i 0
-
-  this_good : (i : ℕ) → i < (slot_of form n).places → inside (field_at d (slot_of form n) i) (value_at d (start_of n + i)) ≡ true
-  this_good i h = rw (← agree i h, value_is i h) (k.good i h)
-
-  took_record : TookAll form d n u
-  took_record = record { front = this_front; all_of = ih.all_of; good = every }
-    where
-      every : (q i : ℕ) → n ≤ q → q < file_records → i < (slot_of form q).places → inside (field_at d (slot_of form q) i) (value_at d (start_of q + i)) ≡ true
-      every q i a b c =
-          ⊎_elim (λ (e : n ≡ q). subst (λ (q : ℕ). i < (slot_of form q).places → inside (field_at d (slot_of form q) i) (value_at d (start_of q + i)) ≡ true) e (this_good i) c)
-          (λ l. ih.good q i (omega arith) b c)
-          (eq-or-lt_of_le a)
-
 module _ (form : ℕ) (f : Form form) (last : ℕ) (d : District) where
   records_held : (m n : ℕ) (u : List ℕ) (ls rest : List Line) → n + m ≡ file_records → length u ≡ start_of n → read_records form last m n u ls ≡ found d rest → TookAll form d n u
   unfolding read_records
-  records_held zero n u [] rest e l q =
-      let z : n ≡ file_records = omega arith in
-      let a : length u ≡ district_places = rw z at l in
-      let v : u ≡ d = cc in
-      record { front = rw z (take_all district_places d (omega (arith, ap length v)) ∙ sym v); all_of = omega (arith, ap length v); good = λ q i x y w. absurd (omega arith) }
+  records_held zero n u [] rest e l q = took_end form d n u (omega arith) l (cc)
   records_held zero n u (x ∷ ls) rest e l q = absurd cc
   records_held (suc m) n u ls rest e l q =
       go (read_record (present u (slot_of form n)) last u (slot_of form n) ls) refl (λ vs rs. records_held m (n + 1) (u ++ vs) rs rest (omega arith))
@@ -155,7 +88,7 @@ module _ (form : ℕ) (f : Form form) (last : ℕ) (d : District) where
       go (found vs rs) t ih =
           let k = record_held u (slot_of form n) (present u (slot_of form n)) last ls rs vs refl t in
           let c : length (u ++ vs) ≡ start_of (n + 1) = omega (arith, length-append u vs, start_next form n, k.count) in
-          took_record form f d n (omega arith) u vs l k (ih vs rs c (sym (record_found form last m n u ls vs rs t) ∙ q))
+          took_next form f d n (omega arith) u vs l k (ih vs rs c (sym (record_found form last m n u ls vs rs t) ∙ q))
 
   pub read_in_range : (ls rest : List Line) → read_records form last file_records 0 [] ls ≡ found d rest → InRange form d
-  read_in_range ls rest e = let k = records_held file_records 0 [] ls rest refl refl e in record { places = k.all_of; values = λ n i a b. k.good n i (omega arith) a b }
+  read_in_range ls rest e = took_range form d [] (records_held file_records 0 [] ls rest refl refl e)

@@ -1,5 +1,5 @@
 -- A district's text is read as the district, in the form in which it is printed.
-use Rattle.std.proofs.Common.{ℕ, zero, suc, ◌+◌, ◌^◌, ◌≤◌, ◌<◌, ◌≡◌, Bool, true, false, ltb, List, [], ◌∷◌, ◌++◌, length, get_or, take, drop, replicate, Ok, nat_abs, ℤ, pos, ◌-ℤ◌, refl, sym, ap, ◌∙◌, add-zero, zero-add, add-one, le-leb, eq-eqb, ltb-false, length-drop, length-take-le, get_or-drop, get_or-take, take-suc, take-add, take_all, ext_get_or, arith}
+use Rattle.std.proofs.Common.{ℕ, zero, suc, ◌+◌, ◌^◌, ◌≤◌, ◌<◌, ◌≡◌, Bool, true, false, ltb, List, [], ◌∷◌, length, get_or, take, drop, replicate, Ok, nat_abs, ℤ, pos, ◌-ℤ◌, refl, sym, ap, ◌∙◌, add-zero, zero-add, le-leb, eq-eqb, ltb-false, length-drop, length-take-le, get_or-drop, get_or-take, take-add, ext_get_or, arith}
 use native.Mathlib.Nat.{pow-le-pow_right}
 use Rattle.std.proofs.lemmas.Int.{ints}
 use Rattle.std.proofs.lemmas.List.{get_or-replicate, length-replicate}
@@ -8,7 +8,7 @@ use Rattle.base.specs.Bytes.{signed}
 use Rattle.base.specs.Choice.{pick}
 use Rattle.base.specs.Same.{same}
 use Rattle.base.specs.Text.{text}
-use Rattle.rules.specs.District.{District, value_at, pavements_of, district_places}
+use Rattle.rules.specs.District.{District, value_at, pavements_of}
 use Rattle.rules.specs.File.{in_range}
 use Rattle.rules.specs.Format.{present, field_at, inside, slot_of, file_records, Slot}
 use Rattle.rules.specs.declared.Field.{Field}
@@ -17,6 +17,7 @@ use Rattle.grammar.proofs.Forms.{form_range, range_form, form_fits}
 use Rattle.grammar.proofs.InRange.{InRange, in_range_lem}
 use Rattle.grammar.proofs.InRanges.{pavements}
 use Rattle.grammar.proofs.Slots.{form_all, start_next, ready, width_small}
+use Rattle.file.proofs.Steps.{value_more, all_places}
 use Rattle.texts.specs.Words.{Word, Words, Line, lines_in}
 use Rattle.texts.specs.Numbers.{written, shown_in}
 use Rattle.texts.specs.Records.{word_of, is_due}
@@ -74,9 +75,7 @@ module _ (d : District) (some : 1 ≤ pavements_of d) (s : Slot) (place : ℕ) (
       let e : place + n + 1 ≡ place + (n + 1) = omega arith in
       let q : n + 1 + m ≡ n + suc m = omega arith in
       let ih = rw q at (numbers_back m (n + 1) (omega arith)) in
-      let l : n < length (drop place d) = simp length-drop (omega arith) in
-      let t : take n (drop place d) ++ value_at d (place + n) ∷ [] ≡ take (n + 1) (drop place d) = rw (add-one n, take-suc (drop place d) n 0 l, get_or-drop place d n 0) in
-      number_found m (take place d) s n (take n (drop place d)) _ (value_at d (place + n)) ws (number_back n (omega arith) ws) ∙ rw (t, e) ih
+      number_found m (take place d) s n (take n (drop place d)) _ (value_at d (place + n)) ws (number_back n (omega arith) ws) ∙ rw (value_more d place n (omega arith), e) ih
 
   line_back : read_line (take place d) s (record_words d s place) ≡ found (take s.places (drop place d)) []
   line_back = rw (same_self (word_of s.kind)) (rw (add-zero, zero-add) at (numbers_back s.places 0 (omega arith)))
@@ -139,9 +138,7 @@ module _ (form : ℕ) (f : Form form) (d : District) (ok : InRange form d) (last
   -- for any number of the line behind the last
   lines_read : (m n k : ℕ) → n + m ≡ file_records → read_records form last m n (take (start_of n) d) (printed_lines form m d n (start_of n) k) ≡ found d []
   unfolding read_records printed_lines
-  lines_read zero n k e =
-      let z : n ≡ file_records = omega arith in
-      rw z (ap (λ (l : List ℕ). found l []) (take_all district_places d (omega (arith, ok.places))))
+  lines_read zero n k e = ap (λ (l : List ℕ). found l []) (all_places d ok.places n (omega arith))
   lines_read (suc m) n k e = next_read m n (omega arith) (λ j. lines_read m (n + 1) j (omega arith)) k
 
 form_printed : (form : ℕ) → Form form → (d : District) → form_in (printed_lines form file_records d 0 0 1) ≡ form
