@@ -1,5 +1,5 @@
 -- The longest text is that of a district with every number at its longest. No number has more digits in any other.
-use Rattle.std.proofs.Common.{ℕ, zero, suc, ◌+◌, ◌-◌, ◌/◌, ◌%◌, ◌^◌, ◌≤◌, ◌<◌, ◌≡◌, Bool, true, false, ltb, leb, eqb, [], ◌∷◌, ◌++◌, length, replicate, ℤ, pos, negsuc, nat_abs, min, refl, ◌∙◌, length-append, arith}
+use Rattle.std.proofs.Common.{ℕ, zero, suc, ◌+◌, ◌-◌, ◌/◌, ◌%◌, ◌^◌, ◌≤◌, ◌<◌, ◌≡◌, Bool, true, false, ltb, leb, eqb, List, [], ◌∷◌, ◌++◌, length, replicate, ℤ, pos, negsuc, nat_abs, min, refl, ◌∙◌, length-append, arith}
 use lib.Pow.{pow_mono}
 use lib.Seq.{get_or-append-add}
 use borrow.Author.Tests.{leb-true, le-leb, lt-ltb, le-ltb, ltb-true, ltb-false}
@@ -9,9 +9,9 @@ use Rattle.base.specs.Choice.{pick}
 use Rattle.base.specs.Text.{text, digits_of, decimal}
 use Rattle.base.proofs.Choice.{pick_all}
 use Rattle.base.proofs.Digits.{decimal_within}
-use Rattle.rules.specs.District.{District, value_at, most_distresses, most_resources, count_places, greatest_place, ratings_at, leader_at, per_segment, strategies_at, segments_of, strategies_of, distresses_of, pavements_of, greatest_of}
-use Rattle.rules.specs.File.{in_range}
-use Rattle.rules.specs.Format.{plain_form, leader_form, number, absent, inside, slot, slot_of, present, most_counts, first_pavement_record, first_segment_record, last_record, file_records, rating_field, kind_field, field_at, Slot}
+use Rattle.rules.specs.District.{District, value_at, most_segments, most_strategies, most_distresses, most_pavements, most_resources, rows_places, count_places, greatest_place, ratings_at, leader_at, per_segment, strategies_at, segments_of, strategies_of, distresses_of, pavements_of, greatest_of}
+use Rattle.rules.specs.File.{numbers_in_range, records_in_range, in_range}
+use Rattle.rules.specs.Format.{plain_form, leader_form, number, absent, ranged, inside, slot, slot_of, present, most_counts, first_pavement_record, first_segment_record, last_record, file_records, rating_field, kind_field, field_at, Slot}
 use Rattle.rules.specs.declared.Field.{Field}
 use Rattle.grammar.specs.Places.{Form, start_of}
 use Rattle.grammar.proofs.Bounds.{between_number, inside_between, gain_most}
@@ -274,3 +274,33 @@ module _ (d : District) (e : in_range d ≡ true) where
 
 pub printed_short : (form : ℕ) → Form form → (d : District) → in_range d ≡ true → length (text_of form d) ≤ longest_printed
 printed_short form f d e = form_all (λ (g : ℕ). length (text_of g d) ≤ longest_printed) (plain_short d e) (led_short d e) form f
+
+-- ---- one is as long
+
+again : ℕ → List ℕ → List ℕ
+again zero xs = []
+again (suc n) xs = xs ++ again n xs
+
+-- each but the first led by the one before it; i are before the first
+led_segments : ℕ → ℕ → List ℕ
+led_segments zero i = []
+led_segments (suc n) i = 4 ∷ 1_000 ∷ 1_000 ∷ 9_999 ∷ 200 ∷ 2_047 ∷ replicate most_distresses 50 ++ (i ∷ led_segments n (i + 1))
+
+full : District
+full =
+    most_counts
+    ++ (replicate most_resources 999_999_999
+    ++ (replicate most_distresses 50
+    ++ (again most_strategies (replicate most_resources 999_999 ++ (replicate most_distresses 206 ++ replicate rows_places 100))
+    ++ (again most_pavements (450 ∷ replicate rows_places 50) ++ led_segments most_segments 0))))
+
+full_in_range : in_range full ≡ true
+unfolding full again led_segments greatest_of ranged field_at numbers_in_range records_in_range in_range
+full_in_range = refl
+
+full_long : length (text_of leader_form full) ≡ longest_printed
+unfolding full again led_segments greatest_of field_at word_of name_of comment_of text written decimal digits_of numbers_text records_text text_of
+full_long = refl
+
+pub some_as_long : (d : District) × (in_range d ≡ true) × (length (text_of leader_form d) ≡ longest_printed)
+some_as_long = (full, full_in_range, full_long)

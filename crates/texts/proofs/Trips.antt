@@ -18,7 +18,7 @@ use Rattle.texts.specs.Promises.{refusal_of, Promises}
 use Rattle.texts.specs.Reading.{Formed, read_text}
 use Rattle.texts.proofs.Fronts.{text_front}
 use Rattle.texts.proofs.Loads.{read_ranged, file_packed, loads}
-use Rattle.texts.proofs.Longest.{printed_short}
+use Rattle.texts.proofs.Longest.{printed_short, some_as_long}
 use Rattle.texts.proofs.Places.{form_agrees, same_refusal, text_unpacked}
 use Rattle.texts.proofs.ReadBack.{printed_read}
 use Rattle.texts.proofs.Unread.{file_front}
@@ -96,6 +96,7 @@ promises =
     record {
       printed_is_read = printed_read;
       printed_is_short = printed_short;
+      some_is_as_long = some_as_long;
       file_again = file_again;
       loads = loads;
       text_again = text_again;

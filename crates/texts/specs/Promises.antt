@@ -6,6 +6,7 @@ use Rattle.input.specs.Reading.{most_read}
 use Rattle.rules.specs.Calls.{load_refusal}
 use Rattle.rules.specs.District.{District}
 use Rattle.rules.specs.File.{found, decode, in_range}
+use Rattle.rules.specs.Format.{leader_form}
 use Rattle.texts.specs.Places.{Place, refusal_at, place_in}
 use Rattle.texts.specs.Printing.{text_of}
 use Rattle.texts.specs.Programs.{most_text_read, packed, unpacked}
@@ -25,7 +26,9 @@ pub record Promises : Type 0 where
   pub printed_is_read :
       (form : ℕ) → Form form → (d : District) → in_range d ≡ true → Suits form d
       → read_text (text_of form d) ≡ Ok (record { form = form; district = d })
+  -- no text that is printed is longer, and one is as long
   pub printed_is_short : (form : ℕ) → Form form → (d : District) → in_range d ≡ true → length (text_of form d) ≤ longest_printed
+  pub some_is_as_long : (d : District) × (in_range d ≡ true) × (length (text_of leader_form d) ≡ longest_printed)
   -- file, text, file: in both forms, also in the one with leaders where none is set
   pub file_again : (file : List ℕ) → Bytes file → load_refusal file ≡ 0 → packed (unpacked file) ≡ file
   -- a file that pack gives loads as just the district that the text says; and text, file, text
