@@ -1,23 +1,21 @@
 -- The longest text is that of a district with every number at its longest. No number has more digits in any other.
-use Rattle.std.proofs.Common.{ℕ, zero, suc, ◌+◌, ◌-◌, ◌/◌, ◌%◌, ◌^◌, ◌≤◌, ◌<◌, ◌≡◌, Bool, true, false, ltb, leb, eqb, List, [], ◌∷◌, ◌++◌, length, replicate, ℤ, pos, negsuc, nat_abs, min, refl, ◌∙◌, length-append, arith}
-use lib.Pow.{pow_mono}
-use lib.Seq.{get_or-append-add}
+use Rattle.std.proofs.Common.{ℕ, zero, suc, ◌+◌, ◌-◌, ◌/◌, ◌%◌, ◌≤◌, ◌<◌, ◌≡◌, Bool, true, false, ltb, leb, eqb, List, [], ◌∷◌, ◌++◌, length, replicate, ℤ, pos, negsuc, nat_abs, refl, length-append, arith}
 use borrow.Author.Tests.{leb-true, le-leb, lt-ltb, le-ltb, ltb-true, ltb-false}
-use Rattle.std.proofs.lemmas.List.{get_or-replicate}
 use Rattle.base.specs.Bytes.{signed}
 use Rattle.base.specs.Choice.{pick}
 use Rattle.base.specs.Text.{text, digits_of, decimal}
 use Rattle.base.proofs.Choice.{pick_all}
 use Rattle.base.proofs.Digits.{decimal_within}
-use Rattle.rules.specs.District.{District, value_at, most_segments, most_strategies, most_distresses, most_pavements, most_resources, rows_places, count_places, greatest_place, ratings_at, leader_at, per_segment, strategies_at, segments_of, strategies_of, distresses_of, pavements_of, greatest_of}
+use Rattle.rules.specs.District.{District, value_at, most_segments, most_strategies, most_distresses, most_pavements, most_resources, rows_places, leader_at, per_segment, segments_of, pavements_of, greatest_of}
 use Rattle.rules.specs.File.{numbers_in_range, records_in_range, in_range}
-use Rattle.rules.specs.Format.{plain_form, leader_form, number, absent, ranged, inside, slot, slot_of, present, most_counts, first_pavement_record, first_segment_record, last_record, file_records, rating_field, kind_field, field_at, Slot}
+use Rattle.rules.specs.Format.{plain_form, leader_form, number, absent, ranged, inside, slot, slot_of, present, most_counts, first_pavement_record, first_segment_record, last_record, file_records, field_at, Slot}
 use Rattle.rules.specs.declared.Field.{Field}
 use Rattle.grammar.specs.Places.{Form, start_of}
 use Rattle.grammar.proofs.Bounds.{between_number, inside_between, gain_most}
 use Rattle.grammar.proofs.InRange.{InRange, in_range_lem}
-use Rattle.grammar.proofs.InRanges.{segments, strategies, years, distresses, pavements, resources, greatest}
+use Rattle.grammar.proofs.InRanges.{pavements}
 use Rattle.grammar.proofs.Slots.{form_all, places_same, start_next}
+use Rattle.file.proofs.Tops.{widest, present_top, field_top}
 use Rattle.texts.specs.Numbers.{written}
 use Rattle.texts.specs.Pieces.{due_text}
 use Rattle.texts.specs.Printing.{number_text, numbers_text, comment_of, record_text, records_text, text_of}
@@ -82,93 +80,18 @@ roomy_absent = record { roomy = λ x i. omega arith }
 field_roomy : (d : District) → leb 1 (pavements_of d) ≡ true → (s : Slot) (n : ℕ) → Roomy (field_at d s n)
 field_roomy d some = field_all Roomy roomy_number roomy_gain roomy_absent d (roomy_number 1 1 (pavements_of d) (omega arith) (omega arith) some)
 
--- ---- no field has more room than that of a district with every count and every greatest rating at its greatest
-
-widest : District
-widest = most_counts ++ replicate (strategies_at - count_places) 50
-
-rating_widest : (n : ℕ) → n < most_distresses → greatest_of widest (n + 1) ≡ 50
-unfolding widest greatest_of
-rating_widest n h =
-    let e : greatest_place (n + 1) ≡ count_places + (most_resources + n) = omega arith in
-    rw e (get_or-append-add most_counts (replicate (strategies_at - count_places) 50) (most_resources + n) 0 ∙ get_or-replicate (strategies_at - count_places) (most_resources + n) 50 0 (omega arith))
-
--- a field has no more room than another; a test passes only where another does
-record Le (f g : Field) : Type 0 where
-  le : room f ≤ room g
-
-record Imp (a b : Bool) : Type 0 where
-  imp : a ≡ true → b ≡ true
-
-le_refl : (f : Field) → Le f f
-le_refl f = record { le = omega arith }
-
-le_number : (w lo hi top : ℕ) → hi ≤ top → Le (number w lo hi) (number w lo top)
+-- the greater its greatest number, the more
+room_grows : (w lo hi top : ℕ) → hi ≤ top → room (number w lo hi) ≤ room (number w lo top)
 unfolding room
-le_number w lo hi top h = record { le = go (ltb 0 w) }
+room_grows w lo hi top h = go (ltb 0 w)
   where
     go : (t : Bool) → pick t (1 + (pick (ltb lo 128) 0 1 + length (decimal hi))) 0 ≤ pick t (1 + (pick (ltb lo 128) 0 1 + length (decimal top))) 0
     go true = omega (arith, decimal_grows hi top h)
     go false = omega arith
 
-le_absent : (g : Field) → Le absent g
+absent_room : room absent ≡ 0
 unfolding room
-le_absent g = record { le = omega arith }
-
-le_same : (t : Bool) (a b a' b' : Field) → Le a a' → Le b b' → Le (pick t a b) (pick t a' b')
-le_same true a b a' b' h k = h
-le_same false a b a' b' h k = k
-
-le_by : (t t' : Bool) (x x' : Field) → Imp t t' → (t ≡ true → Le x x') → Le (pick t x absent) (pick t' x' absent)
-le_by true true x x' i h = h refl
-le_by true false x x' i h = absurd (cc (i.imp refl))
-le_by false t' x x' i h = le_absent (pick t' x' absent)
-
-le_imp : (t t' : Bool) (x x' : Field) → Imp t t' → Le x x' → Le (pick t x absent) (pick t' x' absent)
-le_imp t t' x x' i h = le_by t t' x x' i (λ e. h)
-
-imp_refl : (t : Bool) → Imp t t
-imp_refl t = record { imp = λ e. e }
-
-imp_ltb : (i m n : ℕ) → m ≤ n → Imp (ltb i m) (ltb i n)
-imp_ltb i m n h = record { imp = λ e. lt-ltb i n (omega (arith, ltb-true i m e)) }
-
-imp_same : (t a b a' b' : Bool) → Imp a a' → Imp b b' → Imp (pick t a b) (pick t a' b')
-imp_same true a b a' b' h k = h
-imp_same false a b a' b' h k = k
-
-ruleset mono = (le_refl, le_number, le_absent, le_imp, le_same, imp_refl, imp_ltb, imp_same)
-
-module _ (d : District) (ok : InRange leader_form d) where
-  present_top : (s : Slot) → Imp (present d s) (present widest s)
-  unfolding widest
-  present_top s =
-      let N = (segments d ok).1 in
-      let S = (strategies d ok).1 in
-      let Y = (pavements d ok).1 in
-      search mono depth 20
-
-  rating_top : (n : ℕ) → Le (rating_field d n) (rating_field widest n)
-  unfolding widest
-  rating_top n =
-      let D = (distresses d ok).1 in
-      le_by (ltb n (distresses_of d)) (ltb n most_distresses) _ _ (imp_ltb n (distresses_of d) most_distresses D)
-      (λ e. let l = ltb-true n (distresses_of d) e in le_number 1 0 _ _ (omega (arith, greatest d ok (n + 1) (omega arith) (omega arith), rating_widest n (omega arith))))
-
-  kind_top : (s : Slot) (n : ℕ) → Le (kind_field d s n) (kind_field widest s n)
-  unfolding widest
-  kind_top s n =
-      let T = (years d ok).1 in
-      let D = (distresses d ok).1 in
-      let Y = (pavements d ok).1 in
-      let R = (resources d ok).1 in
-      let bars : 2 ^ min (strategies_of d) 16 - 1 ≤ 2 ^ 11 - 1 = omega (arith, pow_mono {i = min (strategies_of d) 16} {j = 11} (omega (arith, (strategies d ok).1))) in
-      let rating = rating_top (n - ratings_at) in
-      search mono depth 30
-
-  field_top : (s : Slot) (n : ℕ) → room (field_at d s n) ≤ room (field_at widest s n)
-  unfolding field_at
-  field_top s n = (le_imp (present d s) (present widest s) (kind_field d s n) (kind_field widest s n) (present_top s) (kind_top s n)).le
+absent_room = refl
 
 -- ---- the text of a district in a form, where each number that it has is in the range of the form with leaders
 
@@ -193,15 +116,15 @@ module _ (d : District) (ok : InRange leader_form d) where
         let Y = pavements_of d in
         let here = (field_roomy d (le-leb 1 Y (pavements d ok).0) s n).roomy (value_at d place) (λ q. rw e at (good n (omega arith) q)) in
         omega
-        (arith, length-append (due_text d s n place) (numbers_text m d s (n + 1) (place + 1)), here, field_top d ok s n, numbers_fit m (n + 1) (place + 1) (omega arith) (omega arith))
+        (arith, length-append (due_text d s n place) (numbers_text m d s (n + 1) (place + 1)), here, field_top d ok room absent_room room_grows s n, numbers_fit m (n + 1) (place + 1) (omega arith) (omega arith))
 
     record_fits : length (record_text (present d s) d s base) ≤ record_room s
     unfolding record_room text
     record_fits = go (present d s) (present widest s) (present_top d ok s)
       where
-        go : (a b : Bool) → Imp a b → length (record_text a d s base) ≤ pick b (length (word_of s.kind) + (numbers_room s.places s 0 + (length (comment_of s) + 1))) 0
+        go : (a b : Bool) → (a ≡ true → b ≡ true) → length (record_text a d s base) ≤ pick b (length (word_of s.kind) + (numbers_room s.places s 0 + (length (comment_of s) + 1))) 0
         go false b i = omega arith
-        go true false i = absurd (cc (i.imp refl))
+        go true false i = absurd (cc (i refl))
         go true true i =
             omega
             (arith, length-append (word_of s.kind) (numbers_text s.places d s 0 base ++ (comment_of s ++ text "\n")), length-append (numbers_text s.places d s 0 base) (comment_of s ++ text "\n"), length-append (comment_of s) (text "\n"), numbers_fit s.places 0 base (omega arith) (omega arith))
