@@ -38,7 +38,7 @@ fuzz:
 
 compare:
 	@scripts/need rt cargo rustc
-	@scripts/build plan page panel transcode vectors up down deck $(patsubst crates/%/src,%,$(wildcard crates/pack/src crates/unpack/src))
+	@scripts/build plan page panel transcode vectors up down deck pack unpack
 	@scripts/compare $(COUNT) $(SEED)
 
 bench:

@@ -87,13 +87,10 @@ fn first_different(arguments: &[String]) -> Result<Option<String>, String> {
     }
 
     for (name, way) in [("pack", text::Way::Pack), ("unpack", text::Way::Unpack)] {
-        // Looked at where the proved program is there.
-        if crates.join(name).join("src").is_dir() {
-            let input = read(&format!("{name}/stdin"))?;
-            let worked = [answer(|| hex(&text::answer(way, &input)))];
-            if differs(worked, &[hex(&read(&format!("{name}/stdout"))?)]).is_some() {
-                return Ok(Some(name.to_string()));
-            }
+        let input = read(&format!("{name}/stdin"))?;
+        let worked = [answer(|| hex(&text::answer(way, &input)))];
+        if differs(worked, &[hex(&read(&format!("{name}/stdout"))?)]).is_some() {
+            return Ok(Some(name.to_string()));
         }
     }
 
