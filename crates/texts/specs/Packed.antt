@@ -84,6 +84,8 @@ texts =
     -- no text, but a file; a byte order mark
     ∷ Pack card ⇒ lines ("line 1: '????????????????????..' is not the word due ('district')" ∷ [])
     ∷ Pack (239 ∷ 187 ∷ 191 ∷ card_text) ⇒ lines ("line 1: '???district' is not the word due ('district')" ∷ [])
+    -- a word of the first and the last byte that are shown, between the two beside them
+    ∷ Pack (31 ∷ 33 ∷ 126 ∷ 127 ∷ []) ⇒ lines ("line 1: '?!~?' is not the word due ('district')" ∷ [])
     -- a leader that is not below its segment
     ∷ Pack (lines (led_lines "segment 1 100 100 100 20 0 5 1" "segment 1 100 100 200 20 0 15 0")) ⇒ lines ("line 7: 1 is not 0 to 0" ∷ [])
     ∷ Pack (lines (led_lines "segment 1 100 100 100 20 0 5 0" "segment 1 100 100 200 20 0 15 2")) ⇒ lines ("line 8: 2 is not 0 to 1" ∷ [])
