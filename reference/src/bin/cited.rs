@@ -41,15 +41,9 @@ fn main() -> ExitCode {
     let (mut seen, mut wrong) = (0, 0);
     for document in documents {
         let Ok(text) = fs::read_to_string(Path::new(&top).join(&document)) else { continue };
-        // Change requests name what they would add, which cannot be there.
-        let planned = document.ends_with("TICKETS.md");
-        let skipped = |line: &str| line.starts_with("    ") || planned && line.starts_with("- **Adds:**");
-        for (number, line) in (1..).zip(text.lines()).filter(|(_, line)| !skipped(line)) {
+        for (number, line) in (1..).zip(text.lines()).filter(|(_, line)| !line.starts_with("    ")) {
             for citation in tree.citations(line) {
                 seen += 1;
-                if planned && !tree.is_about_today(&citation) {
-                    continue;
-                }
                 if let Some(complaint) = tree.complaint(&citation) {
                     println!("{document}:{number}: {complaint}");
                     wrong += 1;
@@ -195,15 +189,6 @@ impl Tree {
                 let of = if is_name(text) { context.join(" ") } else { String::new() };
                 (!holds).then(|| format!("no `{text}` {of}"))
             }
-        }
-    }
-
-    /// Of change requests: what is named with its file, crate or place and is
-    /// not told as new.
-    fn is_about_today(&self, citation: &Citation) -> bool {
-        match citation {
-            Citation::Edit(_) => true,
-            Citation::Quoted(text, _) => text.contains("::") || text.contains('.') && is_module(text),
         }
     }
 
