@@ -1,4 +1,5 @@
--- docs/FILE.md, "The test card" and "The card with one thing changed": texts of the card's district and what pack prints for them, computed.
+-- docs/FILE.md, "The test card" and "The card with one thing changed": texts of the card's district and what pack prints for them, computed;
+-- and texts for what that page says and its examples do not show.
 use Rattle.std.specs.Prelude.{ℕ, ◌-◌, refl, eqb, length, take, set, replicate}
 use Prim.Native.String.{String}
 use mathlib.Core.List.{List, [], ◌∷◌, ◌++◌, map}
@@ -59,9 +60,9 @@ office_lines =
 abbrev pub card_text : List ℕ
 card_text = lines card_lines
 
--- with tabs for spaces, with a carriage return before each line feed, and without the last line feed
-abbrev pub tabbed : List ℕ
-tabbed = map (λ b. pick (eqb b 32) 9 b) card_text
+-- with another byte for each space, with a carriage return before each line feed, and without the last line feed
+abbrev pub spaced_by : ℕ → List ℕ
+spaced_by blank = map (λ b. pick (eqb b 32) blank b) card_text
 
 abbrev pub carriage_returned : List ℕ
 carriage_returned = each (λ b. pick (eqb b 10) (13 ∷ 10 ∷ []) (b ∷ [])) card_text
@@ -75,7 +76,7 @@ texts =
     ∷ Pack (lines unled_lines) ⇒ card_up
     ∷ Pack (lines (led_lines "segment 1 100 100 100 20 0 5 0" "segment 1 100 100 200 20 0 15 1")) ⇒ card_led
     ∷ Pack (lines office_lines) ⇒ card
-    ∷ Pack tabbed ⇒ card
+    ∷ Pack (spaced_by 9) ⇒ card
     ∷ Pack carriage_returned ⇒ card
     ∷ Pack unended ⇒ card
     -- the empty text, and two empty lines
@@ -153,3 +154,52 @@ changed =
 pub changed_packed : Agree changed
 unfolding printed_for
 changed_packed = refl
+
+-- ---- what the page says and its examples do not show
+
+-- two years, distress types and resources, and no segment; each number is another
+abbrev pub pair_lines : List String
+pair_lines =
+    "district 0 1 2 2 1 2 # segments, strategies, years, distress types, pavement types, resources"
+    ∷ "limits 1 2"
+    ∷ "greatest 3 4"
+    ∷ "strategy 5 6 -7 8 9 10 11 12 # strategy 1"
+    ∷ "pavement 13 14 15 16 17 # pavement 1"
+    ∷ "end"
+    ∷ []
+
+abbrev pub pair_file : List ℕ
+pair_file =
+    0x06 ∷ 0x00 ∷ 0x01 ∷ 0x00 ∷ 0x00 ∷ 0x01 ∷ 0x02 ∷ 0x02 ∷ 0x01 ∷ 0x02
+    ∷ 0x08 ∷ 0x00 ∷ 0x02 ∷ 0x00 ∷ 0x01 ∷ 0x00 ∷ 0x00 ∷ 0x00 ∷ 0x02 ∷ 0x00 ∷ 0x00 ∷ 0x00
+    ∷ 0x02 ∷ 0x00 ∷ 0x03 ∷ 0x00 ∷ 0x03 ∷ 0x04
+    ∷ 0x0E ∷ 0x00 ∷ 0x04 ∷ 0x00 ∷ 0x05 ∷ 0x00 ∷ 0x00 ∷ 0x00 ∷ 0x06 ∷ 0x00 ∷ 0x00 ∷ 0x00 ∷ 0xF9 ∷ 0x08 ∷ 0x09 ∷ 0x0A ∷ 0x0B ∷ 0x0C
+    ∷ 0x06 ∷ 0x00 ∷ 0x05 ∷ 0x00 ∷ 0x0D ∷ 0x00 ∷ 0x0E ∷ 0x0F ∷ 0x10 ∷ 0x11
+    ∷ 0x00 ∷ 0x00 ∷ 0x07 ∷ 0x00
+    ∷ []
+
+abbrev pub further : List Exchange
+further =
+    -- rows have the years of distress type 1 first, in the text as in the file
+    Pack (lines pair_lines) ⇒ pair_file
+    -- a carriage return is a blank anywhere, and a form feed nowhere; blanks around a line's words
+    ∷ Pack (spaced_by 13) ⇒ card
+    ∷ Pack (spaced_by 12) ⇒ lines ("line 1: 'district?2?2?2?1?1?1..' is not the word due ('district')" ∷ [])
+    ∷ Pack (with_line 2 "  limits 130 ") ⇒ card
+    -- the first word says the form, in whatever line it stands
+    ∷ Pack (lines ("# leaders" ∷ unled_lines)) ⇒ card_up
+    -- lines without a word are counted, and so is a last one that lacks its line feed
+    ∷ Pack (lines (set office_lines 13 "segment   1    100     100          0100  20   0     21    # 1 Mill Road"))
+    ⇒ lines ("line 14: 21 is not 0 to 20" ∷ [])
+    ∷ Pack (lines (take 7 card_lines) ++ text "segment 1 100 100 200 20 0 15") ⇒ lines ("line 9: the end is missing ('end' is due)" ∷ [])
+    -- a second end follows the end
+    ∷ Pack (lines (card_lines ++ "end" ∷ [])) ⇒ lines ("line 10: something follows the end" ∷ [])
+    -- the length comes before all else
+    ∷ Pack (replicate 65_537 32) ⇒ lines ("the text is longer than 65536 bytes" ∷ [])
+    -- 20 bytes are shown whole
+    ∷ Pack (with_line 2 "limits 1234567890123456789x") ⇒ lines ("line 2: '1234567890123456789x' is not a number" ∷ [])
+    ∷ []
+
+pub further_packed : Agree further
+unfolding printed_for
+further_packed = refl

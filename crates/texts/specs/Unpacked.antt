@@ -1,11 +1,12 @@
--- docs/FILE.md, "The card with one thing changed": files, changed in a byte or two, and what unpack prints for them, computed.
+-- docs/FILE.md, "The card with one thing changed": files, changed in a byte or two, and what unpack prints for them, computed; and
+-- files for what that page says and its examples do not show.
 use Rattle.std.specs.Prelude.{ℕ, ◌-◌, refl, take, set, replicate}
 use mathlib.Core.List.{List, [], ◌∷◌, ◌++◌}
 use Rattle.input.specs.Reading.{most_read}
 use Rattle.rules.specs.Marked.{card}
 use Rattle.rules.specs.Converted.{card_led, card_up}
 use Rattle.texts.specs.Results.{Unpack, lines, printed_for, Exchange, ◌⇒◌, Agree}
-use Rattle.texts.specs.Packed.{card_lines, unled_lines}
+use Rattle.texts.specs.Packed.{card_lines, unled_lines, pair_lines, pair_file}
 
 -- the card's file with another n-th byte
 abbrev pub with_byte : ℕ → ℕ → List ℕ
@@ -48,3 +49,22 @@ files =
 pub files_unpacked : Agree files
 unfolding printed_for
 files_unpacked = refl
+
+-- ---- what the page says and its examples do not show
+
+abbrev pub further : List Exchange
+further =
+    Unpack pair_file ⇒ lines pair_lines
+    -- records are counted of those that stand in the file
+    ∷ Unpack (take 59 pair_file) ⇒ lines ("refused 1" ∷ "record 6 (end): the file ends within it" ∷ [])
+    -- kind, length and number have all their bytes
+    ∷ Unpack (with_byte 27 1) ⇒ lines ("refused 2" ∷ "record 4: kind 260 stands where 4 is due" ∷ [])
+    ∷ Unpack (with_byte 25 1) ⇒ lines ("refused 3" ∷ "record 4 (strategy 1): 263 bytes stand where 7 are due" ∷ [])
+    ∷ Unpack (with_byte 51 2) ⇒ lines ("refused 4" ∷ "record 6 (pavement 1), number 1: 512 is not 0 to 450" ∷ [])
+    -- of two numbers out of range the first
+    ∷ Unpack (set (with_byte 32 60) 32 101) ⇒ lines ("refused 4" ∷ "record 4 (strategy 1), number 2: 60 is not -50 to 50" ∷ [])
+    ∷ []
+
+pub further_unpacked : Agree further
+unfolding printed_for
+further_unpacked = refl
