@@ -23,6 +23,7 @@ mod ReadBack
 pub mod Lengths
 pub mod Longest
 pub mod Unread
+mod Complained
 pub mod Trips
 mod Outside
 mod Walked

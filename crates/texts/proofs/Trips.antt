@@ -16,6 +16,7 @@ use Rattle.texts.specs.Printing.{text_of}
 use Rattle.texts.specs.Programs.{packed, unpacked}
 use Rattle.texts.specs.Promises.{refusal_of, Promises}
 use Rattle.texts.specs.Reading.{Formed, read_text}
+use Rattle.texts.proofs.Complained.{complaint_no_file}
 use Rattle.texts.proofs.Fronts.{text_front}
 use Rattle.texts.proofs.Loads.{read_ranged, file_packed, loads}
 use Rattle.texts.proofs.Longest.{printed_short, some_as_long}
@@ -100,6 +101,7 @@ promises =
       file_again = file_again;
       loads = loads;
       text_again = text_again;
+      complaint_no_file = complaint_no_file;
       same_refusal = same_refusal;
       file_front = file_front;
       text_front = text_front;

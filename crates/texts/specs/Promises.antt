@@ -1,12 +1,14 @@
 -- docs/FILE.md, "What is promised": what holds of pack and unpack, for any bytes and for each district that a file may hold.
-use Rattle.std.specs.Prelude.{ℕ, ◌≤◌, ◌≡◌, true, List, [], length, take, Option, None, Some, Ok}
+use Rattle.std.specs.Prelude.{ℕ, ◌≤◌, ◌≡◌, true, List, [], length, take, Option, None, Some, Ok, Err}
 use Rattle.base.specs.Bytes.{Bytes}
 use Rattle.grammar.specs.Places.{Form, Suits}
 use Rattle.input.specs.Reading.{most_read}
+use Rattle.rules.specs.Answers.{other_kind}
 use Rattle.rules.specs.Calls.{load_refusal}
 use Rattle.rules.specs.District.{District}
 use Rattle.rules.specs.File.{found, decode, in_range}
 use Rattle.rules.specs.Format.{leader_form}
+use Rattle.texts.specs.Complaints.{Complaint}
 use Rattle.texts.specs.Places.{Place, refusal_at, place_in}
 use Rattle.texts.specs.Printing.{text_of}
 use Rattle.texts.specs.Programs.{most_text_read, packed, unpacked}
@@ -34,6 +36,8 @@ pub record Promises : Type 0 where
   -- a file that pack gives loads as just the district that the text says; and text, file, text
   pub loads : (bs : List ℕ) (f : Formed) → read_text bs ≡ Ok f → (decode (packed bs) ≡ found f.district []) × (in_range f.district ≡ true)
   pub text_again : (bs : List ℕ) (f : Formed) → read_text bs ≡ Ok f → read_text (unpacked (packed bs)) ≡ Ok f
+  -- a complaint is never mistaken for a file: a load refuses it by the kind of its first record
+  pub complaint_no_file : (bs : List ℕ) (c : Complaint) → read_text bs ≡ Err c → load_refusal (packed bs) ≡ other_kind
   -- unpack refuses the files that a load refuses, by the same number
   pub same_refusal : (file : List ℕ) → refusal_of (place_in file) ≡ load_refusal file
   -- what the programs do not read makes no difference
