@@ -13,7 +13,7 @@ use Rattle.base.specs.Over.{best, better_of}
 use Rattle.base.proofs.Choice.{pick_all}
 use Rattle.base.proofs.Sums.{up_to}
 
-pub best_none : (p : ℕ → Bool) (better : ℕ → ℕ → Bool) → 0 ≡ best 0 p better
+best_none : (p : ℕ → Bool) (better : ℕ → ℕ → Bool) → 0 ≡ best 0 p better
 unfolding best
 best_none p better = refl
 

@@ -16,7 +16,7 @@ pub tested_by_shift : (m n : ℕ) → eqb (bit_and (m / 2 ^ n) 1) 1 ≡ is_set m
 tested_by_shift m n = ap (λ (b : ℕ). eqb b 1) (and_mask (m / 2 ^ n) 1)
 
 -- 1 << n, in 64 bits
-pub shifted : (n : ℕ) → n < 64 → 1 * 2 ^ n % 2 ^ 64 ≡ 2 ^ n
+shifted : (n : ℕ) → n < 64 → 1 * 2 ^ n % 2 ^ 64 ≡ 2 ^ n
 shifted n h = rw one-mul (mod-eq_of_lt (pow-lt h))
 
 -- b is the bit that was there; `|` and `&` add up to the two operands

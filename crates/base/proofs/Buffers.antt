@@ -23,7 +23,7 @@ pub written_none : (old whole : List ℕ) → Written old whole whole 0 old
 written_none old whole = record { room = omega arith; same = refl; kept = refl; done = refl }
 
 module _ {old whole rest : List ℕ} {at : ℕ} {out : List ℕ} (w : Written old whole rest at out) where
-  pub written_left : at + length rest ≡ length whole
+  written_left : at + length rest ≡ length whole
   written_left = omega (arith, ap length w.done, length-append (take at out) rest, length-take-le at out w.room)
 
   -- all is written

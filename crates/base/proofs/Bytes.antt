@@ -22,7 +22,7 @@ number_bytes_lem (suc w) v h =
     omega arith
 
 -- what is read is written back
-pub bytes_number : (bs : List ℕ) → Bytes bs → bytes_of (length bs) (number_of bs) ≡ bs
+bytes_number : (bs : List ℕ) → Bytes bs → bytes_of (length bs) (number_of bs) ≡ bs
 bytes_number [] h = refl
 bytes_number (b ∷ bs) h =
     let hb : b < 256 = h zero in
@@ -38,7 +38,7 @@ bytes_drop n bs h i = rw (get_or-drop n bs i 0) (h (n + i))
 pub bytes_suffix : (a b : List ℕ) → Bytes (a ++ b) → Bytes b
 bytes_suffix a b h i = rw (get_or-append-add a b i 0) at (h (length a + i))
 
-pub bytes_take : (n : ℕ) (bs : List ℕ) → Bytes bs → Bytes (take n bs)
+bytes_take : (n : ℕ) (bs : List ℕ) → Bytes bs → Bytes (take n bs)
 bytes_take zero bs h i = omega arith
 bytes_take (suc n) [] h i = h i
 bytes_take (suc n) (b ∷ bs) h zero = h zero

@@ -9,7 +9,7 @@ use lib.Seq.{take_at, drop_at, drop-drop}
 use Rattle.base.specs.Over.{listed_from}
 
 -- xs stands over the front of d; the k places behind it are lent, and come back as ys
-pub part_next : {A : Type 0} (xs ys d : List A) (n k : ℕ) → length xs ≡ n → take n (xs ++ drop n d) ++ (ys ++ drop k (drop n (xs ++ drop n d))) ≡ (xs ++ ys) ++ drop (n + k) d
+part_next : {A : Type 0} (xs ys d : List A) (n k : ℕ) → length xs ≡ n → take n (xs ++ drop n d) ++ (ys ++ drop k (drop n (xs ++ drop n d))) ≡ (xs ++ ys) ++ drop (n + k) d
 part_next xs ys d n k e = rw (take_at xs (drop n d) n e, drop_at xs (drop n d) n e, drop-drop k n d) (sym (append_assoc xs ys (drop (n + k) d)))
 
 module _ {A : Type 0} (f : ℕ → A) where

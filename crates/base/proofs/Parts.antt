@@ -37,7 +37,7 @@ module _ (b : ℕ) (bs : List ℕ) where
 -- ---- digits
 
 -- a value that 64 bits do not hold is held no more, whatever follows
-pub held_over : (v : ℕ) (bs : List ℕ) → 2 ^ 64 ≤ v → held (value_from v bs) ≡ None
+held_over : (v : ℕ) (bs : List ℕ) → 2 ^ 64 ≤ v → held (value_from v bs) ≡ None
 unfolding held value_from
 held_over v [] h = rw (le-ltb v (2 ^ 64) h)
 held_over v (b ∷ bs) h = go (between 48 57 b) (held_over (v * 10 + (b - 48)) bs (omega arith))

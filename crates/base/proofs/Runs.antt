@@ -6,7 +6,7 @@ use native.Mathlib.Omega.{arith}
 use Rattle.base.specs.Search.{Run, run, more}
 
 module _ {A : Type 0} (next : A → Option A) where
-  pub run_none : (n : ℕ) (s : A) → next s ≡ None → run next (suc n) s ≡ record { last = s; count = 0 }
+  run_none : (n : ℕ) (s : A) → next s ≡ None → run next (suc n) s ≡ record { last = s; count = 0 }
   unfolding run
   run_none n s e = rw (e, run)
 
@@ -16,7 +16,7 @@ module _ {A : Type 0} (next : A → Option A) where
   run_end zero s e = refl
   run_end (suc n) s e = run_none n s e
 
-  pub run_some : (n : ℕ) (s t : A) → next s ≡ Some t → run next (suc n) s ≡ more (run next n t)
+  run_some : (n : ℕ) (s t : A) → next s ≡ Some t → run next (suc n) s ≡ more (run next n t)
   unfolding run
   run_some n s t e = rw (e, run)
 

@@ -26,7 +26,7 @@ set_keeps P (y ∷ l) (suc q) x (suc p) new old = set_keeps P l q x p new old
 
 -- two districts that differ in limits and bars alone
 module _ (d e : District) (same : Alike d e) (ranges : Ranges d) where
-  pub alike_ranges : length e ≡ district_places → ((r : ℕ) → 1 ≤ r → r ≤ most_resources → limit_of e r ≤ 999_999_999) → ((i : ℕ) → 1 ≤ i → i ≤ most_segments → bars_of e i < 2 ^ 16) → Ranges e
+  alike_ranges : length e ≡ district_places → ((r : ℕ) → 1 ≤ r → r ≤ most_resources → limit_of e r ≤ 999_999_999) → ((i : ℕ) → 1 ≤ i → i ≤ most_segments → bars_of e i < 2 ^ 16) → Ranges e
   unfolding greatest_of requirement_of gain_of percent_of overall_of minimum_of pavement_of traffic_of environment_of length_of width_of rating_of leader_of
   alike_ranges long limits bars =
       record {

@@ -34,20 +34,20 @@ module _ (t : Table) (p : List ℕ) (r q : ℕ) (l : 1 ≤ r) (h : r ≤ t.resou
   price_old : (k : ℕ) → 1 ≤ k → (k ≡ r → ⊥) → price_at (set p (r - 1) q) k ≡ price_at p k
   price_old k lk ne = kept p r q k l lk ne
 
-  pub cost_moved : (i j : ℕ) → cost t (set p (r - 1) q) i j + price_at p r * down_share t i j r ≡ cost t p i j + q * down_share t i j r
+  cost_moved : (i j : ℕ) → cost t (set p (r - 1) q) i j + price_at p r * down_share t i j r ≡ cost t p i j + q * down_share t i j r
   unfolding cost cost_by
   cost_moved i j =
       sum_change t.resources (cost_by t (set p (r - 1) q) i j) (cost_by t p i j) r l h (λ k lk hk ne. rw (price_old k lk ne))
       ∙ rw price_new
 
-  pub prices_moved : sum t.resources (price_at (set p (r - 1) q)) + price_at p r ≡ sum t.resources (price_at p) + q
+  prices_moved : sum t.resources (price_at (set p (r - 1) q)) + price_at p r ≡ sum t.resources (price_at p) + q
   prices_moved =
       sum_change t.resources (price_at (set p (r - 1) q)) (price_at p) r l h (λ k lk hk ne. price_old k lk ne)
       ∙ rw price_new
 
 -- ---- sums of prices
 
-pub prices_small : {p : List ℕ} → Prices p → (n : ℕ) → sum n (price_at p) ≤ n * 2 ^ 41
+prices_small : {p : List ℕ} → Prices p → (n : ℕ) → sum n (price_at p) ≤ n * 2 ^ 41
 prices_small {p} prices n = sum_bound n (2 ^ 41) (price_at p) (λ k l h. omega (arith, prices.small (k - 1)))
 
 -- the same sum of a list

@@ -71,7 +71,7 @@ priced_raisable t m s k p h =
     (rw at (raisable_set m s k p (get_or p k 0 - s) h (omega (arith, h.small k))))
     (record { places = h.places; small = h.small; room = λ q le. h.room q (omega arith) })
 
-pub all_raisable : (t : Table) (m s : ℕ) (p : List ℕ) → Raisable m s 0 p → (k : ℕ) → Raisable m s k (priced_all t s k p)
+all_raisable : (t : Table) (m s : ℕ) (p : List ℕ) → Raisable m s 0 p → (k : ℕ) → Raisable m s k (priced_all t s k p)
 unfolding priced_all
 all_raisable t m s p h zero = h
 all_raisable t m s p h (suc k) = priced_raisable t m s k (priced_all t s k p) (all_raisable t m s p h k)

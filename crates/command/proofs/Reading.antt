@@ -34,11 +34,11 @@ unfolding prefixed with_number
 prefixed_one vs v None = refl
 prefixed_one vs v (Some ws) = ap Some (sym (append_assoc vs (v ∷ []) ws))
 
-pub arguments_more : (n : ℕ) (bs : List ℕ) (v : ℕ) (vs : List ℕ) → first_number bs ≡ Some v → prefixed vs (arguments (suc n) bs) ≡ prefixed (vs ++ (v ∷ [])) (arguments n (after_number bs))
+arguments_more : (n : ℕ) (bs : List ℕ) (v : ℕ) (vs : List ℕ) → first_number bs ≡ Some v → prefixed vs (arguments (suc n) bs) ≡ prefixed (vs ++ (v ∷ [])) (arguments n (after_number bs))
 unfolding arguments
 arguments_more n bs v vs e = rw e (prefixed_one vs v (arguments n (after_number bs)))
 
-pub arguments_stop : (n : ℕ) (bs vs : List ℕ) → first_number bs ≡ None → prefixed vs (arguments (suc n) bs) ≡ None
+arguments_stop : (n : ℕ) (bs vs : List ℕ) → first_number bs ≡ None → prefixed vs (arguments (suc n) bs) ≡ None
 unfolding arguments prefixed with_number
 arguments_stop n bs vs e = rw e
 
@@ -89,7 +89,7 @@ no_numbers false = refl
 
 -- ---- paths
 
-pub path_drop : (line : List ℕ) (n : ℕ) → n ≡ length (word_of line) → drop (n + 1) line ≡ path_of line
+path_drop : (line : List ℕ) (n : ℕ) → n ≡ length (word_of line) → drop (n + 1) line ≡ path_of line
 unfolding path_of
 path_drop line n e = sym (drop-drop 1 n line) ∙ ap (drop 1) (on_dropped 32 line n e)
 

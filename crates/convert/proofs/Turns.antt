@@ -76,7 +76,7 @@ up_fits file e = turned_fits plain_form leader_form (inl refl) (inr refl) file e
 -- ---- down
 
 -- what is not refused has no leader. The first half is a law of stations too, which convert does not stand on; these cases give both
-pub down_accepted : (n : ℕ) (d : District) → or_later n (lost_leader d) ≡ 0 → (n ≡ 0) × (leaderless d ≡ true)
+down_accepted : (n : ℕ) (d : District) → or_later n (lost_leader d) ≡ 0 → (n ≡ 0) × (leaderless d ≡ true)
 down_accepted (suc n) d e = absurd (omega arith)
 down_accepted zero d e = (refl, go (leaderless d) e)
   where

@@ -14,7 +14,7 @@ use Rattle.rules.specs.declared.Which.{Which}
 
 -- ---- lists of calls, one after the other
 
-pub station_then : (cs es : List StationCall) (b : Both Held) → station_from b (cs ++ es) ≡ station_from (station_from b cs) es
+station_then : (cs es : List StationCall) (b : Both Held) → station_from b (cs ++ es) ≡ station_from (station_from b cs) es
 unfolding station_from
 station_then [] es b = refl
 station_then (c ∷ cs) es b = station_then cs es (station_outcome b c).held

@@ -26,7 +26,7 @@ module _ (q : Queues) where
   found n = oldest_at q (at_place (n - 1))
 
   -- as a search
-  pub taken_first : taken q ≡ first 4 found
+  taken_first : taken q ≡ first 4 found
   unfolding taken first further
   taken_first =
       let c = q.turn in

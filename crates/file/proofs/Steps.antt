@@ -94,7 +94,7 @@ module _ (d : District) (s : Slot) where
   pub header_none : present d s ≡ false → header_bytes d s ≡ []
   header_none t = sym (pick_no _ _ _ _ t refl)
 
-  pub length_record : (place : ℕ) → length (record_bytes d s place) ≡ length (header_bytes d s) + size d s
+  length_record : (place : ℕ) → length (record_bytes d s place) ≡ length (header_bytes d s) + size d s
   length_record place = length-append (header_bytes d s) (number_bytes s.places d s 0 place) ∙ rw (length_numbers s.places d s 0 place)
 
   pub length_there : (place : ℕ) → present d s ≡ true → length (record_bytes d s place) ≡ 4 + size d s

@@ -30,14 +30,14 @@ size_of d = record { segments = segments_of d; strategies = strategies_of d; res
 -- ---- each entry, at its place
 
 module _ (d : District) where
-  pub benefit_entry_lem : (i j : ℕ) → Segment i → j ≤ most_strategies → get_or (benefit_list d) (entry i j) 0 ≡ candidate_benefit d i j
+  benefit_entry_lem : (i j : ℕ) → Segment i → j ≤ most_strategies → get_or (benefit_list d) (entry i j) 0 ≡ candidate_benefit d i j
   unfolding benefit_list benefit_entry
   benefit_entry_lem i j p q =
       let a : (0 + entry i j) / columns + 1 ≡ i = omega arith in
       let b : (0 + entry i j) % columns ≡ j = omega arith in
       listed_at entries 0 (entry i j) (benefit_entry d) (omega arith) ∙ ap₂ (candidate_benefit d) a b
 
-  pub usage_entry_lem : (i j r : ℕ) → Segment i → j ≤ most_strategies → Resource r → get_or (usage_list d) (use_entry i j r) 0 ≡ usage_in d i j r
+  usage_entry_lem : (i j r : ℕ) → Segment i → j ≤ most_strategies → Resource r → get_or (usage_list d) (use_entry i j r) 0 ≡ usage_in d i j r
   unfolding usage_list usage_entry
   usage_entry_lem i j r p q s =
       let n = 0 + use_entry i j r in
@@ -46,7 +46,7 @@ module _ (d : District) where
       let c : n % most_resources + 1 ≡ r = omega arith in
       listed_at use_entries 0 (use_entry i j r) (usage_entry d) (omega arith) ∙ cc
 
-  pub limit_entry : (r : ℕ) → Resource r → get_or (limit_list d) (r - 1) 0 ≡ limit_in d r
+  limit_entry : (r : ℕ) → Resource r → get_or (limit_list d) (r - 1) 0 ≡ limit_in d r
   unfolding limit_list
   limit_entry r p = let a : 1 + (r - 1) ≡ r = omega arith in listed_at most_resources 1 (r - 1) (limit_in d) (omega arith) ∙ ap (limit_in d) a
 

@@ -25,7 +25,7 @@ pub record InRange (form : ℕ) (d : District) : Type 0 where
 -- ---- of one record
 
 module _ (d : District) (s : Slot) where
-  pub numbers_in : (m n : ℕ) (vs : List ℕ) → numbers_in_range m d s n vs ≡ true → (i : ℕ) → i < m → inside (field_at d s (n + i)) (get_or vs i 0) ≡ true
+  numbers_in : (m n : ℕ) (vs : List ℕ) → numbers_in_range m d s n vs ≡ true → (i : ℕ) → i < m → inside (field_at d s (n + i)) (get_or vs i 0) ≡ true
   unfolding numbers_in_range
   numbers_in zero n vs e i h = absurd (omega arith)
   numbers_in (suc m) n vs e zero h = rw add-zero (and_parts (inside (field_at d s n) (get_or vs 0 0)) _ e).0
@@ -34,7 +34,7 @@ module _ (d : District) (s : Slot) where
       let r : 1 + i ≡ suc i = omega arith in
       rw (q, get_or-drop 1 vs i 0, r) at (numbers_in m (n + 1) (drop 1 vs) (and_parts (inside (field_at d s n) (get_or vs 0 0)) _ e).1 i (omega arith))
 
-  pub in_numbers : (m n : ℕ) (vs : List ℕ) → ((i : ℕ) → i < m → inside (field_at d s (n + i)) (get_or vs i 0) ≡ true) → numbers_in_range m d s n vs ≡ true
+  in_numbers : (m n : ℕ) (vs : List ℕ) → ((i : ℕ) → i < m → inside (field_at d s (n + i)) (get_or vs i 0) ≡ true) → numbers_in_range m d s n vs ≡ true
   unfolding numbers_in_range
   in_numbers zero n vs h = refl
   in_numbers (suc m) n vs h =

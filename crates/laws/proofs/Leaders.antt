@@ -33,7 +33,7 @@ module _ (leader : ℕ → ℕ) where
   -- ---- what decides of a segment
 
   -- more segments that have something, and a segment that might have something still may
-  pub led_more : (c e : ℕ → ℕ) (k : ℕ) → ((m : ℕ) → 1 ≤ m → 1 ≤ c m → 1 ≤ e m) → led leader c k ≡ true → led leader e k ≡ true
+  led_more : (c e : ℕ → ℕ) (k : ℕ) → ((m : ℕ) → 1 ≤ m → 1 ≤ c m → 1 ≤ e m) → led leader c k ≡ true → led leader e k ≡ true
   unfolding led
   led_more c e k more ok = go (eqb (leader k) 0) refl ok
     where
@@ -56,7 +56,7 @@ module _ (leader : ℕ → ℕ) where
   unfolding heeds
   heeds_nothing c k e = rw (eq-eqb (c k) 0 e)
 
-  pub heeds_led : (c : ℕ → ℕ) (k : ℕ) → led leader c k ≡ true → heeds leader c k ≡ true
+  heeds_led : (c : ℕ → ℕ) (k : ℕ) → led leader c k ≡ true → heeds leader c k ≡ true
   unfolding heeds
   heeds_led c k e = or_right (eqb (c k) 0) (led leader c k) e
 
@@ -100,7 +100,7 @@ module _ (leader : ℕ → ℕ) where
           let z : strategy_at c (suc n) ≡ 0 = ⊎_elim (λ e. eqb-true (strategy_at c (suc n)) 0 e) (λ e. absurd cc) (or_cases (eqb (strategy_at c (suc n)) 0) (led leader (strategy_at c) (suc n)) w) in
           rw (q, rw z at (set-get_or c (suc n - 1) 0))
 
-  pub pruned_heeds : (n : ℕ) (c : List ℕ) → LowerLeaders leader n → (k : ℕ) → 1 ≤ k → k ≤ n → heeds leader (strategy_at (pruned leader n c)) k ≡ true
+  pruned_heeds : (n : ℕ) (c : List ℕ) → LowerLeaders leader n → (k : ℕ) → 1 ≤ k → k ≤ n → heeds leader (strategy_at (pruned leader n c)) k ≡ true
   unfolding pruned
   pruned_heeds zero c lower k l h = absurd (omega arith)
   pruned_heeds (suc n) c lower k l h =

@@ -22,7 +22,7 @@ use Rattle.laws.proofs.Gives.{Gives, give_gives}
 use Rattle.laws.proofs.Leaders.{give_respects}
 
 module _ (t : Table) where
-  pub offer_fits : (c : List ℕ) (i : ℕ) → 1 ≤ offer t c i → (1 ≤ t.benefit i (offer t c i)) × (within t (give c i (offer t c i)) ≡ true)
+  offer_fits : (c : List ℕ) (i : ℕ) → 1 ≤ offer t c i → (1 ≤ t.benefit i (offer t c i)) × (within t (give c i (offer t c i)) ≡ true)
   unfolding offer greater fitting is_candidate
   offer_fits c i l =
       let w = and_parts (is_candidate t i (offer t c i)) (within t (give c i (offer t c i))) (best_passes (fitting t c i) (t.benefit i) t.strategies l) in

@@ -16,7 +16,7 @@ divide_up_none zero = div-zero 0
 divide_up_none (suc b) = div-eq_of_lt (omega arith)
 
 -- what is at most b, times 10,000, is at most 10,000 times b
-pub divide_up_small : (a b : ℕ) → a ≤ b → divide_up (a * 10_000) b ≤ 10_000
+divide_up_small : (a b : ℕ) → a ≤ b → divide_up (a * 10_000) b ≤ 10_000
 divide_up_small a zero h = rw (div-zero (a * 10_000 + (0 - 1))) (omega arith)
 divide_up_small a (suc b) h =
     let below = (div-lt_iff_lt-mul {k = suc b} {x = a * 10_000 + (suc b - 1)} {y = 10_001} (omega arith)).1 (omega arith) in

@@ -35,7 +35,7 @@ module _ (d : District) (p : Programme) (buffer : List ℕ) where
 
 -- ---- a buffer with room for any page
 
-pub page_most : (d : District) → page_length d ≤ longest_page
+page_most : (d : District) → page_length d ≤ longest_page
 unfolding page_length
 page_most d = known (in_range d) refl
   where

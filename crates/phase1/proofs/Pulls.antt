@@ -115,7 +115,7 @@ module _ {z : Size} {b u l s : List ℕ} (shares : Shares z b u l s) {c : List �
   unfolding chosen_share
   share_is i r li hi lr hr = shares.shares_are i (strategy_at c i) r li hi (chosen.numbers i) lr hr
 
-  pub chosen_shares_are : (r : ℕ) → 1 ≤ r → r ≤ z.resources → sum z.segments (held_share s c r) ≡ sum z.segments (chosen_share (tables z b u l) c r)
+  chosen_shares_are : (r : ℕ) → 1 ≤ r → r ≤ z.resources → sum z.segments (held_share s c r) ≡ sum z.segments (chosen_share (tables z b u l) c r)
   chosen_shares_are r lr hr = sum_cong z.segments (held_share s c r) (chosen_share (tables z b u l) c r) (λ i li hi. share_is i r li hi lr hr)
 
   -- a row of shares gives a segment's pull

@@ -92,7 +92,7 @@ module _ (t : Table) (leader : ℕ → ℕ) (c : List ℕ) (i a : ℕ) (low : 1 
     unfolding counts
     high_two h ei ek fit = rw (ei, ek, lt-ltb (total t c) (total t (give (give c i a) k b)) (omega (arith, total_two)), fit)
 
-pub not_first : (t : Table) (leader : ℕ → ℕ) (c : List ℕ) (i k a b : ℕ) → another t c i a ≡ false → counts_two t leader c i k a b ≡ false
+not_first : (t : Table) (leader : ℕ → ℕ) (c : List ℕ) (i k a b : ℕ) → another t c i a ≡ false → counts_two t leader c i k a b ≡ false
 not_first t leader c i k a b e = rw e
 
 pub not_second : (t : Table) (leader : ℕ → ℕ) (c : List ℕ) (i k a b : ℕ) → another t c k b ≡ false → counts_two t leader c i k a b ≡ false
@@ -106,18 +106,18 @@ over_two t leader c i k a b e =
 -- ---- the nested searches, as the loops go through them
 
 module _ (t : Table) where
-  pub strategy_none : (f : ℕ → Option (List ℕ)) → ((a : ℕ) → a < t.strategies + 1 → f a ≡ None) → first_strategy t f ≡ None
+  strategy_none : (f : ℕ → Option (List ℕ)) → ((a : ℕ) → a < t.strategies + 1 → f a ≡ None) → first_strategy t f ≡ None
   unfolding first_strategy
   strategy_none f h = rw (h 0 (omega arith)) (first_none t.strategies f (λ a l u. h a (omega arith)))
 
-  pub strategy_found : (f : ℕ → Option (List ℕ)) (a : ℕ) (e : List ℕ) → a < t.strategies + 1 → ((v : ℕ) → v < a → f v ≡ None) → f a ≡ Some e → first_strategy t f ≡ Some e
+  strategy_found : (f : ℕ → Option (List ℕ)) (a : ℕ) (e : List ℕ) → a < t.strategies + 1 → ((v : ℕ) → v < a → f v ≡ None) → f a ≡ Some e → first_strategy t f ≡ Some e
   unfolding first_strategy
   strategy_found f zero e l before q = rw q
   strategy_found f (suc a) e l before q =
       rw (before 0 (omega arith)) (first_found t.strategies f (suc a) e (omega arith) (omega arith) (λ v lv u. before v u) q)
 
   module _ (leader : ℕ → ℕ) (c : List ℕ) where
-    pub single_none : (i a : ℕ) → counts_one t leader c i a ≡ false → single t leader c i a ≡ None
+    single_none : (i a : ℕ) → counts_one t leader c i a ≡ false → single t leader c i a ≡ None
     unfolding single
     single_none i a e = rw e
 

@@ -45,7 +45,7 @@ use Rattle.phase3.proofs.ChangeSearch.{with_may_count, high_two, not_second, ove
 
 -- ---- a row that goes down
 
-pub lower_same : (row : Row) → Lower row row
+lower_same : (row : Row) → Lower row row
 lower_same row = record { places = refl; strategies = λ _ e. e; down = λ r. omega arith }
 
 lower_lowered : (row : Row) (r v : ℕ) → Lower row (lowered row r v)
@@ -76,7 +76,7 @@ used_both t c room i k low above high a b r =
     omega (arith, used_give t c i a low (omega arith) room r, second, same)
 
 module _ {t : Table} {i k x y : ℕ} where
-  pub tight_under : (row next : ℕ → ℕ) {c : List ℕ} → ((r : ℕ) → 1 ≤ r → r ≤ t.resources → next r ≤ row r) → Tight t i k x y next c → Tight t i k x y row c
+  tight_under : (row next : ℕ → ℕ) {c : List ℕ} → ((r : ℕ) → 1 ≤ r → r ≤ t.resources → next r ≤ row r) → Tight t i k x y next c → Tight t i k x y row c
   tight_under row next h tight =
       record {
         places = tight.places;
@@ -105,7 +105,7 @@ module _ {t : Table} {i k x y : ℕ} where
 
   module _ (low : 1 ≤ i) (above : i < k) (high : k ≤ t.segments) where
     -- what has an excess of at least the row's number is refused
-    pub tight_refuses : (row : ℕ → ℕ) (c : List ℕ) → Tight t i k x y row c → (a b r : ℕ) → 1 ≤ r → r ≤ t.resources
+    tight_refuses : (row : ℕ → ℕ) (c : List ℕ) → Tight t i k x y row c → (a b r : ℕ) → 1 ≤ r → r ≤ t.resources
         → row r + (t.usage i x r + t.usage k y r) ≤ t.usage i a r + t.usage k b r + offset → within t (give (give c i a) k b) ≡ false
     unfolding within holds
     tight_refuses row c tight a b r lr hr excess =

@@ -38,7 +38,7 @@ placed i k = go (leb i half) refl
     go false e = inr (omega (arith, leb-false i half e), refl, refl)
 
 module _ (i k : ℕ) (low : 1 ≤ i) (above : i < k) (high : k ≤ most_segments) where
-  pub place_room : ((place i k).0 < half) × ((place i k).1 < most_segments)
+  place_room : ((place i k).0 < half) × ((place i k).1 < most_segments)
   place_room = go (placed i k)
     where
       go : Placed i k (place i k) → ((place i k).0 < half) × ((place i k).1 < most_segments)

@@ -49,12 +49,12 @@ four P f (a ∷ b ∷ c ∷ []) e = absurd (omega arith)
 four P f (a ∷ b ∷ c ∷ d ∷ e' ∷ l) e = absurd (omega arith)
 
 module _ (q : Queues) (n : length q.waiting ≡ 4) (x : Console) (p : ℕ) (at : p + 1 ≡ console_number x) where
-  pub queue_is : (e : ArrayVec Waiting) → (get_or q.waiting p e).items ≡ queue_of x (queues_in q)
+  queue_is : (e : ArrayVec Waiting) → (get_or q.waiting p e).items ≡ queue_of x (queues_in q)
   queue_is e =
       four (λ l. (get_or l p e).items ≡ queue_of x (queues_in (record { waiting = l; turn = q.turn })))
       (λ a b c d. queue_among a b c d q.turn x p e at) q.waiting n
 
-  pub with_is : (v : ArrayVec Waiting) (t : Console)
+  with_is : (v : ArrayVec Waiting) (t : Console)
       → queues_in (record { waiting = set q.waiting p v; turn = t }) ≡ with_turn t (with_queue x v.items (queues_in q))
   with_is v t =
       four (λ l. queues_in (record { waiting = set l p v; turn = t }) ≡ with_turn t (with_queue x v.items (queues_in (record { waiting = l; turn = q.turn }))))

@@ -41,7 +41,7 @@ module _ (d : District) (ok : Ranges d) where
   pub current_le : (i k : ℕ) → Segment i → Distress k → rating_of d i k ≤ 50
   current_le i k p s = omega (arith, ok.rating i k p.0 p.1 s.0 s.1, ok.greatest k s.0 s.1)
 
-  pub gain_abs : (i j k : ℕ) → Segment i → Strategy j → Distress k → nat_abs (gain d i j k) ≤ 50
+  gain_abs : (i j k : ℕ) → Segment i → Strategy j → Distress k → nat_abs (gain d i j k) ≤ 50
   unfolding gain capped_gain
   gain_abs i j k p q s =
       let g = ok.greatest k s.0 s.1 in
@@ -59,7 +59,7 @@ module _ (d : District) (ok : Ranges d) where
   rating_abs i j k t p q s =
       omega (arith, current_le i k p s, improvement_abs i j k t p q s, abs_add (pos (1_000_000 * rating_of d i k)) (improvement d i j k t))
 
-  pub credit_abs : (i j k t : ℕ) → Segment i → Strategy j → Distress k → nat_abs (credit d i j k t) ≤ 100_000_000
+  credit_abs : (i j k t : ℕ) → Segment i → Strategy j → Distress k → nat_abs (credit d i j k t) ≤ 100_000_000
   unfolding credit
   credit_abs i j k t p q s = abs_mul_le (gain d i j k) (pos (both_ends d i j k t)) (gain_abs i j k p q s) (both_ends_le d i j k t)
 
@@ -69,7 +69,7 @@ module _ (d : District) (ok : Ranges d) where
       let y = ok.years in
       omega (arith, sum_z_abs (years_of d) 100_000_000 (credit d i j k) (λ t l h. credit_abs i j k t p q s))
 
-  pub effect_abs : (i j : ℕ) → Segment i → Strategy j → nat_abs (effect d i j) ≤ 450_000
+  effect_abs : (i j : ℕ) → Segment i → Strategy j → nat_abs (effect d i j) ≤ 450_000
   unfolding effect
   effect_abs i j p q =
       let n = ok.distresses in

@@ -46,7 +46,7 @@ from_front (suc n) m f =
     ∙ ap (λ (t : Bool). t && list_all f (range_with_len (m + 1 + 1) n)) (grown m f)
     ∙ from_front n (m + 1) f)
 
-pub all_listed : (n : ℕ) (f : ℕ → Bool) → list_all f (range_with_len 1 n) ≡ all n f
+all_listed : (n : ℕ) (f : ℕ → Bool) → list_all f (range_with_len 1 n) ≡ all n f
 unfolding all
 all_listed n f = let e : 0 + n ≡ n = omega arith in rw e at (from_front n 0 f)
 

@@ -39,7 +39,7 @@ plans_replies s n c r plans b keeps =
     }
 
 -- a call that leaves the station as it is
-pub stays_replies :
+stays_replies :
     (s : Station) (c : StationCall) (answer : Answer) (bytes : List ℕ)
     → ((b : Both Held) → KeepsBoth s b → station_outcome b c ≡ record { answer = answer; held = b; bytes = bytes })
     → RepliesTo s c (record { answer = answer; station = s })

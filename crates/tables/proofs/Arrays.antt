@@ -61,7 +61,7 @@ pub benefits_le : {b : List ℕ} → Benefits b → (c : List ℕ) (n : ℕ) →
 benefits_le {b} held c n =
     sum_bound n (2 ^ 40) (λ i. benefit_at b i (strategy_at c i)) (λ i low high. let h = benefit_lt held i (strategy_at c i) in omega arith)
 
-pub uses_le : {u : List ℕ} → Uses u → (c : List ℕ) (r n : ℕ) → n ≤ most_segments → sum n (λ i. usage_at u i (strategy_at c i) r) ≤ 2 ^ 47
+uses_le : {u : List ℕ} → Uses u → (c : List ℕ) (r n : ℕ) → n ≤ most_segments → sum n (λ i. usage_at u i (strategy_at c i) r) ≤ 2 ^ 47
 uses_le {u} held c r n few =
     let each = sum_bound n (2 ^ 41) (λ i. usage_at u i (strategy_at c i) r) (λ i low high. let h = usage_lt held i (strategy_at c i) r in omega arith) in
     omega arith

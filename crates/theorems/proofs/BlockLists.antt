@@ -37,11 +37,11 @@ module _ (x : Choice) (d : District) (few : Few d) (b : ℕ) where
 
   -- ---- its phases by themselves
 
-  pub block_fit : FitAlone (block_table x d b)
+  block_fit : FitAlone (block_table x d b)
   unfolding block_table
   block_fit = table_fit e (omega (arith, same_segments x d few b, few.segments))
 
-  pub block_begins : Begins (block_table x d b) (leader_of e) (block_reduced x d b)
+  block_begins : Begins (block_table x d b) (leader_of e) (block_reduced x d b)
   unfolding block_reduced
   block_begins = reduced_begins (block_table x d b) (leader_of e) block_fit
 

@@ -41,7 +41,7 @@ module _ (t : Table) (fit : FitAlone t) (c : ℕ → ℕ) (rival : Rival t c) (p
       rw (sum_mul t.segments (price_at prices r) (λ i. t.usage i (c i) r * 10_000 / t.limit r), mul_comm 10_000 (price_at prices r))
       (mul-le-mul_left (price_at prices r) (shares_fit t.segments (t.limit r) (λ i. t.usage i (c i) r) (rival.within r l h)))))
 
-  pub duality : total_by t c ≤ ceiling_at t prices
+  duality : total_by t c ≤ ceiling_at t prices
   unfolding ceiling_at
   duality =
       omega (

@@ -75,7 +75,7 @@ module _ (d : District) (c : ℕ → ℕ) (feasible : Feasible d c) where
   feasible_total = sum_z_le (segments_of d) (benefit_by d c) (λ i. candidate_benefit d i (c i)) benefit_le
 
   -- a strategy of some benefit is a candidate
-  pub some_benefit : (i : ℕ) → 1 ≤ i → i ≤ segments_of d → (eqb (c i) 0 || lt_z (pos 0) (benefit d i (c i))) ≡ true → Allowed (table_of d) i (c i)
+  some_benefit : (i : ℕ) → 1 ≤ i → i ≤ segments_of d → (eqb (c i) 0 || lt_z (pos 0) (benefit d i (c i))) ≡ true → Allowed (table_of d) i (c i)
   unfolding candidate table_of
   some_benefit i l h worthy =
       given_by d c feasible.permitted (Allowed (table_of d) i) i l h (inl refl)

@@ -47,7 +47,7 @@ module _ (t : Table) (leader : ℕ → ℕ) (c : List ℕ) where
       first_fails false y f w = refl
 
   module _ (ended : change t leader c ≡ None) where
-    pub no_single : (i j : ℕ) → 1 ≤ i → i ≤ t.segments → j ≤ t.strategies → (another t c i j && counts t leader c (give c i j)) ≡ false
+    no_single : (i j : ℕ) → 1 ≤ i → i ≤ t.segments → j ≤ t.strategies → (another t c i j && counts t leader c (give c i j)) ≡ false
     unfolding change first_single singles_of single
     no_single i j l h s =
         let none_in = first_at t.segments (singles_of t leader c) (or_else_none (first_single t leader c) (first_pair t leader c) ended).0 i l h in

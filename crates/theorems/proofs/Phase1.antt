@@ -242,7 +242,7 @@ module _ (t : Table) (leader : ℕ → ℕ) (fit : FitAlone t) where
   phase1_allowed = gives_candidates t (start t leader) (phase1 t leader (start t leader)).last phase1_gives (start_allowed t leader fit.segments)
 
   -- there is no step from there,
-  pub phase1_ends : step t leader (phase1 t leader (start t leader)).last ≡ None
+  phase1_ends : step t leader (phase1 t leader (start t leader)).last ≡ None
   unfolding phase1
   phase1_ends =
       run_ends (step t leader) (OfCandidates t) (step_allowed t leader) (potential t) step_falls (t.segments * t.strategies) (start t leader) (start_allowed t leader fit.segments)
