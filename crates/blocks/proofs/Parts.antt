@@ -7,7 +7,7 @@ use lib.Dec.{leb}
 use borrow.Author.Tests.{le-leb, lt-leb, leb-true, leb-false}
 use Rattle.std.specs.Prelude.{Option, None, Some, is_some, SomeIff}
 use Rattle.std.specs.List.{range_with_len}
-use Rattle.text.proofs.Turns.{folded}
+use Rattle.base.proofs.Folds.{folded}
 use Rattle.base.specs.Choice.{pick}
 use Rattle.base.specs.Over.{sum}
 use Rattle.base.proofs.Choice.{leb_same}

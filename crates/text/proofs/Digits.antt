@@ -6,7 +6,7 @@ use lib.Dec.{ltb}
 use Rattle.base.specs.Choice.{only}
 use Rattle.base.specs.Text.{value_from, going_on, held}
 use Rattle.base.proofs.Parts.{value_append, held_way}
-use Rattle.text.proofs.Turns.{folded}
+use Rattle.base.proofs.Folds.{folded}
 
 module _ (v b : ℕ) where
   pub not_held : (b < 48) ⊎ (57 < b) → held (value_from v (b ∷ [])) ≡ None

@@ -4,7 +4,7 @@ use borrow.Author.Tests.{tests}
 use Rattle.std.proofs.lemmas.Iterator.{YieldsList-from_slice}
 use Rattle.base.specs.Text.{value_from, held}
 use Rattle.text.proofs.Digits.{digits_folded}
-use Rattle.text.proofs.Turns.{try_fold_from_yields_List}
+use Rattle.base.proofs.Folds.{try_fold_from_yields_List}
 use Rattle.text.proofs.digits_after.Goals as goal
 
 pub returns : goal.returns

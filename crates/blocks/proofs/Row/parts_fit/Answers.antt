@@ -7,7 +7,7 @@ use Rattle.base.specs.Over.{sum}
 use Rattle.rules.specs.District.{limit_of}
 use Rattle.rules.specs.Blocks.{blocks_in, part_in, parts_fit}
 use Rattle.rating.proofs.Chains.{from_1}
-use Rattle.text.proofs.Turns.{try_fold_from_yields_List}
+use Rattle.base.proofs.Folds.{try_fold_from_yields_List}
 use Rattle.blocks.proofs.Parts.{taken, taken_is, parts_taken}
 use Rattle.blocks.proofs.Row.parts_fit.Goals as goal
 
