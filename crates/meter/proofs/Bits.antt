@@ -7,7 +7,7 @@ use lib.Ieee.{Float, nan, inf, fin, binary32, odd, of_fields, of_bits}
 use lib.Ieee.Exact.{HasValue, odd_sign}
 use lib.Ieee.Scale.{finite}
 use Rattle.base.specs.Choice.{pick}
-use Rattle.rules.specs.Meter.{is_negative, exponent_of, fraction_of, size_of, part1024}
+use Rattle.rules.specs.Meter.{is_negative, exponent_of, fraction_of, magnitude_of, part1024}
 
 -- a float of sign s and a / 1024 times the given part in size, or one that is not finite, and a past every reading
 abbrev pub Reads : ℕ → Float → Bool → ℕ → Type 0
@@ -42,6 +42,6 @@ fields_read s (suc e) t = rw (eqb-suc-zero e) (known (eqb (suc e) 255) refl)
     known false h =
         let q = 2 ^ 23 + t in inr (rw (doubled q e) at (twice (odd 24 s q e 149) s (q * 2 ^ e) (2 ^ 149) (odd_sign 24 s q e 149)))
 
-pub bits_read : (bits : ℕ) → Reads part1024 (of_bits binary32 bits) (is_negative bits) (size_of bits)
-unfolding of_bits size_of
+pub bits_read : (bits : ℕ) → Reads part1024 (of_bits binary32 bits) (is_negative bits) (magnitude_of bits)
+unfolding of_bits magnitude_of
 bits_read bits = rw (field bits 8 23) (fields_read (is_negative bits) (exponent_of bits) (fraction_of bits))

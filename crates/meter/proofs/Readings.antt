@@ -12,7 +12,7 @@ use borrow.Author.Tests.{eqb-false}
 use Rattle.base.specs.Choice.{pick}
 use Rattle.std.specs.Cmp.{both_ways}
 use Rattle.std.proofs.lemmas.Bool.{and_parts, and_right, and_left}
-use Rattle.rules.specs.Meter.{is_negative, size_of, part1024, is_reading, reading_of}
+use Rattle.rules.specs.Meter.{is_negative, magnitude_of, part1024, is_reading, reading_of}
 use Rattle.meter.specs.Window.{0f, unsigned, Counts}
 use Rattle.meter.proofs.Values.{lt_values, eq_values, eq_zero, rescaled}
 use Rattle.meter.proofs.Whole.{1024f, bounded, times_exact}
@@ -158,12 +158,12 @@ module _ (part : ℕ) (P : 0 < part) (x : Float) (s : Bool) (a : ℕ) (r : Reads
 -- ---- the same of 32 bits
 
 module _ (x : Float) (bits : ℕ) (e : x ≡ of_bits binary32 bits) where
-  read : Reads part1024 x (is_negative bits) (size_of bits)
+  read : Reads part1024 x (is_negative bits) (magnitude_of bits)
   read = rw e (bits_read bits)
 
   reading_zero : eq x 0f ≡ true → true ≡ is_reading bits
   unfolding is_reading
-  reading_zero h = zero_is part1024 (pow_pos 140) x (is_negative bits) (size_of bits) read h
+  reading_zero h = zero_is part1024 (pow_pos 140) x (is_negative bits) (magnitude_of bits) read h
 
   pub reading_low : lt 0f x ≡ false → eq x 0f ≡ is_reading bits
   unfolding is_reading
@@ -171,7 +171,7 @@ module _ (x : Float) (bits : ℕ) (e : x ≡ of_bits binary32 bits) where
     where
       known : (t : Bool) → eq x 0f ≡ t → eq x 0f ≡ is_reading bits
       known true h = h ∙ reading_zero h
-      known false h = h ∙ low_is part1024 (pow_pos 140) x (is_negative bits) (size_of bits) read h l
+      known false h = h ∙ low_is part1024 (pow_pos 140) x (is_negative bits) (magnitude_of bits) read h l
 
   pub reading_high : lt 0f x ≡ true → lt x 8f ≡ false → eq x 0f ≡ is_reading bits
   unfolding is_reading
@@ -179,18 +179,18 @@ module _ (x : Float) (bits : ℕ) (e : x ≡ of_bits binary32 bits) where
     where
       known : (t : Bool) → eq x 0f ≡ t → eq x 0f ≡ is_reading bits
       known true h = h ∙ reading_zero h
-      known false h = h ∙ high_is part1024 (pow_pos 140) x (is_negative bits) (size_of bits) read g l
+      known false h = h ∙ high_is part1024 (pow_pos 140) x (is_negative bits) (magnitude_of bits) read g l
 
   pub reading_between :
       fits binary32 x ≡ true → lt 0f x ≡ true → lt x 8f ≡ true → (n : ℕ) → n < 524288
       → ((b c : ℕ) → 0 < c → HasValue x false b c → b < 512 * c → n ≡ b * 1024 / c)
       → eq (of_int binary32 (pos n)) (mul binary32 x 1024f) ≡ is_reading bits
   unfolding is_reading
-  reading_between f lo hi n small parts = whole_is part1024 (pow_pos 140) x (is_negative bits) (size_of bits) read f lo hi n small parts
+  reading_between f lo hi n small parts = whole_is part1024 (pow_pos 140) x (is_negative bits) (magnitude_of bits) read f lo hi n small parts
 
   pub reading_kept : is_reading bits ≡ true → Counts (unsigned x) (reading_of bits) × (reading_of bits < 8192)
   unfolding is_reading reading_of
   reading_kept t = (
-    kept_counts part1024 (pow_pos 140) x (is_negative bits) (size_of bits) read t,
-    few_parts part1024 (pow_pos 140) x (is_negative bits) (size_of bits) read t,
+    kept_counts part1024 (pow_pos 140) x (is_negative bits) (magnitude_of bits) read t,
+    few_parts part1024 (pow_pos 140) x (is_negative bits) (magnitude_of bits) read t,
   )

@@ -5,7 +5,7 @@ ghost use Rattle.std.specs.Prelude.{◌≡◌, ℕ, ◌*◌, ◌/◌, ◌<◌, �
 ghost use Rattle.std.specs.Float.{binary32};
 ghost use Rattle.std.specs.Float.Ieee.Exact.{HasValue};
 ghost use Rattle.rules.specs.Answers.{answer_in};
-ghost use Rattle.rules.specs.Meter.{Heard, silence, is_reading, reading_of, heard_with, heard_after, sum_of, mays_points, roughness_of};
+ghost use Rattle.rules.specs.Meter.{Heard, nothing_heard, is_reading, reading_of, heard_with, heard_after, sum_of, mays_points, roughness_of};
 ghost use Rattle.rules.specs.declared.Sent.{Sent};
 ghost use Rattle.rules.specs.declared.Sent.TheVariants.{Index as Sent-as-Index, Marker as Sent-as-Marker};
 ghost use Rattle.meter.specs.Window.{record_of, bits_of, Counts, Holds, stepped, Follows, After, unsigned};
@@ -147,7 +147,7 @@ fn step(w: &mut Window, sent: Record, bits: u32) -> Answer
 
 // The window before the first record. No Default: its two clauses have names, and its contract would be one predicate.
 pub fn start() -> Window
-    ensures start { Holds result silence }
+    ensures start { Holds result nothing_heard }
     ensures run { (ss : List Sent) → After result ss (λ v. Holds v (heard_after ss)) }
 {
     empty(0.0, 0)

@@ -1,8 +1,7 @@
 -- Document 01, "The district and its file": what a district holds.
 --
--- A district is a list of numbers, each at a place of its own; the places of what it does not have hold 0. Only this file, Format
--- and File go by places, and Calls and Deck where they ask Format for a range. Every other rule reads a district by the names below and alters
--- it by `with..`.
+-- A district is a list of numbers, each at a place of its own; the places of what it does not have hold 0. Only this file, Format and File go
+-- by places, and Deck by those of a segment's record. Every other rule reads a district by the names below and alters it by `with..`.
 --
 -- Segments i, strategies j, years t, distress types k, pavement types y and resources r are numbered from 1, here and in all the rules.
 -- Strategy 0 is nothing. Records, and the numbers of a record, are counted from 0 (Format, File).

@@ -1,7 +1,8 @@
 -- Which programmes demand 3 and requests 7 and 8 of document 02 are about, computed: those of permitted strategies within the limits, be the
 -- strategies candidates or not; and of these, as rivals, those that respect leaders of some benefit. A promise about programmes of candidates
 -- alone would say less.
-use Rattle.std.specs.Prelude.{ℕ, ◌≡◌, refl, Bool, true, false, ◌&&◌, List, [], ◌∷◌, map, pos, ◌≤ℤ◌, take}
+use Rattle.std.specs.Prelude.{ℕ, zero, suc, ◌≤◌, ◌≡◌, refl, Bool, true, false, ◌&&◌, List, [], ◌∷◌, map, pos, ◌≤ℤ◌, take}
+use native.Mathlib.Omega.{arith}
 use Rattle.std.proofs.lemmas.Bool.{false≢true}
 use Rattle.rules.specs.District.{District, leader_of}
 use Rattle.rules.specs.Rating.{candidate, within_limits, total_of}
@@ -129,3 +130,14 @@ not_without_benefit r = false≢true r.worth
 pub claimed : (p : Programme) → Sound led p → (total_of led (strategy_at (3 ∷ 1 ∷ [])) ≤ℤ pos p.ceiling) × (leaders_respected led (strategy_in p) ≡ true)
 unfolding result_of permitted_at all_permitted
 claimed p s = (s.ceiling (strategy_at (3 ∷ 1 ∷ [])) (record { permitted = refl; within = refl }), s.leaders)
+
+-- where there are two segments every rival is one or two segments away, so none at all has a greater total
+none_else : {P : Type 0} (m : ℕ) → 1 ≤ m → m ≤ 2 → ¬ (m ≡ 1) → ¬ (m ≡ 2) → P
+none_else zero least most first second = absurd (omega arith)
+none_else (suc zero) least most first second = absurd (first refl)
+none_else (suc (suc zero)) least most first second = absurd (second refl)
+none_else (suc (suc (suc m))) least most first second = absurd (omega arith)
+
+pub two_segments_away : (p : Programme) → Sound led p → total_of led (strategy_at (1 ∷ 3 ∷ [])) ≤ℤ total_of led (strategy_in p)
+unfolding result_of
+two_segments_away p s = s.neighbours (strategy_at (1 ∷ 3 ∷ [])) rival 1 2 (record { elsewhere = λ m least most first second. none_else m least most first second })

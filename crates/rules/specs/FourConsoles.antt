@@ -1,13 +1,14 @@
 -- Four consoles (document 02, request 12), computed from these rules: whose turn it is, the eight places, the order of the refusals, and from which
 -- district an edit is answered. Worked by hand from the request.
-use Rattle.std.specs.Prelude.{ℕ, ◌≡◌, refl, true, List, [], ◌∷◌, ◌++◌, map, length, replicate, pos}
+use Rattle.std.specs.Prelude.{ℕ, ◌≡◌, refl, true, List, [], ◌∷◌, ◌++◌, map, length, take, replicate, pos}
+use native.Mathlib.Omega.{arith}
 use Rattle.rules.specs.District.{limit_of}
 use Rattle.rules.specs.Lists.{Load, Alter, ExportTo, Show, AskWhy}
 use Rattle.rules.specs.Offices.{Held, Plan, Send, AskRoughness}
 use Rattle.rules.specs.Stations.{fresh_both, StationCall, call_of, without}
-use Rattle.rules.specs.StationDemands.{Got, throughout, leaves_tables, not_in_use}
+use Rattle.rules.specs.StationDemands.{Got, got_by, throughout, leaves_tables, not_in_use, LeavingOut}
 use Rattle.rules.specs.Desks.{fresh_queues, arrival_refusal, arrival_of, taken, Desk, fresh_desk, step_of, Event, Arrive, Step, Ask, desk_by, answer_to, desk_from, desk_after, gathered, calls_at, calls_in, accepted_by, carried_by, accepted_from, carried_from, steps_in}
-use Rattle.rules.specs.DeskDemands.{further, Given, gives, all_given, given_to}
+use Rattle.rules.specs.DeskDemands.{further, NobodyStarves, CarriedInTime, Given, gives, all_given, given_to}
 use Rattle.rules.specs.Writer.{Roads, strategy, nothing_demanded, segment, barring, file_of, district_with_leaders}
 use Rattle.rules.specs.TwoOffices.{answers_to, as_fresh}
 use Rattle.rules.specs.declared.Console.{Console}
@@ -181,15 +182,15 @@ altered =
       segments = segment 1 1 [] ∷ barring (1 ∷ []) (segment 1 1 []) ∷ segment 1 1 (0 ∷ 6 ∷ []) ∷ [];
     }
 
-abbrev all_five : List Event
-all_five =
+abbrev five_edits : List Event
+five_edits =
     loads before
     ∷ Arrive 1 (by 1 (Bar 2 1)) ∷ Arrive 2 (by 1 (Unbar 3 2)) ∷ Arrive 3 (by 1 (SetLimit 2 5)) ∷ Arrive 4 (by 1 (SetRating 3 2 6)) ∷ Arrive 1 (by 1 (SetLeader 3 2))
     ∷ replicate 5 Step
 
-pub all_five_lem : (desk_after all_five).held.first.unit.district ≡ district_with_leaders altered (0 ∷ 0 ∷ 2 ∷ [])
+pub five_altered : (desk_after five_edits).held.first.unit.district ≡ district_with_leaders altered (0 ∷ 0 ∷ 2 ∷ [])
 unfolding returned_to
-all_five_lem = refl
+five_altered = refl
 
 -- ---- lists
 
@@ -258,6 +259,17 @@ pub no_fewer : map (λ n. length (carried_from Four (desk_after pairs) (replicat
 unfolding returned_to
 no_fewer = refl
 
+-- so what is promised of them is promised of just so many: of both by 8 steps, and of one that arrives behind two others by 12
+pub by_eight : NobodyStarves → take 2 (carried_from Four (desk_after pairs) (replicate 8 Step)) ≡ no_segment ∷ no_segment ∷ []
+unfolding returned_to
+by_eight served = served (desk_after pairs) Four 1 (replicate 8 Step) (omega arith) (omega arith)
+
+pub by_twelve :
+    CarriedInTime
+    → take 3 (carried_from Four (desk_by (desk_after pairs) (Arrive 4 no_resource)) (replicate 12 Step)) ≡ no_segment ∷ no_segment ∷ no_resource ∷ []
+unfolding returned_to
+by_twelve served = served (desk_after pairs) Four no_resource (replicate 12 Step) refl (omega arith)
+
 -- ---- calls of every sort beside edits, and what leaving out leaves
 
 -- a load, records of the meter and the question for points, a load that gets 17, a why, an export without room, and a call of no office
@@ -286,6 +298,11 @@ left_out = refl
 pub left_out_gets : answers_to Second (without First (calls_in mixed)) ≡ Accepted 0 ∷ Refused 6 ∷ []
 unfolding returned_to
 left_out_gets = refl
+
+-- and that much is promised: all that it gets, and not its answers alone
+pub left_out_promised : LeavingOut → got_by Second (without First (calls_in mixed)) ≡ got_by Second (calls_in mixed)
+unfolding returned_to
+left_out_promised alone = alone First (calls_in mixed) refl refl
 
 -- of arrivals that is not so: an edit of office 2 finds no place behind eight of office 1, and one without them
 pub shared_places :

@@ -1,5 +1,6 @@
 pub mod District
 pub mod Format
+pub mod Answers
 pub mod File
 pub mod Rating
 pub mod Table
@@ -9,16 +10,15 @@ pub mod Plan
 pub mod Blocks
 pub mod Page
 pub mod Reasons
-pub mod Answers
 pub mod Survey
-pub mod Meter
 pub mod Calls
-pub mod Conversions
-pub mod Deck
 pub mod Lists
+pub mod Meter
 pub mod Offices
 pub mod Stations
 pub mod Desks
+pub mod Conversions
+pub mod Deck
 pub mod Demands
 pub mod StationDemands
 pub mod DeskDemands

@@ -20,8 +20,8 @@ fraction_of bits = bits % 2 ^ 23
 
 -- the value without its sign, as a multiple of 2 ^ −150. Exponent 0 is for what is too small for a leading 1; with exponent 255, which
 -- infinity and NaN have, it comes out above every reading
-unfoldable pub size_of : ℕ → ℕ
-size_of bits = pick (eqb (exponent_of bits) 0) (2 * fraction_of bits) ((2 ^ 23 + fraction_of bits) * 2 ^ exponent_of bits)
+unfoldable pub magnitude_of : ℕ → ℕ
+magnitude_of bits = pick (eqb (exponent_of bits) 0) (2 * fraction_of bits) ((2 ^ 23 + fraction_of bits) * 2 ^ exponent_of bits)
 
 -- 1/1024 as a multiple of the same
 abbrev pub part1024 : ℕ
@@ -30,11 +30,11 @@ part1024 = 2 ^ 140
 -- a reading is so many whole 1024ths, below 8, and not negative; minus zero is zero
 unfoldable pub is_reading : ℕ → Bool
 is_reading bits =
-    eqb (size_of bits % part1024) 0 && (ltb (size_of bits) (8 * 1024 * part1024) && (not (is_negative bits) || eqb (size_of bits) 0))
+    eqb (magnitude_of bits % part1024) 0 && (ltb (magnitude_of bits) (8 * 1024 * part1024) && (not (is_negative bits) || eqb (magnitude_of bits) 0))
 
 -- how many
 unfoldable pub reading_of : ℕ → ℕ
-reading_of bits = size_of bits / part1024
+reading_of bits = magnitude_of bits / part1024
 
 -- ---- the records, one after another
 
@@ -43,8 +43,8 @@ pub record Heard : Type 0 where
   pub readings : List ℕ
   pub marker : ℕ
 
-unfoldable pub silence : Heard
-silence = record { readings = []; marker = 0 }
+unfoldable pub nothing_heard : Heard
+nothing_heard = record { readings = []; marker = 0 }
 
 unfoldable pub sent_refusal : Sent → ℕ
 sent_refusal (Index bits) = unless (is_reading bits) no_reading 0
@@ -66,7 +66,7 @@ heard_from h [] = h
 heard_from h (s ∷ ss) = heard_from (hearing h s) ss
 
 unfoldable pub heard_after : List Sent → Heard
-heard_after ss = heard_from silence ss
+heard_after ss = heard_from nothing_heard ss
 
 -- ---- the window and its points
 

@@ -1,6 +1,6 @@
 -- Records of the meter, computed from these rules. Bits and points are worked out elsewhere, by a program without floats (reference/).
 use Rattle.std.specs.Prelude.{ℕ, ◌≡◌, refl, List, [], ◌∷◌, ◌++◌, map, replicate}
-use Rattle.rules.specs.Meter.{size_of, is_reading, reading_of, silence, sent_refusal, heard_with, hearing, heard_from, heard_after, sum_of, mean_reaches, mays_points, roughness_refusal, points_unless, roughness_of}
+use Rattle.rules.specs.Meter.{magnitude_of, is_reading, reading_of, nothing_heard, sent_refusal, heard_with, hearing, heard_from, heard_after, sum_of, mean_reaches, mays_points, roughness_refusal, points_unless, roughness_of}
 use Rattle.rules.specs.Answers.{accepting, answer_of, Accepted, Refused, Answered}
 use Rattle.rules.specs.declared.Sent.{Sent}
 use Rattle.rules.specs.declared.Sent.TheVariants.{Index, Marker, Lost}
@@ -28,11 +28,11 @@ refused =
 pub readings_known :
     map read_as accepted
     ≡ (0 ∷ 0 ∷ []) ∷ (0 ∷ 0 ∷ []) ∷ (0 ∷ 1 ∷ []) ∷ (0 ∷ 1024 ∷ []) ∷ (0 ∷ 2764 ∷ []) ∷ (0 ∷ 8191 ∷ []) ∷ []
-unfolding size_of is_reading reading_of sent_refusal
+unfolding magnitude_of is_reading reading_of sent_refusal
 readings_known = refl
 
 pub others_refused : map (λ bits. sent_refusal (Index bits)) refused ≡ replicate 13 12
-unfolding size_of is_reading sent_refusal
+unfolding magnitude_of is_reading sent_refusal
 others_refused = refl
 
 -- ---- points
@@ -70,7 +70,7 @@ levels =
 pub at_the_thresholds :
     map points_after levels
     ≡ map (λ p. p ∷ 0 ∷ []) (0 ∷ 5 ∷ 5 ∷ 10 ∷ 10 ∷ 20 ∷ 20 ∷ 30 ∷ 30 ∷ 40 ∷ 40 ∷ 50 ∷ 0 ∷ 5 ∷ 10 ∷ 20 ∷ 20 ∷ 30 ∷ 30 ∷ 40 ∷ 40 ∷ 50 ∷ [])
-unfolding size_of is_reading reading_of silence sent_refusal heard_with hearing heard_from heard_after accepting sum_of mean_reaches mays_points roughness_refusal points_unless roughness_of answer_of
+unfolding magnitude_of is_reading reading_of nothing_heard sent_refusal heard_with hearing heard_from heard_after accepting sum_of mean_reaches mays_points roughness_refusal points_unless roughness_of answer_of
 at_the_thresholds = refl
 
 -- ---- windows
@@ -102,5 +102,5 @@ pub window_slides :
     ∷ (40 ∷ 0 ∷ []) ∷ (50 ∷ 0 ∷ []) ∷ (40 ∷ 0 ∷ [])
     ∷ (0 ∷ 4290847557 ∷ []) ∷ (50 ∷ 2147483648 ∷ [])
     ∷ []
-unfolding size_of is_reading reading_of silence sent_refusal heard_with hearing heard_from heard_after accepting sum_of mean_reaches mays_points roughness_refusal points_unless roughness_of answer_of
+unfolding magnitude_of is_reading reading_of nothing_heard sent_refusal heard_with hearing heard_from heard_after accepting sum_of mean_reaches mays_points roughness_refusal points_unless roughness_of answer_of
 window_slides = refl

@@ -2,7 +2,7 @@
 -- The list of all its calls.
 use Rattle.std.specs.Prelude.{ℕ, List, [], ◌∷◌}
 use Rattle.rules.specs.Answers.{answer_of, Answer}
-use Rattle.rules.specs.Meter.{Heard, silence, sent_refusal, hearing, roughness_refusal}
+use Rattle.rules.specs.Meter.{Heard, nothing_heard, sent_refusal, hearing, roughness_refusal}
 use Rattle.rules.specs.Calls.{fresh_unit}
 use Rattle.rules.specs.Lists.{Call, refusal_of, lent_to, Outcome, outcome_of}
 use Rattle.rules.specs.declared.Unit.{Unit}
@@ -14,7 +14,7 @@ pub record Held : Type 0 where
   pub heard : Heard
 
 unfoldable pub fresh_held : Held
-fresh_held = record { unit = fresh_unit; heard = silence }
+fresh_held = record { unit = fresh_unit; heard = nothing_heard }
 
 -- what a caller may ask: a call of the unit, a record of the meter handed on, the points for its window
 pub data OfficeCall : Type 0 where

@@ -1,7 +1,8 @@
 -- Document 02, request 2: pages worked out by an independent program (reference/), computed from these rules.
-use Rattle.std.specs.Prelude.{◌≡◌, refl, List, [], ◌∷◌, ◌++◌, replicate, pos}
+use Rattle.std.specs.Prelude.{◌≡◌, refl, List, [], ◌∷◌, ◌++◌, map, replicate, pos}
 use Prim.Native.String.{String}
 use Rattle.base.specs.Text.{text}
+use Rattle.rules.specs.Page.{right_aligned}
 use Rattle.rules.specs.Calls.{fresh_unit, page_of}
 use Rattle.rules.specs.Writer.{Roads, strategy, nothing_demanded, segment, barring, district_of}
 use Rattle.rules.specs.Results.{Paged, given, printed, result_of, WorkedCase, ◌⇒◌, Agree}
@@ -48,6 +49,11 @@ pages =
 pub on_paper : Agree pages
 unfolding result_of
 on_paper = refl
+
+-- one to spare, one that fills its column, one too wide for it, which no list of calls leads to
+pub aligned : map (right_aligned 3) (text "12" ∷ text "123" ∷ text "1234" ∷ []) ≡ text " 12" ∷ text "123" ∷ text "***" ∷ []
+unfolding text right_aligned
+aligned = refl
 
 -- of the fresh unit, which has no segment: a buffer with a byte to spare, which is left as it was, and one that is a byte too short
 pub into_buffers :

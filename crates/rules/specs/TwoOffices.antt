@@ -6,7 +6,7 @@ use Rattle.base.specs.Over.{listed_from}
 use Rattle.base.specs.Same.{same}
 use Rattle.rules.specs.District.{District, most_segments, most_strategies, most_distresses, most_pavements, most_resources, per_strategy, per_pavement, per_segment, district_places, is_shared, shared_from, shared_tables, same_tables}
 use Rattle.rules.specs.Plan.{no_programme}
-use Rattle.rules.specs.Meter.{size_of, is_reading, reading_of, silence, sent_refusal, heard_with, hearing, sum_of, mean_reaches, mays_points, roughness_refusal, points_unless, roughness_of, points_at}
+use Rattle.rules.specs.Meter.{magnitude_of, is_reading, reading_of, nothing_heard, sent_refusal, heard_with, hearing, sum_of, mean_reaches, mays_points, roughness_refusal, points_unless, roughness_of, points_at}
 use Rattle.rules.specs.Blocks.{choice_of}
 use Rattle.rules.specs.Lists.{Load, Alter, ChooseBlocks, ExportTo, Show, AskWhy}
 use Rattle.rules.specs.Offices.{Held, OfficeCall, Plan, Send, AskRoughness, fresh_held, office_refusal, lent_bytes, office_outcome}
@@ -68,7 +68,7 @@ exports n = call_of n (Plan (ExportTo (replicate 100 0)))
 unfoldable pub answers_to : Which → List StationCall → List Answer
 unfolding
     is_shared shared_from shared_tables same same_tables
-    size_of is_reading reading_of silence sent_refusal heard_with hearing sum_of mean_reaches mays_points roughness_refusal points_unless roughness_of
+    magnitude_of is_reading reading_of nothing_heard sent_refusal heard_with hearing sum_of mean_reaches mays_points roughness_refusal points_unless roughness_of
     fresh_held office_refusal lent_bytes office_outcome
     fresh_both brings_tables tables_refusal refusal_beside held_beside station_refusal concluded station_outcome station_from station_after
     unit_tells office_tells gets got_from got_by throughout leaves_tables not_in_use without result_of
@@ -102,7 +102,7 @@ places = refl
 
 -- what an office holds that has these roads, and has heard nothing
 abbrev office : Roads → Held
-office d = record { unit = holding (district_of d); heard = silence }
+office d = record { unit = holding (district_of d); heard = nothing_heard }
 
 -- only office 1 has segments
 abbrev north_alone : Both Held

@@ -6,7 +6,7 @@ use Rattle.std.specs.Prelude.{Option, None, Some}
 use Rattle.base.specs.Choice.{pick}
 use Rattle.rules.specs.District.{District}
 use Rattle.rules.specs.Lists.{Call, outcome_of}
-use Rattle.rules.specs.Meter.{silence}
+use Rattle.rules.specs.Meter.{nothing_heard}
 use Rattle.rules.specs.Offices.{Held, Plan, office_refusal, office_outcome}
 use Rattle.rules.specs.Stations.{Both, own, call_of, office_of, brings_tables, refusal_beside, with_tables, held_beside, StationOutcome, beside, concluded, outcome_for, station_outcome}
 use Rattle.rules.specs.declared.Unit.{Unit}
@@ -19,7 +19,7 @@ use Rattle.rules.specs.declared.Which.TheVariants.{First, Second}
 -- ---- of what both hold
 
 abbrev mute : Held → Held
-mute p = record { unit = p.unit; heard = silence }
+mute p = record { unit = p.unit; heard = nothing_heard }
 
 -- b, as if nothing was heard; and an outcome, with what b heard
 abbrev pub silent : Both Held → Both Held
@@ -81,7 +81,7 @@ unit_in w s = ap (λ (o : Office). o.unit) (parts w s)
 module _ (s : Station) (b : Both Held) (keeps : KeepsBoth s b) where
   pub units_kept : units_in s ≡ silent b
   units_kept =
-      ap₂ (λ (u v : Unit). record { first = record { unit = u; heard = silence }; second = record { unit = v; heard = silence } })
+      ap₂ (λ (u v : Unit). record { first = record { unit = u; heard = nothing_heard }; second = record { unit = v; heard = nothing_heard } })
       (keeps First).unit (keeps Second).unit
 
   pub planned_kept : (n : ℕ) (c : Call) → station_outcome b (call_of n (Plan c)) ≡ with_heard b (station_outcome (units_in s) (call_of n (Plan c)))

@@ -2,7 +2,7 @@
 use Rattle.std.specs.Prelude.{ℕ, ◌≡◌, Bool, false, List, Result, is_some}
 use Rattle.rules.specs.Answers.{no_such_office, Answer, Refused, answer_in}
 use Rattle.rules.specs.Lists.{Call}
-use Rattle.rules.specs.Meter.{silence}
+use Rattle.rules.specs.Meter.{nothing_heard}
 use Rattle.rules.specs.Offices.{Held, Plan, Send}
 use Rattle.rules.specs.Stations.{other, Both, own, office_number, office_of, StationCall, call_of, station_outcome}
 use Rattle.rules.specs.declared.Sent.{Sent}
@@ -53,7 +53,7 @@ RepliesTo s c r = (b : Both Held) → KeepsBoth s b → ReportsBoth b c r
 
 -- what both hold, but for what their meters sent
 abbrev pub units_in : Station → Both Held
-units_in s = record { first = record { unit = s.first.unit; heard = silence }; second = record { unit = s.second.unit; heard = silence } }
+units_in s = record { first = record { unit = s.first.unit; heard = nothing_heard }; second = record { unit = s.second.unit; heard = nothing_heard } }
 
 -- both units as the rules have it, and both windows as they were
 pub record PlansBoth (s : Station) (n : ℕ) (c : Call) (r : StationReply) : Type 0 where

@@ -1,6 +1,6 @@
 -- What request 4 of document 02 promises, with the reason of request 8: the reason that is named is the first of those that hold, and after every
 -- list of calls one of the nine does.
-use Rattle.std.specs.Prelude.{ℕ, suc, ◌≡◌, Bool, true, false, ◌&&◌, ◌||◌, List, [], ◌∷◌, ltb, eqb}
+use Rattle.std.specs.Prelude.{ℕ, suc, ◌≡◌, refl, Bool, true, false, ◌&&◌, ◌||◌, List, [], ◌∷◌, map, ltb, eqb}
 use Rattle.base.specs.Over.{between}
 use Rattle.rules.specs.District.{District, years_of, distresses_of, resources_of}
 use Rattle.rules.specs.Reasons.{told, holds, reason_for}
@@ -58,3 +58,11 @@ pub record Answered (cs : List Call) (i j : ℕ) : Type 0 where
 -- for every segment and every strategy of the district there is one
 abbrev pub OneHolds : Type 0
 OneHolds = (cs : List Call) (i j : ℕ) → bar_refusal (district_after cs) i j ≡ 0 → Answered cs i j
+
+-- computed: which reasons come before a minimum that is missed for distress type 2 in year 2
+pub before_a_minimum :
+    map (λ (q : Reason). before (told q) (told (MinimumMissed 2 2)))
+    (Barred ∷ MinimumMissed 1 3 ∷ MinimumMissed 2 1 ∷ MinimumMissed 2 2 ∷ MinimumMissed 2 3 ∷ MinimumMissed 3 1 ∷ OverallMissed ∷ [])
+    ≡ true ∷ true ∷ true ∷ false ∷ false ∷ false ∷ false ∷ []
+unfolding before
+before_a_minimum = refl
