@@ -59,7 +59,7 @@ leader_not_below = 14
 abbrev pub leader_set : ℕ
 leader_set = 15
 
--- of request 10: a number that is no office's; shared tables that differ from those held, while the other office has segments
+-- of request 10: a number that is no office's; a load that would bring other tables to an office with segments
 abbrev pub no_such_office : ℕ
 no_such_office = 16
 

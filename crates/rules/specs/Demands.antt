@@ -172,7 +172,7 @@ pub record Shown (d : District) (p : Programme) : Type 0 where
   pub past : (i : ℕ) → segments_of d < i → strategy_in p i ≡ 0
   pub changes : p.after_pickups + p.changes ≤ p.total
 
--- of what a show made next would give
+-- of the programme that the next show gives
 pub record Claim (cs : List Call) : Type 0 where
   pub sound : Sound (district_after cs) (show_of (unit_after cs))
   pub shown : Shown (district_after cs) (show_of (unit_after cs))

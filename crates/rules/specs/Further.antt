@@ -1,9 +1,10 @@
 -- Further districts, worked out by an independent program (reference/) and computed from these rules.
 -- Two of the plausible mistakes pass M1 to M9: the effect divided term by term (each effect there has one term or divides evenly), and the
 -- smallest benefit dropped instead of the smallest ratio. And the marked cases have no pick-up, no change, no requirement that a strategy
--- misses, no second distress type and no second limit that does not hold. These districts have them. Four tell apart readings that
--- come to the same everywhere else: how a ratio is rounded, what a surplus is taken from, how single changes are ordered, when a price stays.
--- Those of gains that are cut at 0 were worked by hand.
+-- misses, no second distress type and no second limit that does not hold. These districts have them. Five tell apart readings that
+-- come to the same everywhere else: how a ratio is rounded, what a surplus is taken from, and of which resources, how single changes are
+-- ordered, when a price stays.
+-- Those of gains that are cut at 0, of parts of a point, of a unit and of an index, and of a limit used to the last were worked by hand.
 use Rattle.std.specs.Prelude.{refl, List, [], ◌∷◌, pos}
 use Rattle.rules.specs.District.{District, with_rating}
 use Rattle.rules.specs.Calls.{district_in}
@@ -127,6 +128,39 @@ exact_minimum =
           ∷ [];
     }
 
+-- ratings are summed to the part of a point: 5.5 and 5.5 reach 11, and do not reach 12
+abbrev pub half_points : Roads
+half_points =
+    record {
+      years = 1;
+      limits = 0 ∷ [];
+      greatest = 20 ∷ 20 ∷ [];
+      strategies = record { requirements = []; gains = pos 1 ∷ pos 1 ∷ []; percents = (50 ∷ []) ∷ (50 ∷ []) ∷ [] } ∷ [];
+      pavements =
+          record { overall = 11; minima = [] }
+          ∷ record { overall = 12; minima = [] }
+          ∷ [];
+      segments =
+          segment 100 20 (5 ∷ 5 ∷ [])
+          ∷ record { pavement = 2; traffic = 100; environment = 100; length = 100; width = 20; barred = []; ratings = 5 ∷ 5 ∷ [] }
+          ∷ [];
+    }
+
+-- a use of just one unit fits a limit of one, and a hundred-thousandth more does not
+abbrev pub just_beyond : Roads
+just_beyond =
+    record {
+      years = 1;
+      limits = 1 ∷ [];
+      greatest = 50 ∷ [];
+      strategies =
+          strategy (100_001 ∷ []) (pos 50) 100
+          ∷ strategy (100_000 ∷ []) (pos 10) 100
+          ∷ [];
+      pavements = nothing_demanded ∷ [];
+      segments = segment 1 1 [] ∷ [];
+    }
+
 -- two pick-ups
 abbrev pub twice_picked : Roads
 twice_picked =
@@ -175,6 +209,27 @@ rounded_shares =
           segment 3 1 []
           ∷ segment 7 1 []
           ∷ segment 2 1 []
+          ∷ [];
+    }
+
+-- a limit that is used to the last and holds: its shares, rounded up, are more than the whole, and yet none of them pulls; if they did, segment 3
+-- would step first, and be picked up again
+abbrev pub used_up : Roads
+used_up =
+    record {
+      years = 1;
+      limits = 10 ∷ 3 ∷ [];
+      greatest = 50 ∷ [];
+      strategies =
+          strategy (6000 ∷ 0 ∷ []) (pos 50) 100
+          ∷ strategy (0 ∷ 100_000 ∷ []) (pos 1) 100
+          ∷ [];
+      pavements = nothing_demanded ∷ [];
+      segments =
+          barring (2 ∷ []) (segment 100 1 [])
+          ∷ barring (2 ∷ []) (segment 100 1 [])
+          ∷ barring (1 ∷ []) (segment 1 1 [])
+          ∷ barring (1 ∷ []) (segment 2 1 [])
           ∷ [];
     }
 
@@ -314,6 +369,8 @@ further_cases =
     given Effect (district_of (one_segment 101 (pos 1) (90 ∷ 90 ∷ []))) ⇒ (pos 184 ∷ [])
     -- rating 5 and gain 15 in year 0, whatever the indexes and percents
     ∷ given InitialRating (district_of (one_segment 1_000 (pos 15) (0 ∷ []))) ⇒ (pos 20_000_000 ∷ [])
+    -- indexes of 1.07 and 1.07 lose half of 1.1449, not of a product of two decimals
+    ∷ given Ratings (district_of (one_segment 107 (pos 15) (50 ∷ []))) ⇒ (pos 11_413_250 ∷ [])
     -- segment 2 has the greater benefit and the smaller ratio
     ∷ given Shown (with_rating (district_in card) 2 1 9) ⇒ shows (2 ∷ 1 ∷ []) 8_250_000 8_250_000 10_014_076 1 0 0
     ∷ planned four_segments ⇒ shows (1 ∷ 2 ∷ 0 ∷ 1 ∷ []) 111_572_863 38_908_450 127_252_761 3 1 2
@@ -322,9 +379,12 @@ further_cases =
     ∷ planned minima ⇒ shows (0 ∷ 0 ∷ 1 ∷ 0 ∷ []) 38_239_800 18_258_160 49_138_864 2 0 1
     ∷ planned overall ⇒ shows (0 ∷ 1 ∷ []) 6_650_000 6_650_000 6_650_000 0 0 0
     ∷ planned exact_minimum ⇒ shows (0 ∷ 0 ∷ 1 ∷ []) 33_570_000 29_310_000 46_098_262 1 0 1
+    ∷ planned half_points ⇒ shows (1 ∷ 0 ∷ []) 300_000 300_000 300_000 0 0 0
+    ∷ planned just_beyond ⇒ shows (2 ∷ []) 1_000 1_000 1_000 0 0 0
     ∷ planned twice_picked ⇒ shows (0 ∷ 1 ∷ 1 ∷ 1 ∷ []) 21_000_000 21_000_000 21_005_600 3 2 0
     ∷ planned rounded_ratios ⇒ shows (1 ∷ 0 ∷ []) 65 63 128 1 0 1
     ∷ planned rounded_shares ⇒ shows (1 ∷ 0 ∷ 1 ∷ []) 9_000 9_000 17_001 2 1 0
+    ∷ planned used_up ⇒ shows (0 ∷ 1 ∷ 2 ∷ 2 ∷ []) 500_300 500_300 834_300 1 0 0
     ∷ planned single_changes ⇒ shows (1 ∷ 0 ∷ 1 ∷ []) 15_600 10_400 20_000 5 0 2
     ∷ planned equal_ceilings ⇒ shows (2 ∷ 0 ∷ []) 27_000 6_000 30_000 1 0 1
     -- document 02, request 1: rating 2 and gain −6. The whole rating is lost at first and no more, nine tenths of it in year 1, half in year 2 and

@@ -117,8 +117,8 @@ module _ (t : Table) (leader : ℕ → ℕ) where
   unfoldable pub start : List ℕ
   start = pruned leader t.segments (bests t)
 
-  -- segment i steps, and where that leaves it nothing, so do all that follow from it; 0 is no segment, which does not occur while some limit
-  -- does not hold
+  -- segment i goes on to its next candidate; where none is left, its followers lose what they have with it, and theirs, as one step. 0 is no
+  -- segment, which does not occur while some limit does not hold
   unfoldable pub step_down : List ℕ → ℕ → Option (List ℕ)
   step_down c zero = None
   step_down c (suc i) = Some (pruned leader t.segments (give c (suc i) (next_candidate t (suc i) (strategy_at c (suc i)))))

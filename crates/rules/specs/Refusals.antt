@@ -1,10 +1,12 @@
--- Refusals in the order of document 01's table, lists of calls with refused ones among them, and an export's buffer, computed.
+-- Refusals in the order of document 01's table, what an edit alters, lists of calls with refused ones among them, and an export's buffer, computed.
 use Rattle.std.specs.Prelude.{ℕ, ◌≡◌, refl, List, [], ◌∷◌, ◌++◌, map, take, set, replicate}
-use Rattle.rules.specs.Calls.{bar_refusal, limit_refusal, rating_refusal, export_refusal, page_refusal, load_refusal, district_in, export_of}
+use Rattle.rules.specs.Calls.{bar_refusal, limit_refusal, rating_refusal, export_refusal, page_refusal, load_refusal, edited, district_in, export_of}
 use Rattle.rules.specs.Lists.{Load, Alter, ExportTo, PageTo, Show, AskWhy, refusal_of}
 use Rattle.rules.specs.declared.Edit.TheVariants.{Bar, Unbar, SetLimit, SetRating}
 use Rattle.rules.specs.Results.{shown, holding, shows, why_in, result_of, WorkedCase, ◌⇒◌, Agree}
 use Rattle.rules.specs.Marked.{card}
+use Rattle.rules.specs.Writer.{file_of, district_of}
+use Rattle.rules.specs.Written.{two_with, two_of_each}
 use Rattle.rules.specs.declared.Unit.{Unit}
 use Rattle.rules.specs.Answers.{refusal_number, Accepted}
 use Rattle.rules.specs.declared.refusals.Refusal.{Refusal}
@@ -97,6 +99,31 @@ questions u = why_in u 3 3 ++ why_in u 0 1 ++ why_in u 2 3 ++ why_in u 2 0
 pub asked : questions (holding (district_in card)) ≡ 0 ∷ 6 ∷ 0 ∷ 6 ∷ 0 ∷ 7 ∷ 0 ∷ 7 ∷ []
 unfolding result_of
 asked = refl
+
+-- ---- two segments, strategies, distress types and resources
+
+-- a new rating, and one in a file, is compared with the greatest of its own distress type
+abbrev pub ratings : List ℕ → List ℕ
+ratings d =
+    rating_refusal d 1 1 20 ∷ rating_refusal d 1 1 21 ∷ rating_refusal d 1 2 21 ∷ rating_refusal d 1 2 30 ∷ rating_refusal d 1 2 31 ∷ []
+
+pub greatest :
+    ratings (district_of two_of_each) ++ map load_refusal (map file_of (two_with 999 [] [] 30 ∷ two_with 999 [] [] 31 ∷ []))
+    ≡ 0 ∷ 8 ∷ 0 ∷ 0 ∷ 8 ∷ 0 ∷ 4 ∷ []
+unfolding result_of
+greatest = refl
+
+-- an edit alters the number that it names and no other: a bar more, a bar less, which leaves the other one, a limit, a rating
+pub altered :
+    map (edited (district_of (two_with 999 (1 ∷ 2 ∷ []) [] 12))) (Bar 2 1 ∷ Unbar 1 2 ∷ SetLimit 2 998 ∷ SetRating 1 2 13 ∷ [])
+    ≡ map district_of
+    (two_with 999 (1 ∷ 2 ∷ []) (1 ∷ []) 12
+    ∷ two_with 999 (1 ∷ []) [] 12
+    ∷ two_with 998 (1 ∷ 2 ∷ []) [] 12
+    ∷ two_with 999 (1 ∷ 2 ∷ []) [] 13
+    ∷ [])
+unfolding result_of
+altered = refl
 
 -- ---- lists of calls, refused ones among them
 

@@ -1,4 +1,4 @@
-// The types that the rules speak of. The rules themselves, document 01 as definitions, are in specs/.
+// The types that the rules speak of. The rules themselves, documents 01 and 02 as definitions, are in specs/.
 #![tactic(auto)]
 
 ghost use Rattle.std.specs.Prelude.{◌≡◌};

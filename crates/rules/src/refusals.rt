@@ -25,7 +25,7 @@ pub enum Refusal {
     LeaderNotBelow = 14,
     // A leader is set in a file that is to have none.
     LeaderSet = 15,
-    // A number that is no office's; shared tables that differ from those held, while the other office has segments.
+    // A number that is no office's; a load that would bring other tables to an office with segments.
     NoSuchOffice = 16,
     TablesInUse = 17,
     // A field that breaks its rule or its range, and a line of another length or a deck that ends before it.
