@@ -4,14 +4,14 @@ ghost use Rattle.grammar.specs.Slots.{slot_in};
 
 // The form of a file, numbered as the kind of its first record: without leaders, or with them. There is no third: a file whose
 // first kind is another one is read as one without (`file::forms::form_in`). So what is asked of a record takes one of these.
-#[derive(Clone, Copy, Debug, PartialEq, Eq)]
+#[derive(Clone, Copy, PartialEq, Eq)]
 pub enum Form {
     Plain = 1,
     Leaders = 8,
 }
 
 // The kind of a record.
-#[derive(Clone, Copy, Debug, PartialEq, Eq)]
+#[derive(Clone, Copy)]
 pub enum Kind {
     Counts = 1,
     Limits = 2,

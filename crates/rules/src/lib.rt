@@ -93,7 +93,7 @@ impl Default for Waiting {
 }
 
 // The consoles at which edits arrive.
-#[derive(Clone, Copy, Debug, PartialEq, Eq)]
+#[derive(Clone, Copy)]
 pub enum Console {
     One = 1,
     Two = 2,
@@ -102,7 +102,7 @@ pub enum Console {
 }
 
 // The two offices on one unit.
-#[derive(Clone, Copy, Debug, PartialEq, Eq)]
+#[derive(Clone, Copy)]
 pub enum Which {
     First,
     Second,

@@ -18,16 +18,3 @@ pub fn by_resource<F: Fn(usize) -> u64>(resources: usize, number: F) -> [u64; MO
     }
     numbers
 }
-
-#[cfg(test)]
-mod tests {
-    use super::by_resource;
-    use std::test::Fail;
-
-    #[test]
-    fn behind_the_last_resource_stands_0(rt: HostRuntime) -> Result<(), Fail> {
-        let tens = by_resource(3, |r| 10 * r as u64);
-        assert_eq!(rt; tens, [10, 20, 30, 0, 0, 0, 0, 0, 0, 0, 0, 0, 0, 0, 0, 0]);
-        Ok(())
-    }
-}
