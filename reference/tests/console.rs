@@ -170,7 +170,7 @@ fn blocks() {
     let many =
         |count: usize| format!("blocks {}\n", vec!["18446744073709551615 0 00000000000000000009"; count].join(" / "));
     for count in [1, 4, 5, 24, 25, 80] {
-        assert_eq!(answers("many", many(count).as_bytes()), "ok\n");
+        assert_eq!(answers("many_blocks", many(count).as_bytes()), "ok\n");
     }
     // 510 blocks in a line of 4,096 bytes, and of one more.
     let longest = |zeros: usize| format!("blocks {}0 0 0{}\n", "0 0 0 / ".repeat(509), "0".repeat(zeros));
