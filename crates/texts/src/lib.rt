@@ -2,12 +2,11 @@
 // sections they name.
 #![tactic(auto)]
 
-ghost use Rattle.std.specs.Prelude.{◌≡◌, ◌≤◌, length};
+ghost use Rattle.std.specs.Prelude.{◌≡◌};
 ghost use Rattle.texts.specs.Reading.{read_text};
 ghost use Rattle.texts.specs.Found.{formed_in};
 ghost use Rattle.texts.specs.Programs.{packed, unpacked};
 ghost use Rattle.base.specs.Text.{Put};
-ghost use Rattle.rules.specs.File.{longest_file};
 ghost use Rattle.texts.specs.Promises.{longest_printed, Promises};
 
 mod faults;
@@ -25,6 +24,7 @@ pub use refused::Place;
 use remaining::Remaining;
 use rules::District;
 use rules::places::DISTRICT_PLACES;
+use rules::records::LONGEST_FILE;
 
 // A text may have so many bytes, and one more tells that it is too long.
 pub const LONGEST_TEXT: usize = 65_536;
@@ -51,8 +51,7 @@ pub fn read_text<'a>(text: &'a [u8], d: &mut District) -> Result<Form, Complaint
 }
 
 // What is printed for a text, its file or the complaint, to the front of `out`.
-pub fn pack(text: &[u8], out: &mut [u8]) -> usize
-    requires { longest_file ≤ length out.old }
+pub fn pack(text: &[u8], out: &mut [u8; LONGEST_FILE]) -> usize
     ensures { Put (packed text.now) out.old out.new result }
 {
     let mut d = [0; DISTRICT_PLACES];
@@ -63,8 +62,7 @@ pub fn pack(text: &[u8], out: &mut [u8]) -> usize
 }
 
 // What is printed for a file, its text or where it is refused, to the front of `out`.
-pub fn unpack(file: &[u8], out: &mut [u8]) -> usize
-    requires { longest_printed ≤ length out.old }
+pub fn unpack(file: &[u8], out: &mut [u8; LONGEST_PRINTED]) -> usize
     ensures { Put (unpacked file.now) out.old out.new result }
 {
     let mut d = [0; DISTRICT_PLACES];

@@ -32,7 +32,7 @@ export_put bs old new r h e =
     record { count = accepted r (length bs) (ap (λ (x : Export). x.answer) q); bytes = ap (λ (x : Export). x.buffer) q }
 
 pub put_complaint-requires : goal.put_complaint-requires
-put_complaint-requires c = omega (arith, complaint_short c.args.text.now _ c.in-Err.ensures, c.requires)
+put_complaint-requires c = omega (arith, complaint_short c.args.text.now _ c.in-Err.ensures)
 
 pub returns-in-Ok : goal.returns-in-Ok
 returns-in-Ok c =
@@ -40,7 +40,7 @@ returns-in-Ok c =
     let d = c.read_text.new.d in
     let r = read_ranged c.args.text.now _ c.in-Ok.ensures in
     rw (file_packed c.args.text.now _ c.in-Ok.ensures, c.unwrap_or.ensures)
-    (export_put (encode_as form d) c.args.out.now c.export_as.new.buffer c.export_as.result (omega (arith, longest_as form r.0 d r.1, c.requires)) c.export_as.ensures)
+    (export_put (encode_as form d) c.args.out.now c.export_as.new.buffer c.export_as.result (omega (arith, longest_as form r.0 d r.1)) c.export_as.ensures)
 
 pub returns-in-Err : goal.returns-in-Err
 returns-in-Err c = rw (complaint_packed c.args.text.now _ c.in-Err.ensures) c.put_complaint.ensures

@@ -16,7 +16,7 @@ place_unpacked file p e = rw e refl
 pub put_text-requires : goal.put_text-requires
 put_text-requires c =
     let form = c.in-Ok.form in
-    omega (arith, printed_short (form_number form) (is_form form) c.read.new.d c.in-Ok.ensures.ranged, c.requires)
+    omega (arith, printed_short (form_number form) (is_form form) c.read.new.d c.in-Ok.ensures.ranged)
 
 pub returns-in-Ok : goal.returns-in-Ok
 returns-in-Ok c =
