@@ -10,7 +10,7 @@ use Rattle.rules.specs.Format.{Slot}
 use Rattle.texts.specs.Numbers.{written}
 use Rattle.texts.specs.Records.{word_of, is_numbered, name_of}
 use Rattle.texts.specs.Complaints.{not_in}
-use Rattle.texts.specs.Pieces.{range_end, number_told, lengths_told, longest_place}
+use Rattle.texts.specs.Pieces.{longest_place}
 use Rattle.texts.specs.Places.{Place, EndsWithin, OtherKind, OtherLength, OutOfRange, BehindEnd, refusal_at, record_named, place_text}
 use Rattle.texts.proofs.Short.{written_short, kind_short, not_in_short}
 
@@ -31,10 +31,17 @@ named_few : (p : ℕ) (s : Slot) → length (record_named p s) ≤ 63
 unfolding text
 named_few p s = omega (arith, length-append (decimal p) (text " (" ++ (name_of s ++ text ")")), decimal_few p, length-append (name_of s) (text ")"), name_few s)
 
+-- what stands behind a record's name
+abbrev number_told : ℕ → ℤ → ℤ → ℤ → List ℕ
+number_told q v lo hi = text ", number " ++ (decimal q ++ (text ": " ++ (written v ++ (not_in lo hi ++ text "\n"))))
+
+abbrev lengths_told : ℕ → ℕ → List ℕ
+lengths_told size due = text ": " ++ (decimal size ++ (text " bytes stand where " ++ (decimal due ++ text " are due\n")))
+
 told_few : (q : ℕ) (v lo hi : ℤ) → length (number_told q v lo hi) ≤ 107
 unfolding text
 told_few q v lo hi =
-    omega (arith, length-append (decimal q) (text ": " ++ (written v ++ range_end lo hi)), decimal_few q, length-append (written v) (range_end lo hi), written_short v, length-append (not_in lo hi) (text "\n"), not_in_short lo hi)
+    omega (arith, length-append (decimal q) (text ": " ++ (written v ++ (not_in lo hi ++ text "\n"))), decimal_few q, length-append (written v) (not_in lo hi ++ text "\n"), written_short v, length-append (not_in lo hi) (text "\n"), not_in_short lo hi)
 
 lengths_few : (size due : ℕ) → length (lengths_told size due) ≤ 70
 unfolding text

@@ -1,11 +1,12 @@
 -- The numbers of a record, and the records of a text, printed one after another.
-use Rattle.std.proofs.Common.{ℕ, suc, ◌+◌, ◌-◌, ◌<◌, ◌≡◌, true, false, List, [], ◌++◌, append-nil, refl, arith}
+use Rattle.std.proofs.Common.{ℕ, suc, ◌+◌, ◌-◌, ◌≤◌, ◌<◌, ◌≡◌, true, false, List, ◌++◌, append-nil, length, refl, arith}
 use Rattle.base.specs.Text.{text, decimal}
 use Rattle.base.proofs.Buffers.{Written}
+use Rattle.base.proofs.Text.{front_fits}
 use Rattle.rules.specs.District.{District}
 use Rattle.rules.specs.Format.{Slot, slot_of, present, file_records}
 use Rattle.texts.specs.Records.{word_of, is_numbered, name_of}
-use Rattle.texts.specs.Printing.{numbers_text, record_text, records_text}
+use Rattle.texts.specs.Printing.{numbers_text, comment_of, record_text, records_text}
 use Rattle.texts.specs.Pieces.{due_text}
 
 -- a number is to come
@@ -23,15 +24,24 @@ number_next d s m i place h w = rw (numbers_next d s m i place h) at w
 
 -- ---- a record's name
 
-pub numbered : (s : Slot) {word : List ℕ} → is_numbered s ≡ true → word ≡ word_of s.kind → name_of s ≡ word ++ (text " " ++ (decimal (s.nth + 1) ++ []))
+pub word_fits : (s : Slot) {word : List ℕ} {n : ℕ} → word ≡ word_of s.kind → length (name_of s) ≤ n → length word ≤ n
 unfolding name_of
-numbered s e w = rw (w, append-nil (decimal (s.nth + 1)), e) refl
+word_fits s w h = rw w (front_fits (word_of s.kind) _ h)
+
+pub numbered : (s : Slot) {word : List ℕ} → is_numbered s ≡ true → word ≡ word_of s.kind → name_of s ≡ word ++ (text " " ++ decimal (s.nth + 1))
+unfolding name_of
+numbered s e w = rw (w, e) refl
 
 pub unnumbered : (s : Slot) {word : List ℕ} → is_numbered s ≡ false → word ≡ word_of s.kind → name_of s ≡ word
 unfolding name_of
 unnumbered s e w = rw (w, e) (append-nil (word_of s.kind))
 
 -- ---- the records
+
+pub recorded :
+    (d : District) (s : Slot) (place : ℕ) {word : List ℕ} → present d s ≡ true → word ≡ word_of s.kind
+    → record_text (present d s) d s place ≡ word ++ (numbers_text s.places d s 0 place ++ (comment_of s ++ text "\n"))
+recorded d s place here w = rw (w, here) refl
 
 -- a record is to come, whose numbers stand where those before end
 records_next :

@@ -1,5 +1,5 @@
 -- Numbers with their sign, and pieces one after another.
-use Rattle.std.proofs.Common.{ℕ, zero, suc, ◌-◌, ◌/◌, ◌%◌, ◌≤◌, [], ◌∷◌, arith, append-nil, ◌+◌, ◌<◌, ◌≡◌, refl, ℤ, pos, negsuc, nat_abs, sym, ap, ap₂, ◌∙◌, List, ◌++◌, length, get_or, drop, drop-cons, add-one}
+use Rattle.std.proofs.Common.{ℕ, zero, suc, ◌-◌, ◌/◌, ◌%◌, ◌≤◌, [], ◌∷◌, arith, ◌+◌, ◌<◌, ◌≡◌, refl, ℤ, pos, negsuc, nat_abs, ap, List, ◌++◌, length, get_or, drop, drop-cons, add-one}
 use Rattle.base.proofs.Buffers.{Written}
 use Rattle.base.specs.Text.{digits_of, decimal}
 use borrow.Author.Tests.{lt-ltb, le-ltb}
@@ -13,10 +13,7 @@ signed (pos n) = refl
 signed (negsuc n) = refl
 
 pub written_as : (v : ℤ) {sign : List ℕ} {size : ℕ} → sign ≡ sign_of v → size ≡ nat_abs v → written v ≡ sign ++ decimal size
-written_as v s n = signed v ∙ ap₂ (λ (l : List ℕ) (m : ℕ). l ++ decimal m) (sym s) (sym n)
-
-pub written_pieces : (v : ℤ) {sign : List ℕ} {size : ℕ} → sign ≡ sign_of v → size ≡ nat_abs v → written v ≡ sign ++ (decimal size ++ [])
-written_pieces v {sign} {size} s n = rw (append-nil (decimal size)) (written_as v s n)
+written_as v s n = rw (s, n) (signed v)
 
 -- a digit, and one more behind those of the tenth
 pub digits_one : (k n : ℕ) → 1 ≤ k → n < 10 → digits_of k n ≡ (48 + n) ∷ []

@@ -1,13 +1,12 @@
 -- What is told of a line, as its pieces.
-use Rattle.std.proofs.Common.{ℕ, ◌≤◌, length, ◌≡◌, List, [], ◌∷◌, ◌++◌, take, map, append_assoc, append-nil, sym, ap, ◌∙◌, ℤ, nat_abs}
-use Rattle.base.specs.Text.{text, decimal, Put}
+use Rattle.std.proofs.Common.{ℕ, ◌≡◌, List, [], ◌∷◌, ◌++◌, take, map, append_assoc, append-nil, sym, ap, ◌∙◌, ℤ}
+use Rattle.base.specs.Text.{text, decimal}
 use Rattle.texts.specs.Numbers.{written}
 use Rattle.texts.specs.Records.{word_of, name_of}
-use Rattle.texts.specs.Complaints.{plain, longest_quoted, quoted, quoted_due, not_in, fault_text, complaint_text, Fault, InLine, OtherWord, NoNumber, EndMissing}
-use Rattle.texts.specs.Pieces.{dots, sign_of, range_end, number_told}
-use Rattle.texts.specs.Places.{record_named}
+use Rattle.texts.specs.Complaints.{plain, longest_quoted, quoted, quoted_due, not_in, fault_text, complaint_text, Fault, InLine, OtherWord, NoNumber, OutOfRange, EndMissing}
+use Rattle.texts.specs.Pieces.{dots}
+use Rattle.texts.specs.Places.{record_named, place_text, EndsWithin, OtherLength, OutOfRange as OutsideRange}
 use Rattle.rules.specs.Format.{Slot}
-use Rattle.texts.proofs.Printed.{written_as}
 
 quoted_then : (w more : List ℕ) → quoted w ++ more ≡ text "'" ++ (map plain (take longest_quoted w) ++ (dots w ++ (text "'" ++ more)))
 unfolding quoted text
@@ -38,29 +37,38 @@ pub end_missing : (kind : ℕ) {due : List ℕ} → due ≡ word_of kind → fau
 unfolding fault_text text
 end_missing kind u = rw u (ap (λ (l : List ℕ). text "the end is missing (" ++ l) (due_then kind (text " is due)")))
 
-pub range_told :
-    (lo hi : ℤ) {s t : List ℕ} {m n : ℕ} → s ≡ sign_of lo → m ≡ nat_abs lo → t ≡ sign_of hi → n ≡ nat_abs hi
-    → not_in lo hi ≡ text " is not " ++ (s ++ (decimal m ++ (text " to " ++ (t ++ (decimal n ++ [])))))
-unfolding not_in
-range_told lo hi {s} {t} {m} {n} sl ml th nh =
-    rw (append-nil (decimal n), written_as lo sl ml, written_as hi th nh) (ap (λ (l : List ℕ). text " is not " ++ l) (append_assoc s (decimal m) (text " to " ++ (t ++ decimal n))))
+pub out_of_range :
+    (w : List ℕ) (lo hi : ℤ) → fault_text (OutOfRange w lo hi) ≡ w ++ (text " is not " ++ (written lo ++ (text " to " ++ (written hi ++ []))))
+unfolding fault_text not_in
+out_of_range w lo hi = rw (append-nil (written hi))
 
 -- a line's complaint in three
 pub in_line : (n : ℕ) (f : Fault) → complaint_text (InLine n f) ≡ (text "line " ++ (decimal n ++ text ": ")) ++ (fault_text f ++ text "\n")
 unfolding complaint_text text
 in_line n f = ap (λ (l : List ℕ). text "line " ++ l) (sym (append_assoc (decimal n) (text ": ") (fault_text f ++ text "\n")))
 
--- three pieces of a record that is named, and of a number that is told
-pub named_in_three : (p : ℕ) (s : Slot) → record_named p s ≡ (text "record " ++ (decimal p ++ text " (")) ++ (name_of s ++ text ")")
+-- ---- a place's line
+
+named_then : (p : ℕ) (s : Slot) (more : List ℕ) → record_named p s ++ more ≡ text "record " ++ (decimal p ++ (text " (" ++ (name_of s ++ (text ")" ++ more))))
 unfolding text
-named_in_three p s = ap (λ (l : List ℕ). text "record " ++ l) (sym (append_assoc (decimal p) (text " (") (name_of s ++ text ")")))
+named_then p s more = simp append_assoc
 
-pub number_in_three : (q : ℕ) (v lo hi : ℤ) → number_told q v lo hi ≡ (text ", number " ++ (decimal q ++ text ": ")) ++ (written v ++ range_end lo hi)
-unfolding text
-number_in_three q v lo hi = ap (λ (l : List ℕ). text ", number " ++ l) (sym (append_assoc (decimal q) (text ": ") (written v ++ range_end lo hi)))
+pub ends_within_told : (p : ℕ) (s : Slot) → place_text (EndsWithin p s) ≡ text "record " ++ (decimal p ++ (text " (" ++ (name_of s ++ text "): the file ends within it\n")))
+unfolding place_text text
+ends_within_told p s = named_then p s (text ": the file ends within it\n")
 
-pub room_as : {a b : List ℕ} {n : ℕ} → a ≡ b → length a ≤ n → length b ≤ n
-room_as e h = rw e at h
+pub other_length_told :
+    (p : ℕ) (s : Slot) (size due : ℕ)
+    → place_text (OtherLength p s size due) ≡ text "record " ++ (decimal p ++ (text " (" ++ (name_of s ++ (text "): " ++ (decimal size ++ (text " bytes stand where " ++ (decimal due ++ text " are due\n")))))))
+unfolding place_text text
+other_length_told p s size due = named_then p s (text ": " ++ (decimal size ++ (text " bytes stand where " ++ (decimal due ++ text " are due\n"))))
 
-pub put_as : {a b old new : List ℕ} {n : ℕ} → a ≡ b → Put b old new n → Put a old new n
-put_as e p = rw e p
+pub outside_told :
+    (p : ℕ) (s : Slot) (q : ℕ) (v lo hi : ℤ)
+    → place_text (OutsideRange p s q v lo hi)
+    ≡ text "record " ++ (decimal p ++ (text " (" ++ (name_of s ++ (text "), number " ++ (decimal q ++ (text ": " ++ (written v ++ (text " is not " ++ (written lo ++ (text " to " ++ (written hi ++ text "\n")))))))))))
+unfolding place_text not_in text
+outside_told p s q v lo hi =
+    named_then p s (text ", number " ++ (decimal q ++ (text ": " ++ (written v ++ (not_in lo hi ++ text "\n")))))
+    ∙ ap (λ (l : List ℕ). text "record " ++ (decimal p ++ (text " (" ++ (name_of s ++ (text "), number " ++ (decimal q ++ (text ": " ++ (written v ++ (text " is not " ++ l)))))))))
+    (append_assoc (written lo) (text " to " ++ written hi) (text "\n"))

@@ -3,14 +3,14 @@ ghost use Rattle.std.specs.Prelude.{◌≡◌, ◌+◌, ◌++◌, ◌≤◌, ◌
 ghost use Rattle.base.specs.Text.{text, digits_of, Put};
 ghost use Rattle.listing.specs.Listing.{refusal, longest_refusal};
 ghost use Rattle.texts.specs.Numbers.{written};
-ghost use Rattle.texts.specs.Complaints.{plain, not_in, fault_text, complaint_text, TooLong, InLine};
-ghost use Rattle.texts.specs.Places.{record_named, refusal_at, place_text, EndsWithin, OtherLength, OutOfRange};
-ghost use Rattle.texts.specs.Pieces.{sign_of, piece_text, pieces_text, dots, due_text, range_end, number_told, lengths_told, longest_place};
+ghost use Rattle.texts.specs.Complaints.{plain, fault_text, complaint_text, TooLong, InLine, OutOfRange};
+ghost use Rattle.texts.specs.Places.{refusal_at, place_text, EndsWithin, OtherKind, OtherLength, OutOfRange as OutsideRange, BehindEnd};
+ghost use Rattle.texts.specs.Pieces.{sign_of, piece_text, pieces_text, dots, due_text, longest_place};
 ghost use Rattle.grammar.specs.Slots.{form_number, slot_in};
 ghost use Rattle.rules.specs.District.{district_places};
 ghost use Rattle.rules.specs.Format.{present};
 ghost use Rattle.texts.specs.Records.{is_numbered, name_of};
-ghost use Rattle.texts.specs.Printing.{number_text, numbers_text, comment_of, record_text, text_of};
+ghost use Rattle.texts.specs.Printing.{numbers_text, comment_of, record_text, text_of};
 ghost use Rattle.texts.specs.Found.{fault_in, complaint_in, place_of};
 
 use crate::faults::{Complaint, Fault};
@@ -46,14 +46,41 @@ fn sign_of(v: i128) -> &'static [u8]
 }
 
 // A whole number with its sign.
-pub fn put_written(out: &mut [u8], v: i128) -> usize
+fn put_written(out: &mut [u8], v: i128) -> usize
     requires { length (written v) ≤ length out.old }
     ensures { Put (written v) out.old out.new result }
 {
-    put_pieces(
-        out,
-        &[Piece::Bytes(sign_of(v)), Piece::Size(v.unsigned_abs())],
-    )
+    let at = listing::put(out, sign_of(v));
+    at + put_digits(&mut out[at..], 20, v.unsigned_abs())
+}
+
+// The same behind one space.
+#[tactic(auto, unfolding(base::specs::Text::text))]
+fn put_spaced(out: &mut [u8], v: i128) -> usize
+    requires { length (text " " ++ written v) ≤ length out.old }
+    ensures { Put (text " " ++ written v) out.old out.new result }
+{
+    let at = listing::put(out, b" ");
+    at + put_written(&mut out[at..], v)
+}
+
+fn is_numbered(s: Slot) -> bool
+    ensures { result ≡ is_numbered (slot_in s) }
+{
+    matches!(s.kind, Kind::Strategy | Kind::Pavement | Kind::Segment)
+}
+
+// The record's name.
+fn put_name(out: &mut [u8], s: Slot) -> usize
+    requires { length (name_of (slot_in s)) ≤ length out.old }
+    ensures { Put (name_of (slot_in s)) out.old out.new result }
+{
+    let word = listing::put(out, records::word_of(s.kind_number()));
+    if !is_numbered(s) {
+        return word;
+    }
+    let at = word + listing::put(&mut out[word..], b" ");
+    at + put_digits(&mut out[at..], 20, s.nth as u128 + 1)
 }
 
 // What a line is put together of, one piece after another.
@@ -63,8 +90,8 @@ pub enum Piece<'a> {
     // A word's bytes, '?' for each that is no plain letter.
     Plain(&'a [u8]),
     Number(usize),
-    // What stands behind a sign.
-    Size(u128),
+    Written(i128),
+    Name(Slot),
 }
 
 fn plain(byte: u8) -> u8
@@ -96,7 +123,8 @@ pub fn put_piece(out: &mut [u8], piece: Piece) -> usize
         Piece::Bytes(bytes) => listing::put(out, bytes),
         Piece::Plain(bytes) => put_plain(out, bytes),
         Piece::Number(n) => listing::put_number(out, n),
-        Piece::Size(n) => put_digits(out, 20, n),
+        Piece::Written(v) => put_written(out, v),
+        Piece::Name(s) => put_name(out, s),
     }
 }
 
@@ -119,31 +147,20 @@ fn dots(word: &[u8]) -> &'static [u8]
     if word.len() <= 20 { b"" } else { b".." }
 }
 
-// A range, behind what is not in it.
-fn put_not_in(out: &mut [u8], lo: i128, hi: i128) -> usize
-    requires { length (not_in lo hi) ≤ length out.old }
-    ensures { Put (not_in lo hi) out.old out.new result }
+fn put_out_of_range(out: &mut [u8], word: &[u8], lo: i128, hi: i128) -> usize
+    requires { length (fault_text (OutOfRange word.now lo hi)) ≤ length out.old }
+    ensures { Put (fault_text (OutOfRange word.now lo hi)) out.old out.new result }
 {
     put_pieces(
         out,
         &[
+            Piece::Bytes(word),
             Piece::Bytes(b" is not "),
-            Piece::Bytes(sign_of(lo)),
-            Piece::Size(lo.unsigned_abs()),
+            Piece::Written(lo),
             Piece::Bytes(b" to "),
-            Piece::Bytes(sign_of(hi)),
-            Piece::Size(hi.unsigned_abs()),
+            Piece::Written(hi),
         ],
     )
-}
-
-#[tactic(auto, using(base::proofs::Text::front_fits, listing::proofs::Pieces::second_fits, listing::proofs::Pieces::put_two))]
-fn put_out_of_range(out: &mut [u8], word: &[u8], lo: i128, hi: i128) -> usize
-    requires { length (word.now ++ not_in lo hi) ≤ length out.old }
-    ensures { Put (word.now ++ not_in lo hi) out.old out.new result }
-{
-    let at = listing::put(out, word);
-    at + put_not_in(&mut out[at..], lo, hi)
 }
 
 fn put_fault(out: &mut [u8], fault: Fault) -> usize
@@ -240,24 +257,14 @@ pub fn put_complaint(out: &mut [u8], complaint: Complaint) -> usize
 
 // ---- a district's text
 
-// A number behind one space.
-#[tactic(auto, using(base::proofs::Text::front_fits, listing::proofs::Pieces::second_fits, listing::proofs::Pieces::put_two), unfolding(base::specs::Text::text))]
-fn put_shown(out: &mut [u8], f: Field, x: usize) -> usize
-    requires { length (number_text f x) ≤ length out.old }
-    ensures { Put (number_text f x) out.old out.new result }
-{
-    let at = listing::put(out, b" ");
-    at + put_written(&mut out[at..], numbers::shown_in(f, x))
-}
-
-// The same, of the `n`-th number of the record, where the district has it.
+// The `n`-th number of the record, where the district has it.
 fn put_due(out: &mut [u8], d: &District, s: Slot, n: usize, place: usize) -> usize
     requires room { length (due_text d.now (slot_in s) n place) ≤ length out.old }
     requires within { place < district_places }
     ensures { Put (due_text d.now (slot_in s) n place) out.old out.new result }
 {
     if records::is_due(d, s, n) {
-        put_shown(out, grammar::field_at(d, s, n), d[place])
+        put_spaced(out, numbers::shown_in(grammar::field_at(d, s, n), d[place]))
     } else {
         0
     }
@@ -276,67 +283,26 @@ fn put_numbers(out: &mut [u8], d: &District, s: Slot, place: usize) -> usize
     at
 }
 
-fn is_numbered(s: Slot) -> bool
-    ensures { result ≡ is_numbered (slot_in s) }
-{
-    matches!(s.kind, Kind::Strategy | Kind::Pavement | Kind::Segment)
-}
-
-// The record's name.
-fn put_name(out: &mut [u8], s: Slot) -> usize
-    requires { length (name_of (slot_in s)) ≤ length out.old }
-    ensures { Put (name_of (slot_in s)) out.old out.new result }
-{
-    let word = records::word_of(s.kind_number());
-    if is_numbered(s) {
-        put_pieces(
-            out,
-            &[
-                Piece::Bytes(word),
-                Piece::Bytes(b" "),
-                Piece::Size(s.nth as u128 + 1),
-            ],
-        )
-    } else {
-        listing::put(out, word)
-    }
-}
-
-#[tactic(auto, using(base::proofs::Text::front_fits, listing::proofs::Pieces::second_fits, listing::proofs::Pieces::put_two), unfolding(base::specs::Text::text))]
-fn put_name_comment(out: &mut [u8], s: Slot) -> usize
-    requires { length (text " # " ++ name_of (slot_in s)) ≤ length out.old }
-    ensures { Put (text " # " ++ name_of (slot_in s)) out.old out.new result }
-{
-    let at = listing::put(out, b" # ");
-    at + put_name(&mut out[at..], s)
-}
-
-#[tactic(auto, unfolding(crate::specs::Printing::comment_of, base::specs::Text::text))]
-fn put_comment(out: &mut [u8], s: Slot) -> usize
-    requires { length (comment_of (slot_in s)) ≤ length out.old }
-    ensures { Put (comment_of (slot_in s)) out.old out.new result }
-{
-    match s.kind {
-        Kind::Counts => listing::put(
-            out,
-            b" # segments, strategies, years, distress types, pavement types, resources",
-        ),
-        Kind::Strategy | Kind::Pavement | Kind::Segment => put_name_comment(out, s),
-        Kind::Limits | Kind::Greatest | Kind::End => 0,
-    }
-}
-
-#[tactic(auto, using(base::proofs::Text::front_fits, listing::proofs::Pieces::second_fits, listing::proofs::Pieces::put_two), unfolding(base::specs::Text::text))]
+// What ends the record's line: the comment, and a line feed.
+#[tactic(auto, unfolding(crate::specs::Printing::comment_of, crate::specs::Pieces::pieces_text, base::specs::Text::text))]
 fn put_ending(out: &mut [u8], s: Slot) -> usize
     requires { length (comment_of (slot_in s) ++ text "\n") ≤ length out.old }
     ensures { Put (comment_of (slot_in s) ++ text "\n") out.old out.new result }
 {
-    let at = put_comment(out, s);
-    at + listing::put(&mut out[at..], b"\n")
+    match s.kind {
+        Kind::Counts => listing::put(
+            out,
+            b" # segments, strategies, years, distress types, pavement types, resources\n",
+        ),
+        Kind::Strategy | Kind::Pavement | Kind::Segment => put_pieces(
+            out,
+            &[Piece::Bytes(b" # "), Piece::Name(s), Piece::Bytes(b"\n")],
+        ),
+        Kind::Limits | Kind::Greatest | Kind::End => listing::put(out, b"\n"),
+    }
 }
 
 // The line of the record, where the district has it.
-#[tactic(auto, using(base::proofs::Text::front_fits, listing::proofs::Pieces::second_of_three_fits, listing::proofs::Pieces::third_fits, listing::proofs::Pieces::put_three))]
 fn put_record(out: &mut [u8], d: &District, s: Slot, place: usize) -> usize
     requires room { length (record_text (present d.now (slot_in s)) d.now (slot_in s) place) ≤ length out.old }
     requires within { place + s.places ≤ district_places }
@@ -367,65 +333,53 @@ pub fn put_text(out: &mut [u8], form: Form, d: &District) -> usize
 
 // ---- where a file is refused
 
-// The record that is due, with its name.
-fn put_record_named(out: &mut [u8], p: usize, s: Slot) -> usize
-    requires { length (record_named p (slot_in s)) ≤ length out.old }
-    ensures { Put (record_named p (slot_in s)) out.old out.new result }
+fn put_ends_within(out: &mut [u8], p: usize, s: Slot) -> usize
+    requires { length (place_text (EndsWithin p (slot_in s))) ≤ length out.old }
+    ensures { Put (place_text (EndsWithin p (slot_in s))) out.old out.new result }
 {
-    let mut at = put_pieces(
+    put_pieces(
         out,
         &[
             Piece::Bytes(b"record "),
             Piece::Number(p),
             Piece::Bytes(b" ("),
+            Piece::Name(s),
+            Piece::Bytes(b"): the file ends within it\n"),
         ],
-    );
-    at += put_name(&mut out[at..], s);
-    at + listing::put(&mut out[at..], b")")
+    )
 }
 
-#[tactic(auto, using(base::proofs::Text::front_fits, listing::proofs::Pieces::second_fits, listing::proofs::Pieces::put_two), unfolding(base::specs::Text::text))]
-fn put_range_end(out: &mut [u8], lo: i128, hi: i128) -> usize
-    requires { length (range_end lo hi) ≤ length out.old }
-    ensures { Put (range_end lo hi) out.old out.new result }
-{
-    let at = put_not_in(out, lo, hi);
-    at + listing::put(&mut out[at..], b"\n")
-}
-
-fn put_number_told(out: &mut [u8], q: usize, v: i128, lo: i128, hi: i128) -> usize
-    requires { length (number_told q v lo hi) ≤ length out.old }
-    ensures { Put (number_told q v lo hi) out.old out.new result }
-{
-    let mut at = put_pieces(
-        out,
-        &[
-            Piece::Bytes(b", number "),
-            Piece::Number(q),
-            Piece::Bytes(b": "),
-        ],
-    );
-    at += put_written(&mut out[at..], v);
-    at + put_range_end(&mut out[at..], lo, hi)
-}
-
-#[tactic(auto, using(base::proofs::Text::front_fits, listing::proofs::Pieces::second_fits, listing::proofs::Pieces::put_two), unfolding(crate::specs::Places::place_text, base::specs::Text::text))]
-fn put_ends_within(out: &mut [u8], p: usize, s: Slot) -> usize
-    requires { length (place_text (EndsWithin p (slot_in s))) ≤ length out.old }
-    ensures { Put (place_text (EndsWithin p (slot_in s))) out.old out.new result }
-{
-    let at = put_record_named(out, p, s);
-    at + listing::put(&mut out[at..], b": the file ends within it\n")
-}
-
-fn put_lengths(out: &mut [u8], size: usize, due: usize) -> usize
-    requires { length (lengths_told size due) ≤ length out.old }
-    ensures { Put (lengths_told size due) out.old out.new result }
+#[tactic(auto, unfolding(crate::specs::Places::place_text, crate::specs::Pieces::pieces_text, base::specs::Text::text))]
+fn put_other_kind(out: &mut [u8], p: usize, kind: usize, due: usize) -> usize
+    requires { length (place_text (OtherKind p kind due)) ≤ length out.old }
+    ensures { Put (place_text (OtherKind p kind due)) out.old out.new result }
 {
     put_pieces(
         out,
         &[
-            Piece::Bytes(b": "),
+            Piece::Bytes(b"record "),
+            Piece::Number(p),
+            Piece::Bytes(b": kind "),
+            Piece::Number(kind),
+            Piece::Bytes(b" stands where "),
+            Piece::Number(due),
+            Piece::Bytes(b" is due\n"),
+        ],
+    )
+}
+
+fn put_other_length(out: &mut [u8], p: usize, s: Slot, size: usize, due: usize) -> usize
+    requires { length (place_text (OtherLength p (slot_in s) size due)) ≤ length out.old }
+    ensures { Put (place_text (OtherLength p (slot_in s) size due)) out.old out.new result }
+{
+    put_pieces(
+        out,
+        &[
+            Piece::Bytes(b"record "),
+            Piece::Number(p),
+            Piece::Bytes(b" ("),
+            Piece::Name(s),
+            Piece::Bytes(b"): "),
             Piece::Number(size),
             Piece::Bytes(b" bytes stand where "),
             Piece::Number(due),
@@ -434,22 +388,39 @@ fn put_lengths(out: &mut [u8], size: usize, due: usize) -> usize
     )
 }
 
-#[tactic(auto, using(base::proofs::Text::front_fits, listing::proofs::Pieces::second_fits, listing::proofs::Pieces::put_two), unfolding(crate::specs::Places::place_text, base::specs::Text::text))]
-fn put_other_length(out: &mut [u8], p: usize, s: Slot, size: usize, due: usize) -> usize
-    requires { length (place_text (OtherLength p (slot_in s) size due)) ≤ length out.old }
-    ensures { Put (place_text (OtherLength p (slot_in s) size due)) out.old out.new result }
+fn put_outside(out: &mut [u8], p: usize, s: Slot, q: usize, v: i128, lo: i128, hi: i128) -> usize
+    requires { length (place_text (OutsideRange p (slot_in s) q v lo hi)) ≤ length out.old }
+    ensures { Put (place_text (OutsideRange p (slot_in s) q v lo hi)) out.old out.new result }
 {
-    let at = put_record_named(out, p, s);
-    at + put_lengths(&mut out[at..], size, due)
+    put_pieces(
+        out,
+        &[
+            Piece::Bytes(b"record "),
+            Piece::Number(p),
+            Piece::Bytes(b" ("),
+            Piece::Name(s),
+            Piece::Bytes(b"), number "),
+            Piece::Number(q),
+            Piece::Bytes(b": "),
+            Piece::Written(v),
+            Piece::Bytes(b" is not "),
+            Piece::Written(lo),
+            Piece::Bytes(b" to "),
+            Piece::Written(hi),
+            Piece::Bytes(b"\n"),
+        ],
+    )
 }
 
-#[tactic(auto, using(base::proofs::Text::front_fits, listing::proofs::Pieces::second_fits, listing::proofs::Pieces::put_two), unfolding(crate::specs::Places::place_text, base::specs::Text::text))]
-fn put_outside(out: &mut [u8], p: usize, s: Slot, q: usize, v: i128, lo: i128, hi: i128) -> usize
-    requires { length (place_text (OutOfRange p (slot_in s) q v lo hi)) ≤ length out.old }
-    ensures { Put (place_text (OutOfRange p (slot_in s) q v lo hi)) out.old out.new result }
+#[tactic(auto, unfolding(crate::specs::Places::place_text, crate::specs::Pieces::pieces_text, base::specs::Text::text))]
+fn put_behind_end(out: &mut [u8], n: usize) -> usize
+    requires { length (place_text (BehindEnd n)) ≤ length out.old }
+    ensures { Put (place_text (BehindEnd n)) out.old out.new result }
 {
-    let at = put_record_named(out, p, s);
-    at + put_number_told(&mut out[at..], q, v, lo, hi)
+    put_pieces(
+        out,
+        &[Piece::Number(n), Piece::Bytes(b" bytes follow the end\n")],
+    )
 }
 
 // Where a file is refused, as a line.
@@ -459,29 +430,14 @@ pub fn put_place(out: &mut [u8], place: Place) -> usize
 {
     match place {
         Place::EndsWithin(p, s) => put_ends_within(out, p, s),
-        Place::OtherKind(p, kind, due) => put_pieces(
-            out,
-            &[
-                Piece::Bytes(b"record "),
-                Piece::Number(p),
-                Piece::Bytes(b": kind "),
-                Piece::Number(kind),
-                Piece::Bytes(b" stands where "),
-                Piece::Number(due),
-                Piece::Bytes(b" is due\n"),
-            ],
-        ),
+        Place::OtherKind(p, kind, due) => put_other_kind(out, p, kind, due),
         Place::OtherLength(p, s, size, due) => put_other_length(out, p, s, size, due),
         Place::OutOfRange(p, s, q, v, lo, hi) => put_outside(out, p, s, q, v, lo, hi),
-        Place::BehindEnd(n) => put_pieces(
-            out,
-            &[Piece::Number(n), Piece::Bytes(b" bytes follow the end\n")],
-        ),
+        Place::BehindEnd(n) => put_behind_end(out, n),
     }
 }
 
 // The two lines of a file that is refused.
-#[tactic(auto, using(crate::proofs::Lengths::refused_fits, listing::proofs::Lengths::refusal_few, base::proofs::Text::front_fits, listing::proofs::Pieces::second_fits, listing::proofs::Pieces::put_two))]
 pub fn put_refused_at(out: &mut [u8], place: Place) -> usize
     requires { longest_refusal + longest_place ≤ length out.old }
     ensures { Put (refusal (refusal_at (place_of place)) ++ place_text (place_of place)) out.old out.new result }

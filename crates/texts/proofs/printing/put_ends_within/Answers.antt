@@ -1,10 +1,14 @@
--- `printing::put_ends_within` meets its contract: its record and how it ends.
+-- `printing::put_ends_within` meets its contract: its pieces one after another.
 use Rattle.base.specs.Text.{text}
 use Rattle.grammar.specs.Slots.{slot_in}
-use Rattle.listing.proofs.Pieces.{put_two}
-use Rattle.texts.specs.Places.{place_text, record_named}
+use Rattle.texts.specs.Pieces.{pieces_text}
+use Rattle.texts.proofs.Told.{ends_within_told}
 use Rattle.texts.proofs.printing.put_ends_within.Goals as goal
 
+pub put_pieces-requires : goal.put_pieces-requires
+unfolding pieces_text text
+put_pieces-requires c = rw (ends_within_told c.args.p (slot_in c.args.s)) at c.requires
+
 pub returns : goal.returns
-unfolding place_text text
-returns c = put_two (record_named c.args.p (slot_in c.args.s)) (text ": the file ends within it\n") c.requires c.put_record_named-at.ensures c.put.ensures
+unfolding pieces_text text
+returns c = rw (ends_within_told c.args.p (slot_in c.args.s)) c.put_pieces.ensures

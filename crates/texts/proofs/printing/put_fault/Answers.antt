@@ -1,5 +1,4 @@
 -- `printing::put_fault` meets its contract: for each thing that may be wrong its pieces.
-use Rattle.std.proofs.Common.{rules}
 use Rattle.base.specs.Text.{text}
 use Rattle.texts.specs.Complaints.{fault_text}
 use Rattle.texts.specs.Pieces.{pieces_text}
@@ -37,14 +36,6 @@ unfolding pieces_text text
 returns-in-NoNumber c =
     let f = c.in-NoNumber in
     rw (f.is, no_number f.word.now c.take-in-NoNumber.ensures c.dots-in-NoNumber.ensures) c.put_pieces-in-NoNumber.ensures
-
-pub put_out_of_range-requires : goal.put_out_of_range-requires
-unfolding fault_text
-put_out_of_range-requires c = search rules
-
-pub returns-in-OutOfRange : goal.returns-in-OutOfRange
-unfolding fault_text
-returns-in-OutOfRange c = search rules
 
 pub put_pieces-requires-in-NumberTooMany : goal.put_pieces-requires-in-NumberTooMany
 unfolding fault_text pieces_text text

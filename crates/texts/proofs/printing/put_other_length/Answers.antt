@@ -1,10 +1,14 @@
--- `printing::put_other_length` meets its contract: its record and both lengths.
+-- `printing::put_other_length` meets its contract: its pieces one after another.
+use Rattle.base.specs.Text.{text}
 use Rattle.grammar.specs.Slots.{slot_in}
-use Rattle.listing.proofs.Pieces.{put_two}
-use Rattle.texts.specs.Places.{place_text, record_named}
-use Rattle.texts.specs.Pieces.{lengths_told}
+use Rattle.texts.specs.Pieces.{pieces_text}
+use Rattle.texts.proofs.Told.{other_length_told}
 use Rattle.texts.proofs.printing.put_other_length.Goals as goal
 
+pub put_pieces-requires : goal.put_pieces-requires
+unfolding pieces_text text
+put_pieces-requires c = rw (other_length_told c.args.p (slot_in c.args.s) c.args.size c.args.due) at c.requires
+
 pub returns : goal.returns
-unfolding place_text
-returns c = put_two (record_named c.args.p (slot_in c.args.s)) (lengths_told c.args.size c.args.due) c.requires c.put_record_named-at.ensures c.put_lengths.ensures
+unfolding pieces_text text
+returns c = rw (other_length_told c.args.p (slot_in c.args.s) c.args.size c.args.due) c.put_pieces.ensures

@@ -1,21 +1,19 @@
--- `printing::put_outside` meets its contract: its record and the number.
+-- `printing::put_outside` meets its contract: its pieces one after another.
 use Rattle.std.proofs.Math.Facts.{to_z-of_z}
+use Rattle.base.specs.Text.{text}
 use Rattle.grammar.specs.Slots.{slot_in}
-use Rattle.listing.proofs.Pieces.{second_fits, put_two}
-use Rattle.texts.specs.Places.{place_text, record_named}
-use Rattle.texts.specs.Pieces.{number_told}
+use Rattle.texts.specs.Pieces.{pieces_text}
+use Rattle.texts.proofs.Told.{outside_told}
 use Rattle.texts.proofs.printing.put_outside.Goals as goal
 
-pub put_number_told-requires : goal.put_number_told-requires
-unfolding place_text
-put_number_told-requires c =
+pub put_pieces-requires : goal.put_pieces-requires
+unfolding pieces_text text
+put_pieces-requires c =
     let a = c.args in
-    rw (to_z-of_z c.ranges.v, to_z-of_z c.ranges.lo, to_z-of_z c.ranges.hi)
-    (second_fits (record_named a.p (slot_in a.s)) (number_told a.q a.v a.lo a.hi) c.requires c.put_record_named-at.ensures)
+    rw (to_z-of_z c.ranges.v, to_z-of_z c.ranges.lo, to_z-of_z c.ranges.hi) (rw (outside_told a.p (slot_in a.s) a.q a.v a.lo a.hi) at c.requires)
 
 pub returns : goal.returns
-unfolding place_text
+unfolding pieces_text text
 returns c =
     let a = c.args in
-    put_two (record_named a.p (slot_in a.s)) (number_told a.q a.v a.lo a.hi) c.requires c.put_record_named-at.ensures
-    (rw (to_z-of_z c.ranges.v, to_z-of_z c.ranges.lo, to_z-of_z c.ranges.hi) at c.put_number_told.ensures)
+    rw (outside_told a.p (slot_in a.s) a.q a.v a.lo a.hi) (rw (to_z-of_z c.ranges.v, to_z-of_z c.ranges.lo, to_z-of_z c.ranges.hi) at c.put_pieces.ensures)
