@@ -91,7 +91,6 @@ fn greatest_of(d: &District, distress: usize) -> usize
     value_at(d, nth_from(GREATEST, distress))
 }
 
-#[tactic(auto, using(crate::proofs::Places::rating_inside))]
 fn check_rating(d: &District, segment: usize, distress: usize, rating: usize) -> Result<(), Refusal>
     ensures { refusal_in result ≡ rating_refusal d.now segment distress rating }
 {

@@ -3,7 +3,7 @@ use Prim.Native.Nat.{ℕ, ◌+◌, ◌-◌}
 use mathlib.Core.Path.{◌≡◌, ap}
 use mathlib.Core.List.{◌++◌}
 use native.Mathlib.Omega.{arith}
-use Rattle.base.proofs.Buffers.{Written, written_none, written_all}
+use Rattle.base.proofs.Buffers.{Written, written_none, written_all, tail_room}
 use Rattle.base.proofs.Text.{put_more, tail_fits}
 use Rattle.rules.specs.File.{record_bytes, records_bytes, encode_as}
 use Rattle.rules.specs.Format.{file_records}
@@ -23,8 +23,14 @@ pub loop-n-init : goal.loop-n-init
 unfolding encode_as
 loop-n-init c = written_none _ _
 
+pub nth-requires : goal.nth-requires
+nth-requires c = c.loop-n-test.true
+
 pub write-at-requires : goal.write-at-requires
 write-at-requires c = tail_fits _ _ (now (goal.at.write-at-requires c).After-nth) c.requires
+
+pub overflow_add-at : goal.overflow_add-at
+overflow_add-at c = omega (arith, tail_room (record_bytes c.args.d.now (slot_in c.nth.result.slot) c.nth.result.place) _ (now (goal.at.overflow_add-at c).After-nth) c.requires)
 
 pub loop-n-preserved : goal.loop-n-preserved
 loop-n-preserved c = put_more _ _ (now (goal.at.loop-n-preserved c).After-nth) c.requires c.write-at.ensures
