@@ -1,3 +1,2 @@
 pub mod Console
-pub mod Files
 pub mod Lines

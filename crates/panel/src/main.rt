@@ -3,7 +3,6 @@
 // over it, as in the layers below (unit).
 #![tactic(auto)]
 
-mod files;
 mod output;
 
 ghost use Rattle.std.specs.Prelude.{◌≤◌, ◌≡◌, length};
@@ -21,7 +20,7 @@ ghost use Rattle.panel.specs.Lines.{kept_bytes, keeping, ByEvents, Answered, Fed
 use arrayvec::ArrayVec;
 use command::Command;
 use desk::Desk;
-use files::Failure;
+use disk::Failure;
 use input::MOST_READ;
 use output::Output;
 use pages::LONGEST_PAGE;
@@ -152,7 +151,7 @@ fn load(rt: &impl Files, c: &mut Console, path: &[u8], out: &mut [u8; LONGEST_PA
     ensures { (h : Desks.Desk) → KeepsDesk c.old.desk h → Turns (Loads (state_of h c.old.office) path.now) out.old out.new (turn c.new result) }
 {
     let mut file = [0u8; MOST_READ];
-    match files::read(rt, path, &mut file) {
+    match disk::read(rt, path, &mut file) {
         Ok(count) => listing::put_done(out, desk::load(&mut c.desk, c.office, &file[..count])),
         Err(Failure::Open) => listing::put_failed(out, b"cannot open ", path),
         Err(Failure::Read) => listing::put_failed(out, b"cannot read ", path),
@@ -171,7 +170,7 @@ fn export<H: Files + RandomSource>(
     let mut file = [0u8; LONGEST_FILE];
     let answer = station::export(&c.desk.station, c.office, &mut file);
     if let Ok(n) = answer {
-        if files::save(rt, path, &file[..n]).is_err() {
+        if disk::save(rt, path, &file[..n]).is_err() {
             return listing::put_failed(out, b"cannot write ", path);
         }
     }

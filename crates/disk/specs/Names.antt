@@ -1,6 +1,10 @@
 -- The name of a new file.
 use Rattle.std.specs.Prelude.{ℕ, ◌≤◌, ◌⊎◌}
 
+-- no longer path is opened
+abbrev pub longest_path : ℕ
+longest_path = 4_095
+
 -- how many letters or digits stand behind the point
 abbrev pub letters : ℕ
 letters = 6

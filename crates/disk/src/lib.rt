@@ -1,9 +1,10 @@
-// Reading a file and putting another in its place.
+// A file read from the disk, and one put in the place of another.
+#![tactic(auto)]
+
 ghost use Rattle.std.specs.Prelude.{◌≡◌, ◌+◌, ◌-◌, ◌<◌, ◌≤◌, ◌++◌, All, IfOk, length, take};
 ghost use Rattle.std.specs.Io.{ReadsAtMost};
 ghost use Rattle.base.specs.Text.{text};
-ghost use Rattle.panel.specs.Files.{IsLetterOrDigit, letters};
-ghost use Rattle.panel.specs.Lines.{kept_bytes};
+ghost use Rattle.disk.specs.Names.{longest_path, IsLetterOrDigit, letters};
 
 use arrayvec::ArrayVec;
 use std::fs::{File, OpenFile};
@@ -11,6 +12,9 @@ use std::io::{ErrorKind, Write};
 use std::random::RandomSource;
 use std::rt::Files;
 use std::{fs, io, str};
+
+// The system opens no file whose path has more bytes.
+pub const LONGEST_PATH: usize = 4095;
 
 // What kept a file from being read.
 #[derive(Clone, Copy)]
@@ -33,7 +37,7 @@ pub fn read(rt: &impl Files, path: &[u8], space: &mut [u8]) -> Result<usize, Fai
 // The name of the new file beside the path. What stands for the X's is found when the file is made.
 #[tactic(auto, unfolding(base::specs::Text::text))]
 fn new_name(path: &[u8]) -> ArrayVec<u8, LONGEST_NAME>
-    requires { length path.now ≤ kept_bytes }
+    requires { length path.now ≤ longest_path }
     ensures { result.items ≡ path.now ++ text ".XXXXXX" }
 {
     let mut name = ArrayVec::new();
@@ -45,8 +49,8 @@ fn new_name(path: &[u8]) -> ArrayVec<u8, LONGEST_NAME>
 // How many letters or digits stand for the X's.
 const LETTERS: usize = 6;
 
-// A name has room in as many bytes: what is kept of a line, a point and the letters.
-const LONGEST_NAME: usize = crate::KEPT + 1 + LETTERS;
+// A name has room in as many bytes: the path, a point and the letters.
+const LONGEST_NAME: usize = LONGEST_PATH + 1 + LETTERS;
 
 // As many names are tried as C's `mkstemp` tries.
 const MOST_NAMES: usize = 62 * 62 * 62;
@@ -140,9 +144,10 @@ fn replace<R: Files + RandomSource>(
 
 // Puts the bytes in the place of the file at the path. The old file stays as it was until all of the new one is on the
 // disk, and for good where that fails.
-pub fn save<R: Files + RandomSource>(rt: &R, path: &[u8], bytes: &[u8]) -> io::Result<()>
-    requires { length path.now ≤ kept_bytes }
-{
+pub fn save<R: Files + RandomSource>(rt: &R, path: &[u8], bytes: &[u8]) -> io::Result<()> {
+    if LONGEST_PATH < path.len() {
+        return Err(io::Error::from(ErrorKind::InvalidFilename));
+    }
     let mut name = new_name(path);
     replace(rt, path, name.as_mut_slice(), bytes)
 }
