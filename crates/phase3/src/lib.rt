@@ -53,7 +53,6 @@ fn next_change(
 
 // Makes the first change that counts, and starts anew, until no change counts. Returns how many were made. A loop, as phase 1's
 // steps.
-#[tactic(auto, using(crate::proofs::ChangeSearch::under_end, crate::proofs::ChangeSearch::under_small))]
 pub fn improve(planning: &mut Planning<'_>) -> u64
     ensures same_table { planning.new.t ≡ planning.old.t }
     ensures choice_after { let p = planning.old in planning.new.draft.choice ≡ (phase3 (table_in p.t) (leaders_in p.t) p.draft.choice).last }

@@ -43,7 +43,6 @@ impl<'a> Look<'a> {
 
     // A pair with strategy a for segment i may count: it is another one, more than the present with the greatest benefit of
     // segment k, and the resource asked first does not refuse it where segment k gets nothing.
-    #[tactic(auto, using(crate::proofs::Remembered::with_same, crate::proofs::Remembered::with_low))]
     fn with_may_count(&'a self, a: usize, row: &mut Row, asked: usize) -> bool
         requires { a ≤ (size_at self.now).strategies }
         ensures { WithTestAt self.now a row.old row.new result }

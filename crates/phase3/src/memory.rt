@@ -57,7 +57,6 @@ fn place(i: usize, k: usize) -> (usize, usize)
 
 impl Memory {
     // The pair's row still holds, so none of its changes counts.
-    #[tactic(auto, using(crate::proofs::Rows::still_none))]
     pub fn rules_out(&self, pair: &Pair<'_>) -> bool
         requires { Kept pair.now.pass.now self.now }
         ensures still { let p = pair.now in result ≡ holds_still p (row_of self.now.rows p.i p.k) }

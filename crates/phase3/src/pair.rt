@@ -30,7 +30,6 @@ impl Pair<'_> {
     }
 
     // The greatest benefits of both are more than the present ones.
-    #[tactic(auto, using(crate::proofs::ChangeSearch::top_le))]
     pub fn may_rise(&self) -> bool
         ensures { let p = self.now.pass.now in result ≡ pair_may_rise (table_of p) (choice_of p) self.now.i self.now.k }
     {

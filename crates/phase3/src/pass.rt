@@ -104,7 +104,7 @@ impl Pass<'_> {
 
     // The first pair that counts, ordered by the lower segment, the higher one, and then the strategy of each. Loops: a proof
     // knows nothing of what a chain's closure changes, here the memory.
-    #[tactic(auto, using(crate::proofs::ChangeSearch::of_low, crate::proofs::ChangeSearch::from_none, crate::proofs::ChangeSearch::pairs_end, crate::proofs::ChangeSearch::found_pair))]
+    #[tactic(auto, using(crate::proofs::ChangeSearch::of_low, crate::proofs::ChangeSearch::from_none, crate::proofs::ChangeSearch::pairs_end))]
     fn first_two(&self, memory: &mut Memory) -> Option<Change>
         requires { Kept self.now memory.old }
         ensures found { FoundBy first_pair self.now result }
@@ -123,7 +123,6 @@ impl Pass<'_> {
 
     // The first change that counts: single changes come before pairs. A match: with `or_else` a proof knows nothing of what the
     // closure leaves in the memory.
-    #[tactic(auto, using(crate::proofs::ChangeSearch::change_single))]
     pub fn first_change(&self, memory: &mut Memory) -> Option<Change>
         requires { Kept self.now memory.old }
         ensures found { FoundBy change self.now result }
