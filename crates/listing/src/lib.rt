@@ -40,7 +40,7 @@ pub fn put_number(out: &mut [u8], value: usize) -> usize
 }
 
 // A word and a number, the same with an end behind them, and as a line.
-#[tactic(auto, using(base::proofs::Text::front_fits, crate::proofs::Pieces::second_fits, crate::proofs::Pieces::put_two), unfolding(crate::specs::Listing::named))]
+#[tactic(auto, unfolding(crate::specs::Listing::named))]
 pub fn put_named(out: &mut [u8], word: &[u8], value: usize) -> usize
     requires { length (named word.now value) ≤ length out.old }
     ensures { Put (named word.now value) out.old out.new result }
@@ -49,7 +49,7 @@ pub fn put_named(out: &mut [u8], word: &[u8], value: usize) -> usize
     at + put_number(&mut out[at..], value)
 }
 
-#[tactic(auto, using(base::proofs::Text::front_fits, crate::proofs::Pieces::second_fits, crate::proofs::Pieces::put_two), unfolding(crate::specs::Listing::ended))]
+#[tactic(auto, unfolding(crate::specs::Listing::ended))]
 fn put_ended(out: &mut [u8], word: &[u8], value: usize, end: &[u8]) -> usize
     requires { length (ended word.now value end.now) ≤ length out.old }
     ensures { Put (ended word.now value end.now) out.old out.new result }
@@ -67,7 +67,7 @@ fn put_line(out: &mut [u8], word: &[u8], value: usize) -> usize
 }
 
 // Two numbers in a line, each behind its word.
-#[tactic(auto, using(base::proofs::Text::front_fits, crate::proofs::Pieces::second_fits, crate::proofs::Pieces::put_two), unfolding(crate::specs::Listing::pair_line))]
+#[tactic(auto, unfolding(crate::specs::Listing::pair_line))]
 fn put_pair(out: &mut [u8], first: &[u8], a: usize, second: &[u8], b: usize) -> usize
     requires { length (pair_line first.now a second.now b) ≤ length out.old }
     ensures { Put (pair_line first.now a second.now b) out.old out.new result }
@@ -78,7 +78,7 @@ fn put_pair(out: &mut [u8], first: &[u8], a: usize, second: &[u8], b: usize) -> 
 
 // ---- a programme
 
-#[tactic(auto, using(base::proofs::Text::front_fits, crate::proofs::Pieces::second_fits, crate::proofs::Pieces::put_two), unfolding(crate::specs::Listing::segment_line, base::specs::Text::text))]
+#[tactic(auto, unfolding(crate::specs::Listing::segment_line, base::specs::Text::text))]
 fn put_segment_line(out: &mut [u8], segment: usize, strategy: usize) -> usize
     requires { length (segment_line segment strategy) ≤ length out.old }
     ensures { Put (segment_line segment strategy) out.old out.new result }
@@ -100,17 +100,22 @@ fn put_segment_lines(out: &mut [u8], strategies: &[usize]) -> usize
     at
 }
 
-#[tactic(auto, using(base::proofs::Text::front_fits, crate::proofs::Pieces::second_of_three_fits, crate::proofs::Pieces::third_fits, crate::proofs::Pieces::put_three), unfolding(crate::specs::Listing::steps_line, base::specs::Text::text))]
+#[tactic(auto, unfolding(crate::specs::Listing::steps_line, crate::specs::Listing::pair_line, base::specs::Text::text))]
 fn put_steps_line(out: &mut [u8], p: &Programme) -> usize
     requires { length (steps_line p.now) ≤ length out.old }
     ensures { Put (steps_line p.now) out.old out.new result }
 {
-    let mut at = put_named(out, b"steps ", p.steps as usize);
-    at += put_named(&mut out[at..], b" ", p.pickups as usize);
-    at + put_line(&mut out[at..], b" ", p.changes as usize)
+    let at = put_named(out, b"steps ", p.steps as usize);
+    at + put_pair(
+        &mut out[at..],
+        b" ",
+        p.pickups as usize,
+        b" ",
+        p.changes as usize,
+    )
 }
 
-#[tactic(auto, using(base::proofs::Text::front_fits, crate::proofs::Pieces::second_of_three_fits, crate::proofs::Pieces::third_fits, crate::proofs::Pieces::put_three), unfolding(crate::specs::Listing::results, base::specs::Text::text))]
+#[tactic(auto, unfolding(crate::specs::Listing::results, base::specs::Text::text))]
 fn put_results(out: &mut [u8], p: &Programme) -> usize
     requires { length (results p.now) ≤ length out.old }
     ensures { Put (results p.now) out.old out.new result }
@@ -171,7 +176,7 @@ pub fn put_done(out: &mut [u8], answer: Answer) -> usize
 }
 
 // Of an edit that a step carried out, with the number of its console: the line is of any number, so it takes no Console.
-#[tactic(auto, using(base::proofs::Text::front_fits, crate::proofs::Pieces::second_fits, crate::proofs::Pieces::put_two, crate::proofs::Lengths::console_fits, crate::proofs::Lengths::carried_fits), unfolding(crate::specs::Listing::carried, base::specs::Text::text))]
+#[tactic(auto, unfolding(crate::specs::Listing::carried, base::specs::Text::text))]
 pub fn put_carried(out: &mut [u8], console: usize, answer: Answer) -> usize
     requires { longest_stepped ≤ length out.old }
     ensures { Put (carried console (answer_in answer)) out.old out.new result }
@@ -225,7 +230,7 @@ fn put_over(out: &mut [u8], resource: usize, end: &[u8]) -> usize
     put_ended(out, b"over limit ", resource, end)
 }
 
-#[tactic(auto, using(crate::proofs::Lengths::pair_fits, crate::proofs::Lengths::over_fits), unfolding(crate::specs::Listing::reason_line, base::specs::Text::text))]
+#[tactic(auto, unfolding(crate::specs::Listing::reason_line, base::specs::Text::text))]
 fn put_reason(out: &mut [u8], reason: Reason) -> usize
     requires { longest_reason ≤ length out.old }
     ensures { Put (reason_line reason) out.old out.new result }
@@ -277,7 +282,7 @@ pub fn put_roughness(out: &mut [u8], roughness: Result<Roughness, Refusal>) -> u
 
 // ---- a file that could not be had
 
-#[tactic(auto, using(base::proofs::Text::front_fits, crate::proofs::Pieces::second_of_three_fits, crate::proofs::Pieces::third_fits, crate::proofs::Pieces::put_three), unfolding(crate::specs::Listing::failed, base::specs::Text::text))]
+#[tactic(auto, unfolding(crate::specs::Listing::failed, base::specs::Text::text))]
 pub fn put_failed(out: &mut [u8], what: &[u8], path: &[u8]) -> usize
     requires { length (failed what.now path.now) ≤ length out.old }
     ensures { Put (failed what.now path.now) out.old out.new result }

@@ -1,9 +1,18 @@
--- `listing::put_steps_line` meets its contract: three pieces, one after another.
+-- `listing::put_steps_line` meets its contract: two pieces, one after another.
 use Rattle.base.specs.Text.{text}
-use Rattle.listing.specs.Listing.{named, line, steps_line}
-use Rattle.listing.proofs.Pieces.{put_three}
+use Rattle.base.proofs.Text.{front_fits}
+use Rattle.listing.specs.Listing.{steps_line, pair_line}
+use Rattle.listing.proofs.Pieces.{second_fits, put_two}
 use Rattle.listing.proofs.put_steps_line.Goals as goal
 
+pub put_named-at-requires : goal.put_named-at-requires
+unfolding steps_line pair_line text
+put_named-at-requires c = front_fits _ _ c.requires
+
+pub put_pair-requires : goal.put_pair-requires
+unfolding steps_line pair_line text
+put_pair-requires c = second_fits _ _ c.requires c.put_named-at.ensures
+
 pub returns : goal.returns
-unfolding steps_line text
-returns c = put_three (named (text "steps ") c.args.p.now.steps) (named (text " ") c.args.p.now.pickups) (line (text " ") c.args.p.now.changes) c.requires c.put_named-at.ensures c.put_named-at-2.ensures c.put_line.ensures
+unfolding steps_line pair_line text
+returns c = put_two _ _ c.requires c.put_named-at.ensures c.put_pair.ensures
