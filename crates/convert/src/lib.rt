@@ -13,7 +13,6 @@ use grammar::Form;
 use rules::{Answer, Refusal};
 
 // The contract also says that down gives the file back, and that both load alike.
-#[tactic(auto, using(crate::proofs::Turns::up_and_down))]
 pub fn up(file: &[u8], out: &mut [u8]) -> Answer
     ensures same { record { answer = answer_in result; buffer = out.new } ≡ up_of file.now out.old }
     ensures back { UpAndDown file.now }
@@ -23,7 +22,6 @@ pub fn up(file: &[u8], out: &mut [u8]) -> Answer
 }
 
 // The contract also says that up gives the file back, and that both load alike. A leader that would be lost is refused.
-#[tactic(auto, using(crate::proofs::Turns::down_and_up))]
 pub fn down(file: &[u8], out: &mut [u8]) -> Answer
     ensures same { record { answer = answer_in result; buffer = out.new } ≡ down_of file.now out.old }
     ensures back { DownAndUp file.now }

@@ -2,8 +2,10 @@
 use Prim.Native.Nat.{ℕ}
 use mathlib.Core.Path.{◌≡◌, refl, ap, ◌∙◌}
 use mathlib.Core.Bool.{Bool, true, false}
-use Rattle.std.specs.Prelude.{Option, None, Some, Ok, Err}
+use Rattle.std.specs.Prelude.{Option, None, Some, Result, Ok, Err}
 use Rattle.std.specs.Option.{is_some, ok_or}
+use Rattle.std.specs.Result.{IsErrAnd}
+use Rattle.std.proofs.lemmas.Result.{err_from_is_err_and}
 use native.Mathlib.Omega.{arith}
 use borrow.Author.Tests.{eqb-true}
 use lib.Dec.{eqb}
@@ -52,8 +54,14 @@ module _ (n : ℕ) where
       go None f = (refl, cc)
       go (Some w) f = cc
 
--- what the check takes from a conversion
-pub ruleset naming = (which_named, none_named, named_some)
+  -- its refusal is handed on
+  pub nobody :
+      {T : Type 0} (e : Refusal) (r : Result T Refusal) → Err e ≡ ok_or (office_of n) NoSuchOffice → IsErrAnd r (λ x. x ≡ e)
+      → (r ≡ Err NoSuchOffice) × (office_of n ≡ None)
+  nobody e r named handed =
+      let k = err_from_is_err_and r handed in
+      let none = none_named e named in
+      (rw (k.1, k.2, none.1), none.0)
 
 -- a number names one office only
 pub for_named : (P : Which → Type 0) (n : ℕ) (w : Which) → n ≡ office_number w → P w → (v : Which) → n ≡ office_number v → P v

@@ -5,8 +5,8 @@ use mathlib.Core.Bool.{false}
 use mathlib.Core.List.{List, []}
 use Rattle.std.specs.Prelude.{Option, None, Some}
 use Rattle.rules.specs.District.{District}
-use Rattle.rules.specs.Answers.{no_such_office, answer_of, Answer, Answered, Refused}
-use Rattle.rules.specs.Calls.{Export, export_of, page_of, explained, why_of, Why}
+use Rattle.rules.specs.Answers.{no_such_office, answer_of, Answer, Answered, Accepted, Refused}
+use Rattle.rules.specs.Calls.{Export, export_of, page_of, explained, show_of, why_of, Why}
 use Rattle.rules.specs.Lists.{Call, ExportTo, PageTo, Show, AskWhy, lent_to, written, outcome_of}
 use Rattle.rules.specs.Meter.{points_unless, roughness_of}
 use Rattle.rules.specs.Offices.{Held, OfficeCall, Plan, AskRoughness, lent_bytes, planned, office_outcome}
@@ -18,7 +18,7 @@ use Rattle.stations.proofs.EveryStationAnswer.{both_stay}
 use Rattle.station.specs.Kept.{office_in, KeepsBoth, ReportsBoth, units_in, Lends}
 use Rattle.station.specs.Questions.{shown_for, why_for, roughness_for, without_value}
 use Rattle.station.specs.declared.Station.{Station}
-use Rattle.station.proofs.Numbers.{some_named, naming}
+use Rattle.station.proofs.Numbers.{some_named, named_some}
 use Rattle.station.proofs.Units.{unit_in}
 use Rattle.rules.specs.declared.Roughness.{Roughness}
 use Rattle.rules.specs.declared.Which.{Which}
@@ -111,8 +111,41 @@ module _ (s : Station) (n : ℕ) where
   roughness_answers a b keeps tells =
       let out = roughness_told b n in record { answer = rw (tells, out); station = rw out keeps }
 
--- what the check takes for these calls
-pub ruleset asking = (naming, told_nobody, show_answers, why_answers, unit_in)
+-- what is told to an office, by what its unit, or its window, says, and to none
+
+module _ (n : ℕ) (b : Both Held) where
+  module _ (none : office_of n ≡ None) where
+    pub shown_nobody : Refused no_such_office ≡ shown_for (office_of n) b
+    unfolding shown_for
+    shown_nobody = rw none
+
+    pub why_nobody : (i j : ℕ) → Refused no_such_office ≡ why_for (office_of n) b i j
+    unfolding why_for
+    why_nobody i j = rw none
+
+    pub roughness_nobody : Refused no_such_office ≡ roughness_for (office_of n) b
+    unfolding roughness_for
+    roughness_nobody = rw none
+
+  module _ (w : Which) (named : n ≡ office_number w) where
+    shown_named : (p : Programme) → p ≡ show_of (own w b).unit → Accepted p ≡ shown_for (office_of n) b
+    unfolding shown_for
+    shown_named p e = rw (named_some n w named, e)
+
+    why_named : (i j : ℕ) (a : Why) → a ≡ why_of (own w b).unit i j → a ≡ why_for (office_of n) b i j
+    unfolding why_for
+    why_named i j a e = rw (named_some n w named) e
+
+    pub roughness_named : (a : Answered Roughness) → a ≡ roughness_of (own w b).heard → a ≡ roughness_for (office_of n) b
+    unfolding roughness_for
+    roughness_named a e = rw (named_some n w named) e
+
+module _ (s : Station) (n : ℕ) (w : Which) (named : n ≡ office_number w) where
+  pub shown_in : (p : Programme) → p ≡ show_of (office_in w s).unit → Accepted p ≡ shown_for (office_of n) (units_in s)
+  shown_in p e = shown_named n (units_in s) w named p (rw unit_in at e)
+
+  pub why_in : (i j : ℕ) (a : Why) → a ≡ why_of (office_in w s).unit i j → a ≡ why_for (office_of n) (units_in s) i j
+  why_in i j a e = why_named n (units_in s) w named i j a (rw unit_in at e)
 
 -- why, from what both hold
 pub why_kept :

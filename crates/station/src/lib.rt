@@ -102,7 +102,6 @@ fn bring(s: &mut Station, w: Which, d: District) -> Answer
     Ok(0)
 }
 
-#[tactic(auto, using(crate::proofs::Numbers::naming, crate::proofs::Replies::nobody_plans))]
 pub fn load(s: &mut Station, n: usize, bytes: &[u8]) -> Answer
     ensures { PlansBoth s.old n (Load bytes.now) (reply result s.new) }
 {
@@ -113,7 +112,6 @@ pub fn load(s: &mut Station, n: usize, bytes: &[u8]) -> Answer
 
 // ---- the other calls
 
-#[tactic(auto, using(crate::proofs::Numbers::naming, crate::proofs::Replies::nobody_plans))]
 pub fn alter(s: &mut Station, n: usize, e: Edit) -> Answer
     ensures { PlansBoth s.old n (Alter e) (reply result s.new) }
 {
@@ -122,7 +120,6 @@ pub fn alter(s: &mut Station, n: usize, e: Edit) -> Answer
 }
 
 // Blocks for the office's district, by a row of numbers, until its next accepted load. No row is refused.
-#[tactic(auto, using(crate::proofs::Numbers::naming, crate::proofs::Replies::nobody_plans))]
 pub fn choose(s: &mut Station, n: usize, row: &[usize]) -> Answer
     ensures { PlansBoth s.old n (ChooseBlocks row.now) (reply result s.new) }
 {
@@ -139,7 +136,6 @@ pub fn send(s: &mut Station, n: usize, sent: Sent) -> Answer
 }
 
 // The file of the office's district, written to the front of the buffer.
-#[tactic(auto, using(crate::proofs::Questions::asking), unfolding(rules::specs::Offices::lent_bytes, rules::specs::Lists::lent_to))]
 pub fn export(s: &Station, n: usize, buffer: &mut [u8]) -> Answer
     ensures { Lends s.now n (ExportTo buffer.old) (answer_in result) buffer.new }
 {
@@ -148,7 +144,6 @@ pub fn export(s: &Station, n: usize, buffer: &mut [u8]) -> Answer
 }
 
 // The page of the office's district and programme, written to the front of the buffer.
-#[tactic(auto, using(crate::proofs::Questions::asking), unfolding(rules::specs::Offices::lent_bytes, rules::specs::Lists::lent_to))]
 pub fn page(s: &Station, n: usize, buffer: &mut [u8]) -> Answer
     ensures { Lends s.now n (PageTo buffer.old) (answer_in result) buffer.new }
 {
@@ -157,7 +152,6 @@ pub fn page(s: &Station, n: usize, buffer: &mut [u8]) -> Answer
 }
 
 // The programme of the office, with totals, ceiling and counts.
-#[tactic(auto, using(crate::proofs::Questions::asking), unfolding(crate::specs::Questions::shown_for, rules::specs::Calls::show_of))]
 pub fn show(s: &Station, n: usize) -> Result<Programme, Refusal>
     ensures tells { answer_in result ≡ shown_for (office_of n) (units_in s.now) }
     ensures answers { Lends s.now n Show (without_value (answer_in result)) [] }
@@ -167,7 +161,6 @@ pub fn show(s: &Station, n: usize) -> Result<Programme, Refusal>
 }
 
 // Why a segment of the office has, or has not, a strategy.
-#[tactic(auto, using(crate::proofs::Questions::asking), unfolding(crate::specs::Questions::why_for))]
 pub fn why(s: &Station, n: usize, segment: usize, strategy: usize) -> Result<Reason, Refusal>
     ensures tells { answer_in result ≡ why_for (office_of n) (units_in s.now) segment strategy }
     ensures answers { Lends s.now n (AskWhy segment strategy) (without_value (answer_in result)) [] }
@@ -177,7 +170,6 @@ pub fn why(s: &Station, n: usize, segment: usize, strategy: usize) -> Result<Rea
 }
 
 // The points for the office's window, and the last marker's bits.
-#[tactic(auto, using(crate::proofs::Questions::asking), unfolding(crate::specs::Questions::roughness_for, crate::specs::Questions::without_value, rules::specs::Stations::station_outcome))]
 pub fn roughness(s: &Station, n: usize) -> Result<Roughness, Refusal>
     ensures tells { (b : Both Held) → KeepsNamed s.now n b → answer_in result ≡ roughness_for (office_of n) b }
     ensures answers { RepliesTo s.now (call_of n AskRoughness) (record { answer = without_value (answer_in result); station = s.now }) }

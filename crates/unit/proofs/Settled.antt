@@ -22,6 +22,3 @@ pub accepted :
     (u : Unit) (x : Choice) (d : District) (n : ℕ) → 0 ≡ n → record { answer = Accepted 0; unit = unit_with x d } ≡ answered u n x d
 unfolding answered answer_of accepting
 accepted u x d n is = rw (← is)
-
--- what the check takes for the calls that change the unit
-pub ruleset settled = (refused, accepted)

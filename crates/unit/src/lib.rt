@@ -61,7 +61,6 @@ pub fn fresh() -> Unit
 }
 
 // The district of the file in place of the one held, with no blocks chosen.
-#[tactic(auto, using(crate::proofs::Settled::settled), unfolding(rules::specs::Calls::load_of))]
 pub fn load(u: &mut Unit, bytes: &[u8]) -> Answer
     ensures { record { answer = answer_in result; unit = u.new } ≡ load_of u.old bytes.now }
 {
@@ -70,7 +69,6 @@ pub fn load(u: &mut Unit, bytes: &[u8]) -> Answer
 }
 
 // What a fresh unit makes of a file.
-#[tactic(auto, using(crate::proofs::Settled::settled), unfolding(rules::specs::Calls::load_of))]
 pub fn of_file(bytes: &[u8]) -> Result<Unit, Refusal>
     ensures { reply_in result ≡ load_of fresh_unit bytes.now }
 {
@@ -79,7 +77,7 @@ pub fn of_file(bytes: &[u8]) -> Result<Unit, Refusal>
 
 // The programme of that unit alone, for a caller who needs no unit: its district is left in the one that is lent, where nothing is
 // copied, and its ranges are tested by the reading alone. After a refusal, what is lent is no district.
-#[tactic(auto, using(grammar::proofs::InRanges::in_ranges, crate::proofs::Settled::settled), unfolding(rules::specs::Calls::load_of))]
+#[tactic(auto, using(grammar::proofs::InRanges::in_ranges))]
 pub fn plan_file(bytes: &[u8], d: &mut District) -> Result<Programme, Refusal>
     ensures { reply_in (planned_unit result d.new) ≡ load_of fresh_unit bytes.now }
 {
@@ -88,7 +86,6 @@ pub fn plan_file(bytes: &[u8], d: &mut District) -> Result<Programme, Refusal>
 }
 
 // Bar, unbar, set limit, set rating and set leader. The blocks chosen stay, whether they can be followed then or not.
-#[tactic(auto, using(crate::proofs::Settled::settled), unfolding(rules::specs::Calls::alter_of))]
 pub fn alter(u: &mut Unit, e: Edit) -> Answer
     ensures { record { answer = answer_in result; unit = u.new } ≡ alter_of u.old e }
 {
@@ -99,7 +96,7 @@ pub fn alter(u: &mut Unit, e: Edit) -> Answer
 }
 
 // Blocks for the district held, by a row of numbers, until the next load. No row is refused.
-#[tactic(auto, using(crate::proofs::Settled::settled), unfolding(rules::specs::Calls::choose_of))]
+#[tactic(auto, using(crate::proofs::Settled::accepted), unfolding(rules::specs::Calls::choose_of))]
 pub fn choose(u: &mut Unit, row: &[usize]) -> Answer
     ensures { record { answer = answer_in result; unit = u.new } ≡ choose_of u.old row.now }
 {

@@ -1,7 +1,15 @@
 -- `station::page` meets its contract.
-use Rattle.station.proofs.Numbers.{which_named}
-use Rattle.station.proofs.Questions.{page_told}
+use Rattle.rules.specs.Lists.{lent_to}
+use Rattle.rules.specs.Offices.{lent_bytes}
+use Rattle.station.proofs.Numbers.{which_named, nobody}
+use Rattle.station.proofs.Questions.{told_nobody, page_told}
 use Rattle.station.proofs.page.Goals as goal
+
+pub returns-in_err-w : goal.returns-in_err-w
+unfolding lent_bytes lent_to
+returns-in_err-w c =
+    let none = nobody c.args.n _ _ c.in_err-w.ensures c.from_residual.ensures.1 in
+    rw none.0 (told_nobody _ _ _ none.1)
 
 pub returns : goal.returns
 returns c = page_told _ _ _ (which_named _ _ c.in_ok-w.ensures) _ _ _ (rw c.own.ensures at c.page.ensures)
