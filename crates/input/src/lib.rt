@@ -15,7 +15,6 @@ pub const MOST_READ: usize = 4096;
 
 // Reads until the space is full or the input ends, and returns how many bytes stand at its front. The first read that
 // fails ends it, with that error; what was read before, too little to fill the space, stands at its front then too.
-#[tactic(auto, using(crate::proofs::Front::front))]
 pub fn read_full<R: Read>(input: &mut R, space: &mut [u8]) -> io::Result<usize>
     ensures bound { ReadsAtMost result space.new }
     ensures front { IfOk result (λ n. IfSome (R.remaining input.old) (λ bytes. take n space.new ≡ take (length space.old) bytes)) }
@@ -28,11 +27,11 @@ pub fn read_full<R: Read>(input: &mut R, space: &mut [u8]) -> io::Result<usize>
     // nothing of a shorter input, its `read_to_end` puts the bytes into a Vec, which is on a heap, and of an `io::copy` from a
     // `take` no clause says what is left of the input behind it.
     while done < space.len() {
-        let n = input.read(&mut space[done..])?;
-        if n == 0 {
-            return Ok(done);
+        match input.read(&mut space[done..]) {
+            Ok(0) => return Ok(done),
+            Ok(n) => done += n,
+            Err(error) => return Err(error),
         }
-        done += n;
     }
     Ok(done)
 }
