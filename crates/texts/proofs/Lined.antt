@@ -1,5 +1,5 @@
 -- The numbers of a record, and the records of a text, printed one after another.
-use Rattle.std.proofs.Common.{ℕ, suc, ◌+◌, ◌-◌, ◌≤◌, ◌<◌, ◌≡◌, true, false, List, ◌++◌, append-nil, length, refl, arith}
+use Rattle.std.proofs.Common.{ℕ, suc, ◌+◌, ◌-◌, ◌≤◌, ◌<◌, ◌≡◌, true, false, List, ◌++◌, append-nil, length, length-append, refl, arith}
 use Rattle.base.specs.Text.{text, decimal}
 use Rattle.base.proofs.Buffers.{Written}
 use Rattle.base.proofs.Text.{front_fits}
@@ -21,6 +21,10 @@ pub number_next :
     {old whole out : List ℕ} {at : ℕ} (d : District) (s : Slot) (m i place : ℕ) → i < m → Written old whole (numbers_text (m - i) d s i (place + i)) at out
     → Written old whole (due_text d s i (place + i) ++ numbers_text (m - (i + 1)) d s (i + 1) (place + (i + 1))) at out
 number_next d s m i place h w = rw (numbers_next d s m i place h) at w
+
+-- three pieces are within what the whole is within
+pub sizes : (a b c : List ℕ) {n : ℕ} → length (a ++ (b ++ c)) ≤ n → length a + length b + length c ≤ n
+sizes a b c h = omega (arith, length-append a (b ++ c), length-append b c)
 
 -- ---- a record's name
 
