@@ -3,7 +3,7 @@ ghost use Rattle.std.specs.Prelude.{◌≡◌, ◌+◌, ◌++◌, ◌≤◌, ◌
 ghost use Rattle.base.specs.Text.{text, digits_of, Put};
 ghost use Rattle.listing.specs.Listing.{refusal, longest_refusal};
 ghost use Rattle.texts.specs.Numbers.{written};
-ghost use Rattle.texts.specs.Complaints.{plain, fault_text, complaint_text, TooLong, InLine, OutOfRange};
+ghost use Rattle.texts.specs.Complaints.{plain, fault_text, complaint_text, TooLong, InLine, OtherWord, NumberMissing, NoNumber, OutOfRange, NumberTooMany, EndMissing};
 ghost use Rattle.texts.specs.Places.{refusal_at, place_text, EndsWithin, OtherKind, OtherLength, OutOfRange as OutsideRange, BehindEnd};
 ghost use Rattle.texts.specs.Pieces.{sign_of, piece_text, pieces_text, dots, due_text, longest_place};
 ghost use Rattle.grammar.specs.Slots.{form_number, slot_in};
@@ -163,59 +163,97 @@ fn put_out_of_range(out: &mut [u8], word: &[u8], lo: i128, hi: i128) -> usize
     )
 }
 
+fn put_other_word(out: &mut [u8], word: &[u8], kind: usize) -> usize
+    requires { length (fault_text (OtherWord word.now kind)) ≤ length out.old }
+    ensures { Put (fault_text (OtherWord word.now kind)) out.old out.new result }
+{
+    put_pieces(
+        out,
+        &[
+            Piece::Bytes(b"'"),
+            Piece::Plain(text::take(word, 20)),
+            Piece::Bytes(dots(word)),
+            Piece::Bytes(b"' is not the word due ('"),
+            Piece::Bytes(records::word_of(kind)),
+            Piece::Bytes(b"')"),
+        ],
+    )
+}
+
+#[tactic(auto, unfolding(crate::specs::Complaints::fault_text, crate::specs::Pieces::pieces_text, base::specs::Text::text))]
+fn put_number_missing(out: &mut [u8], stand: usize, due: usize) -> usize
+    requires { length (fault_text (NumberMissing stand due)) ≤ length out.old }
+    ensures { Put (fault_text (NumberMissing stand due)) out.old out.new result }
+{
+    put_pieces(
+        out,
+        &[
+            Piece::Bytes(b"a number is missing ("),
+            Piece::Number(stand),
+            Piece::Bytes(b" of "),
+            Piece::Number(due),
+            Piece::Bytes(b")"),
+        ],
+    )
+}
+
+fn put_no_number(out: &mut [u8], word: &[u8]) -> usize
+    requires { length (fault_text (NoNumber word.now)) ≤ length out.old }
+    ensures { Put (fault_text (NoNumber word.now)) out.old out.new result }
+{
+    put_pieces(
+        out,
+        &[
+            Piece::Bytes(b"'"),
+            Piece::Plain(text::take(word, 20)),
+            Piece::Bytes(dots(word)),
+            Piece::Bytes(b"' is not a number"),
+        ],
+    )
+}
+
+#[tactic(auto, unfolding(crate::specs::Complaints::fault_text, crate::specs::Pieces::pieces_text, base::specs::Text::text))]
+fn put_number_too_many(out: &mut [u8], due: usize) -> usize
+    requires { length (fault_text (NumberTooMany due)) ≤ length out.old }
+    ensures { Put (fault_text (NumberTooMany due)) out.old out.new result }
+{
+    put_pieces(
+        out,
+        &[
+            Piece::Bytes(b"a number too many ("),
+            Piece::Number(due),
+            Piece::Bytes(b" are due)"),
+        ],
+    )
+}
+
+fn put_end_missing(out: &mut [u8], kind: usize) -> usize
+    requires { length (fault_text (EndMissing kind)) ≤ length out.old }
+    ensures { Put (fault_text (EndMissing kind)) out.old out.new result }
+{
+    put_pieces(
+        out,
+        &[
+            Piece::Bytes(b"the end is missing ('"),
+            Piece::Bytes(records::word_of(kind)),
+            Piece::Bytes(b"' is due)"),
+        ],
+    )
+}
+
+// What is wrong with a line.
 fn put_fault(out: &mut [u8], fault: Fault) -> usize
     requires { length (fault_text (fault_in fault)) ≤ length out.old }
     ensures { Put (fault_text (fault_in fault.entry)) out.old out.new result }
 {
     match fault {
-        Fault::OtherWord(word, kind) => put_pieces(
-            out,
-            &[
-                Piece::Bytes(b"'"),
-                Piece::Plain(text::take(word, 20)),
-                Piece::Bytes(dots(word)),
-                Piece::Bytes(b"' is not the word due ('"),
-                Piece::Bytes(records::word_of(kind)),
-                Piece::Bytes(b"')"),
-            ],
-        ),
-        Fault::NumberMissing(stand, due) => put_pieces(
-            out,
-            &[
-                Piece::Bytes(b"a number is missing ("),
-                Piece::Number(stand),
-                Piece::Bytes(b" of "),
-                Piece::Number(due),
-                Piece::Bytes(b")"),
-            ],
-        ),
-        Fault::NoNumber(word) => put_pieces(
-            out,
-            &[
-                Piece::Bytes(b"'"),
-                Piece::Plain(text::take(word, 20)),
-                Piece::Bytes(dots(word)),
-                Piece::Bytes(b"' is not a number"),
-            ],
-        ),
+        Fault::OtherWord(word, kind) => put_other_word(out, word, kind),
+        Fault::NumberMissing(stand, due) => put_number_missing(out, stand, due),
+        Fault::NoNumber(word) => put_no_number(out, word),
         Fault::OutOfRange(word, lo, hi) => put_out_of_range(out, word, lo, hi),
-        Fault::NumberTooMany(due) => put_pieces(
-            out,
-            &[
-                Piece::Bytes(b"a number too many ("),
-                Piece::Number(due),
-                Piece::Bytes(b" are due)"),
-            ],
-        ),
+        Fault::NumberTooMany(due) => put_number_too_many(out, due),
         Fault::BehindEnd => listing::put(out, b"something follows the end"),
-        Fault::EndMissing(kind) => put_pieces(
-            out,
-            &[
-                Piece::Bytes(b"the end is missing ('"),
-                Piece::Bytes(records::word_of(kind)),
-                Piece::Bytes(b"' is due)"),
-            ],
-        ),
+        Fault::EndMissing(kind) => put_end_missing(out, kind),
     }
 }
 
