@@ -7,6 +7,12 @@ use Rattle.rating.proofs.Chains.{from_1}
 use Rattle.reasons.proofs.Searches.{first_from_find_map, given_by}
 use Rattle.reasons.proofs.Question.missed_year.Goals as goal
 
+pub find_map-requires-clause-can : goal.find_map-requires-clause-can
+find_map-requires-clause-can c = tt
+
+pub find_map-requires-clause-finite : goal.find_map-requires-clause-finite
+find_map-requires-clause-finite c = tt
+
 pub returns : goal.returns
 unfolding holds
 returns c =
