@@ -63,6 +63,9 @@ module _ (n : ℕ) where
       let none = none_named e named in
       (rw (k.1, k.2, none.1), none.0)
 
+-- what the check takes from a conversion, where a crate above names an office
+pub ruleset naming = (which_named, none_named, named_some)
+
 -- a number names one office only
 pub for_named : (P : Which → Type 0) (n : ℕ) (w : Which) → n ≡ office_number w → P w → (v : Which) → n ≡ office_number v → P v
 for_named P n First e p First f = p
