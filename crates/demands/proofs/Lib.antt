@@ -12,3 +12,5 @@ pub mod OneHolds
 pub mod GoodBudget
 pub mod NoneGreater
 pub mod EveryBlockPlan
+pub mod stations
+pub mod desks

@@ -7,7 +7,7 @@ use Rattle.rules.specs.Desks.{console_of, arrival_refusal, arrival_of, Arrive, d
 use Rattle.rules.specs.Answers.{no_such_office, Refused}
 use Rattle.rules.specs.Stations.{office_number, office_of}
 use Rattle.rules.specs.declared.Waiting.{Waiting}
-use Rattle.desks.proofs.EveryArrival.{every_arrival}
+use Rattle.demands.proofs.desks.EveryArrival.{every_arrival}
 use Rattle.queues.specs.Waits.{queues_in, Arrival, Admits}
 use Rattle.queues.specs.declared.Queues.{Queues}
 use Rattle.station.proofs.Numbers.{named_some}

@@ -7,7 +7,7 @@ ghost use Rattle.rules.specs.DeskDemands.{EveryCall, EveryArrival, EveryStep, On
 ghost use Rattle.rules.specs.Desks.{fresh_desk};
 ghost use Rattle.rules.specs.Lists.{Load, Alter, ChooseBlocks};
 ghost use Rattle.station.specs.Kept.{PlansBoth, SendsBoth};
-ghost use Rattle.desks.specs.EachOffice.{EachOfficeServed};
+ghost use Rattle.demands.specs.desks.EachOffice.{EachOfficeServed};
 ghost use Rattle.desk.specs.Kept.{KeepsDesk, Arrives, Steps, Asks, reply, stepped};
 
 use queues::Queues;

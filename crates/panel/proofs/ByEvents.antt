@@ -16,7 +16,7 @@ use Rattle.rules.specs.Offices.{Plan}
 use Rattle.rules.specs.declared.Unit.{Unit}
 use Rattle.grammar.proofs.InRanges.{in_ranges}
 use Rattle.demands.proofs.Lists.{after_in}
-use Rattle.desks.proofs.EveryDesk.{every_desk}
+use Rattle.demands.proofs.desks.EveryDesk.{every_desk}
 use Rattle.station.specs.Kept.{office_in}
 use Rattle.command.specs.Reading.{command_in}
 use Rattle.command.specs.declared.Command.{Command}

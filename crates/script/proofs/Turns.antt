@@ -10,7 +10,7 @@ use Rattle.rules.specs.Calls.{show_of}
 use Rattle.rules.specs.Demands.{Sound}
 use Rattle.rules.specs.Desks.{fresh_desk, desk_by, answer_to, desk_from, desk_after}
 use Rattle.rules.specs.DeskDemands.{desk_district}
-use Rattle.desks.proofs.EveryDesk.{every_desk}
+use Rattle.demands.proofs.desks.EveryDesk.{every_desk}
 use Rattle.station.specs.Kept.{office_in}
 use Rattle.desk.specs.Kept.{KeepsDesk, DeskReply, Happens}
 use Rattle.desk.specs.declared.Desk.{Desk}

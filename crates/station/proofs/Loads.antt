@@ -11,9 +11,9 @@ use Rattle.rules.specs.Offices.{OfficeCall, Plan, office_refusal, OfficeOutcome}
 use Rattle.rules.specs.Stations.{other, own, office_number, refusal_beside, with_tables}
 use Rattle.rules.specs.declared.Unit.{Unit}
 use Rattle.office.specs.declared.Office.{Office}
-use Rattle.stations.proofs.Calls.{refusal_by}
-use Rattle.stations.proofs.EveryStationAnswer.{every_station_answer}
-use Rattle.stations.proofs.Reloads.{load_same, load_alone, load_in_use}
+use Rattle.demands.proofs.stations.Calls.{refusal_by}
+use Rattle.demands.proofs.stations.EveryStationAnswer.{every_station_answer}
+use Rattle.demands.proofs.stations.Reloads.{load_same, load_alone, load_in_use}
 use Rattle.station.specs.Kept.{office_in, units_in, PlansBoth}
 use Rattle.station.specs.declared.Station.{Station}
 use Rattle.station.proofs.Replies.{named_refused, plans}

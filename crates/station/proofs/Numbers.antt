@@ -18,7 +18,7 @@ use Rattle.rules.specs.declared.Which.TheVariants.{First, Second}
 use Rattle.rules.specs.declared.refusals.Refusal.{Refusal}
 use Rattle.rules.specs.declared.refusals.Refusal.TheVariants.{NoSuchOffice}
 use Rattle.office.specs.declared.Office.{Office}
-use Rattle.stations.proofs.Calls.{number_named}
+use Rattle.demands.proofs.stations.Calls.{number_named}
 use Rattle.station.specs.Kept.{is_office, office_in, KeepsBoth}
 use Rattle.station.specs.declared.Station.{Station}
 

@@ -13,8 +13,8 @@ use Rattle.rules.specs.Offices.{Held, OfficeCall, Plan, AskRoughness, lent_bytes
 use Rattle.rules.specs.Stations.{Both, own, office_number, office_of, call_of, brings_tables, station_outcome}
 use Rattle.rules.specs.declared.Programme.{Programme}
 use Rattle.rules.specs.declared.Unit.{Unit}
-use Rattle.stations.proofs.Calls.{outcome_nobody}
-use Rattle.stations.proofs.EveryStationAnswer.{both_stay}
+use Rattle.demands.proofs.stations.Calls.{outcome_nobody}
+use Rattle.demands.proofs.stations.EveryStationAnswer.{both_stay}
 use Rattle.station.specs.Kept.{office_in, KeepsBoth, ReportsBoth, units_in, Lends}
 use Rattle.station.specs.Questions.{shown_for, why_for, roughness_for, without_value}
 use Rattle.station.specs.declared.Station.{Station}

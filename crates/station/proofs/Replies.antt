@@ -13,9 +13,9 @@ use Rattle.rules.specs.declared.Unit.{Unit}
 use Rattle.meter.specs.declared.Window.{Window}
 use Rattle.office.specs.Kept.{Keeps, OfficeReply, Plans, Sends}
 use Rattle.office.specs.declared.Office.{Office}
-use Rattle.stations.proofs.Calls.{own_part, other_part, outcome_nobody}
-use Rattle.stations.proofs.EveryStationAnswer.{as_alone}
-use Rattle.stations.proofs.Lists.{each}
+use Rattle.demands.proofs.stations.Calls.{own_part, other_part, outcome_nobody}
+use Rattle.demands.proofs.stations.EveryStationAnswer.{as_alone}
+use Rattle.demands.proofs.stations.Lists.{each}
 use Rattle.station.specs.Kept.{office_in, with_office, StationReply, KeepsBoth, RepliesTo, units_in, PlansBoth, Lends, SendsBoth}
 use Rattle.station.specs.declared.Station.{Station}
 use Rattle.station.proofs.Numbers.{named_some, named_office, for_named}

@@ -12,7 +12,7 @@ ghost use Rattle.rules.specs.Lists.{Load, Alter, ChooseBlocks, ExportTo, PageTo,
 ghost use Rattle.rules.specs.Offices.{Held, AskRoughness};
 ghost use Rattle.rules.specs.StationDemands.{EveryStationAnswer, EveryStationFile, EveryStation, TablesAgree, LeavingOut};
 ghost use Rattle.rules.specs.Stations.{Both, other, office_number, office_of, fresh_both, call_of};
-ghost use Rattle.stations.specs.EachOffice.{EachOffice};
+ghost use Rattle.demands.specs.stations.EachOffice.{EachOffice};
 ghost use Rattle.station.specs.Kept.{office_in, reply, KeepsBoth, RepliesTo, units_in, PlansBoth, Lends, KeepsNamed, SendsBoth};
 ghost use Rattle.station.specs.Lending.{LendsOffice};
 ghost use Rattle.station.specs.Questions.{shown_for, why_for, roughness_for, without_value};
@@ -79,7 +79,7 @@ fn own_mut(s: &mut Station, w: Which) -> &mut Office
 // ---- load
 
 // The shared tables of the district in place of a unit's own, and nothing to plan; the blocks chosen stay.
-#[tactic(auto, using(stations::proofs::NoSegments::tables_unplanned), unfolding(rules::specs::Calls::unit_with))]
+#[tactic(auto, using(demands::proofs::stations::NoSegments::tables_unplanned), unfolding(rules::specs::Calls::unit_with))]
 fn take_tables(u: &mut Unit, d: &District)
     ensures { u.new ≡ unit_with u.old.choice (shared_tables d.now) }
 {

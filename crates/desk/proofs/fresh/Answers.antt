@@ -1,14 +1,14 @@
 -- `desk::fresh` meets its contract.
 use Rattle.rules.specs.Desks.{fresh_desk}
-use Rattle.desks.proofs.CarriedInTime.{carried_in_time}
-use Rattle.desks.proofs.EachOffice.{each_office_served}
-use Rattle.desks.proofs.EveryArrival.{every_arrival}
-use Rattle.desks.proofs.EveryCall.{every_call}
-use Rattle.desks.proofs.EveryDesk.{every_desk}
-use Rattle.desks.proofs.EveryRun.{every_run}
-use Rattle.desks.proofs.EveryStep.{every_step}
-use Rattle.desks.proofs.NobodyStarves.{nobody_starves}
-use Rattle.desks.proofs.OnceInOrder.{once_in_order}
+use Rattle.demands.proofs.desks.CarriedInTime.{carried_in_time}
+use Rattle.demands.proofs.desks.EachOffice.{each_office_served}
+use Rattle.demands.proofs.desks.EveryArrival.{every_arrival}
+use Rattle.demands.proofs.desks.EveryCall.{every_call}
+use Rattle.demands.proofs.desks.EveryDesk.{every_desk}
+use Rattle.demands.proofs.desks.EveryRun.{every_run}
+use Rattle.demands.proofs.desks.EveryStep.{every_step}
+use Rattle.demands.proofs.desks.NobodyStarves.{nobody_starves}
+use Rattle.demands.proofs.desks.OnceInOrder.{once_in_order}
 use Rattle.desk.proofs.fresh.Goals as goal
 
 pub returns : goal.returns

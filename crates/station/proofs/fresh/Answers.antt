@@ -1,13 +1,13 @@
 -- `station::fresh` meets its contract.
 use Rattle.rules.specs.Stations.{own, fresh_both}
 use Rattle.office.specs.Kept.{Keeps}
-use Rattle.stations.proofs.EachOffice.{each_office}
-use Rattle.stations.proofs.EveryStation.{every_station}
-use Rattle.stations.proofs.EveryStationAnswer.{every_station_answer}
-use Rattle.stations.proofs.EveryStationFile.{every_station_file}
-use Rattle.stations.proofs.LeavingOut.{leaving_out}
-use Rattle.stations.proofs.Lists.{each}
-use Rattle.stations.proofs.TablesAgree.{tables_agree}
+use Rattle.demands.proofs.stations.EachOffice.{each_office}
+use Rattle.demands.proofs.stations.EveryStation.{every_station}
+use Rattle.demands.proofs.stations.EveryStationAnswer.{every_station_answer}
+use Rattle.demands.proofs.stations.EveryStationFile.{every_station_file}
+use Rattle.demands.proofs.stations.LeavingOut.{leaving_out}
+use Rattle.demands.proofs.stations.Lists.{each}
+use Rattle.demands.proofs.stations.TablesAgree.{tables_agree}
 use Rattle.station.specs.Kept.{office_in}
 use Rattle.rules.specs.declared.Which.TheVariants.{First}
 use Rattle.station.proofs.fresh.Goals as goal

@@ -1,0 +1,2 @@
+pub mod stations
+pub mod desks

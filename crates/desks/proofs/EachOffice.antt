@@ -1,8 +1,0 @@
--- Ratings, pages, reasons, total and ceiling of each office after any list of events: as after the calls that the events make.
-use Rattle.rules.specs.Desks.{calls_in}
-use Rattle.stations.proofs.EachOffice.{each_office}
-use Rattle.desks.specs.EachOffice.{EachOfficeServed}
-use Rattle.desks.proofs.EveryDesk.{held_after}
-
-pub each_office_served : EachOfficeServed
-each_office_served es w = rw (held_after es) (each_office (calls_in es) w)
