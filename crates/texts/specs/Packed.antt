@@ -1,6 +1,6 @@
 -- docs/FILE.md, "The test card" and "The card with one thing changed": texts of the card's district and what pack prints for them, computed;
 -- and texts for what that page says and its examples do not show.
-use Rattle.std.specs.Prelude.{ℕ, ◌-◌, refl, eqb, length, take, set, replicate}
+use Rattle.std.specs.Prelude.{ℕ, zero, suc, ◌+◌, ◌-◌, refl, eqb, length, take, set, replicate}
 use Prim.Native.String.{String}
 use mathlib.Core.List.{List, [], ◌∷◌, ◌++◌, map}
 use Rattle.base.specs.Choice.{pick}
@@ -192,6 +192,7 @@ further =
     ∷ Pack (lines (set office_lines 13 "segment   1    100     100          0100  20   0     21    # 1 Mill Road"))
     ⇒ lines ("line 14: 21 is not 0 to 20" ∷ [])
     ∷ Pack (lines (take 7 card_lines) ++ text "segment 1 100 100 200 20 0 15") ⇒ lines ("line 9: the end is missing ('end' is due)" ∷ [])
+    ∷ Pack (lines (" " ∷ "x" ∷ [])) ⇒ lines ("line 2: 'x' is not the word due ('district')" ∷ [])
     -- a second end follows the end
     ∷ Pack (lines (card_lines ++ "end" ∷ [])) ⇒ lines ("line 10: something follows the end" ∷ [])
     -- the length comes before all else
@@ -203,3 +204,30 @@ further =
 pub further_packed : Agree further
 unfolding printed_for
 further_packed = refl
+
+-- ---- every byte alone
+
+-- n of them, from b on
+unfoldable pub bytes_from : ℕ → ℕ → List ℕ
+bytes_from zero b = []
+bytes_from (suc n) b = b ∷ bytes_from n (b + 1)
+
+-- a tab, a line feed, a carriage return, a space and '#' are no word; another byte is one, shown as it is or as '?'
+abbrev pub no_words : List ℕ
+no_words = 9 ∷ 10 ∷ 13 ∷ 32 ∷ 35 ∷ []
+
+abbrev pub shown : List ℕ
+shown = 33 ∷ 34 ∷ bytes_from 91 36
+
+abbrev pub not_shown : List ℕ
+not_shown = bytes_from 9 0 ++ (11 ∷ 12 ∷ (bytes_from 18 14 ++ bytes_from 129 127))
+
+abbrev pub alone : List Exchange
+alone =
+    map (λ b. Pack (b ∷ []) ⇒ lines ("line 2: the end is missing ('district' is due)" ∷ [])) no_words
+    ++ (map (λ b. Pack (b ∷ []) ⇒ (text "line 1: '" ++ b ∷ text "' is not the word due ('district')\n")) shown
+    ++ map (λ b. Pack (b ∷ []) ⇒ lines ("line 1: '?' is not the word due ('district')" ∷ [])) not_shown)
+
+pub alone_packed : Agree alone
+unfolding printed_for bytes_from
+alone_packed = refl
