@@ -163,7 +163,6 @@ impl<'a> Call<'a> {
     ghost use Rattle.script.specs.Calls.{event_by, IsFirst};
 
     // The call that stands whole at the front of the bytes, and what follows it.
-    #[tactic(auto, using(crate::proofs::Front::queue_room, crate::proofs::Front::cut))]
     fn next(bytes: &'a [u8]) -> Option<(Call<'a>, &'a [u8])>
         ensures { MatchOption result (length bytes.now < 17 + body_in bytes.now) (λ r. IsFirst bytes.now r.0 r.1.now) }
     {
@@ -246,7 +245,6 @@ pub struct Ran {
 
 // What the last of the calls that the bytes stand for is answered, from the fresh desk, and which office it named. What is
 // held is sound for each office. A loop: an iterator of the calls would be a type of its own, with its laws, for this one walk.
-#[tactic(auto, using(crate::proofs::Turns::starts, crate::proofs::Turns::shorter, crate::proofs::Turns::turned))]
 pub fn run(script: &[u8]) -> Ran
     ensures after { KeepsDesk result.desk (desk_after (events_of (entries_of script.now))) }
     ensures last { answer_in result.answer ≡ last_answer (entries_of script.now) }
