@@ -1,6 +1,6 @@
 -- docs/FILE.md, "The test card" and "The card with one thing changed": texts of the card's district and what pack prints for them, computed;
 -- and texts for what that page says and its examples do not show.
-use Rattle.std.specs.Prelude.{ℕ, zero, suc, ◌+◌, ◌-◌, refl, eqb, length, take, set, replicate}
+use Rattle.std.specs.Prelude.{ℕ, zero, suc, ◌+◌, ◌-◌, ◌≡◌, refl, eqb, length, take, set, replicate}
 use Prim.Native.String.{String}
 use mathlib.Core.List.{List, [], ◌∷◌, ◌++◌, map}
 use Rattle.base.specs.Choice.{pick}
@@ -8,7 +8,8 @@ use Rattle.base.specs.Text.{text}
 use Rattle.rules.specs.Marked.{card}
 use Rattle.rules.specs.Converted.{card_led, card_up}
 use Rattle.rules.specs.Writer.{each}
-use Rattle.texts.specs.Results.{Pack, lines, printed_for, Exchange, ◌⇒◌, Agree}
+use Rattle.texts.specs.Reading.{read_text}
+use Rattle.texts.specs.Results.{Pack, lines, printed_for, Exchange, ◌⇒◌, Agree, all_packed}
 
 -- as unpack prints it, in the form without leaders
 abbrev pub card_lines : List String
@@ -72,13 +73,8 @@ unended = lines (take 8 card_lines) ++ text "end"
 
 abbrev pub texts : List Exchange
 texts =
-    Pack card_text ⇒ card
-    ∷ Pack (lines unled_lines) ⇒ card_up
+    Pack (lines unled_lines) ⇒ card_up
     ∷ Pack (lines (led_lines "segment 1 100 100 100 20 0 5 0" "segment 1 100 100 200 20 0 15 1")) ⇒ card_led
-    ∷ Pack (lines office_lines) ⇒ card
-    ∷ Pack (spaced_by 9) ⇒ card
-    ∷ Pack carriage_returned ⇒ card
-    ∷ Pack unended ⇒ card
     -- the empty text, and two empty lines
     ∷ Pack [] ⇒ lines ("line 1: the end is missing ('district' is due)" ∷ [])
     ∷ Pack (10 ∷ 10 ∷ []) ⇒ lines ("line 3: the end is missing ('district' is due)" ∷ [])
@@ -90,8 +86,7 @@ texts =
     -- a leader that is not below its segment
     ∷ Pack (lines (led_lines "segment 1 100 100 100 20 0 5 1" "segment 1 100 100 200 20 0 15 0")) ⇒ lines ("line 7: 1 is not 0 to 0" ∷ [])
     ∷ Pack (lines (led_lines "segment 1 100 100 100 20 0 5 0" "segment 1 100 100 200 20 0 15 2")) ⇒ lines ("line 8: 2 is not 0 to 1" ∷ [])
-    -- the longest text, and a byte more
-    ∷ Pack (card_text ++ replicate (65_536 - length card_text) 32) ⇒ card
+    -- a byte more than the longest text
     ∷ Pack (card_text ++ replicate (65_537 - length card_text) 32) ⇒ lines ("the text is longer than 65536 bytes" ∷ [])
     ∷ []
 
@@ -120,7 +115,6 @@ changed =
     ∷ Pack (with_line 2 "limits 100000000000000000000") ⇒ lines ("line 2: '10000000000000000000..' is not a number" ∷ [])
     ∷ Pack (with_line 2 "limits 99999999999999999999") ⇒ lines ("line 2: 99999999999999999999 is not 0 to 999999999" ∷ [])
     ∷ Pack (with_line 2 "limits -99999999999999999999") ⇒ lines ("line 2: -99999999999999999999 is not 0 to 999999999" ∷ [])
-    ∷ Pack (with_line 2 "limits 00000000000000000130") ⇒ card
     ∷ Pack (with_line 2 "limits 000000000000000000130") ⇒ lines ("line 2: '00000000000000000013..' is not a number" ∷ [])
     ∷ Pack (with_line 2 "limits +130") ⇒ lines ("line 2: '+130' is not a number" ∷ [])
     ∷ Pack (with_line 2 "limits 130.5") ⇒ lines ("line 2: '130.5' is not a number" ∷ [])
@@ -139,21 +133,50 @@ changed =
     -- what is wrong with a number comes before one too many
     ∷ Pack (with_line 5 "strategy 3000 51 90 70 x") ⇒ lines ("line 5: 51 is not -50 to 50" ∷ [])
     ∷ Pack (with_line 5 "strategy 3000 15 90 70 x") ⇒ lines ("line 5: a number too many (4 are due)" ∷ [])
-    -- segment: the bars, and a comment that ends a word
+    -- segment: the bars
     ∷ Pack (with_line 7 "segment 1 100 100 1.00 20 0 5") ⇒ lines ("line 7: '1.00' is not a number" ∷ [])
     ∷ Pack (with_line 7 "segment 1 100 100 100 20 4 5") ⇒ lines ("line 7: 4 is not 0 to 3" ∷ [])
-    ∷ Pack (with_line 7 "segment 1 100 100 100 20 0 5#1") ⇒ card
     -- the end
     ∷ Pack (with_line 9 "end 0") ⇒ lines ("line 9: a number too many (0 are due)" ∷ [])
     ∷ Pack (with_line 9 "") ⇒ lines ("line 10: the end is missing ('end' is due)" ∷ [])
     ∷ Pack (lines (take 8 card_lines)) ⇒ lines ("line 9: the end is missing ('end' is due)" ∷ [])
-    ∷ Pack (lines (card_lines ++ "# thank you" ∷ [])) ⇒ card
     ∷ Pack (lines (card_lines ++ "thank you" ∷ [])) ⇒ lines ("line 10: something follows the end" ∷ [])
     ∷ []
 
 pub changed_packed : Agree changed
 unfolding printed_for
 changed_packed = refl
+
+-- ---- other texts of the card's district
+
+abbrev pub card_texts : List (List ℕ)
+card_texts =
+    lines office_lines
+    ∷ spaced_by 9
+    ∷ carriage_returned
+    ∷ unended
+    -- the longest text
+    ∷ (card_text ++ replicate (65_536 - length card_text) 32)
+    -- twenty digits, a comment that ends a word, a line behind the end
+    ∷ with_line 2 "limits 00000000000000000130"
+    ∷ with_line 7 "segment 1 100 100 100 20 0 5#1"
+    ∷ lines (card_lines ++ "# thank you" ∷ [])
+    -- a carriage return is a blank anywhere; blanks around a line's words
+    ∷ spaced_by 13
+    ∷ with_line 2 "  limits 130 "
+    ∷ []
+
+pub card_packed : printed_for (Pack card_text) ≡ card
+unfolding printed_for
+card_packed = refl
+
+pub card_read : map read_text card_texts ≡ map (λ t. read_text card_text) card_texts
+unfolding printed_for
+card_read = refl
+
+-- read as the card's text is, each is packed as it is: so the card's file is computed once
+pub card_texts_packed : Agree (map (λ t. Pack t ⇒ card) card_texts)
+card_texts_packed = all_packed card_text card card_packed card_texts card_read
 
 -- ---- what the page says and its examples do not show
 
@@ -182,10 +205,8 @@ abbrev pub further : List Exchange
 further =
     -- rows have the years of distress type 1 first, in the text as in the file
     Pack (lines pair_lines) ⇒ pair_file
-    -- a carriage return is a blank anywhere, and a form feed nowhere; blanks around a line's words
-    ∷ Pack (spaced_by 13) ⇒ card
+    -- a form feed is no blank
     ∷ Pack (spaced_by 12) ⇒ lines ("line 1: 'district?2?2?2?1?1?1..' is not the word due ('district')" ∷ [])
-    ∷ Pack (with_line 2 "  limits 130 ") ⇒ card
     -- the first word says the form, in whatever line it stands
     ∷ Pack (lines ("# leaders" ∷ unled_lines)) ⇒ card_up
     -- lines without a word are counted, and so is a last one that lacks its line feed

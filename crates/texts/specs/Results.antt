@@ -1,6 +1,7 @@
 -- What is asked of the two programs, and what they print: bytes that a theorem can compute. A theorem that unfolds `printed_for` unfolds all
 -- definitions with it.
-use Rattle.std.specs.Prelude.{ℕ, ◌≡◌}
+use Rattle.std.specs.Prelude.{ℕ, ◌≡◌, refl, get_or, drop}
+use mathlib.Core.Path.{ap, ap₂, ◌∙◌}
 use Prim.Native.String.{String}
 use mathlib.Core.List.{List, [], ◌∷◌, ◌++◌, map, foldr}
 use Rattle.base.specs.Over
@@ -61,3 +62,15 @@ expected (q ⇒ printed) = printed
 -- for each what stands beside it
 abbrev pub Agree : List Exchange → Type 0
 Agree cases = map computed cases ≡ map expected cases
+
+-- a text that is read as another is packed as that one is
+packed_as : (c t : List ℕ) → Reading.read_text t ≡ Reading.read_text c → printed_for (Pack t) ≡ printed_for (Pack c)
+unfolding printed_for
+packed_as c t e = ap Programs.file_or_complaint e
+
+pub all_packed :
+    (c file : List ℕ) → printed_for (Pack c) ≡ file → (ts : List (List ℕ)) → map Reading.read_text ts ≡ map (λ t. Reading.read_text c) ts
+    → Agree (map (λ t. Pack t ⇒ file) ts)
+all_packed c file e [] read = refl
+all_packed c file e (t ∷ ts) read =
+    ap₂ (λ (x : List ℕ) (xs : List (List ℕ)). x ∷ xs) (packed_as c t (ap (λ l. get_or l 0 (Reading.read_text c)) read) ∙ e) (all_packed c file e ts (ap (λ l. drop 1 l) read))
