@@ -31,7 +31,7 @@ fn put_numbers(out: &mut [u8], numbers: &Numbers) -> usize
     at + listing::put(&mut out[at..], b"\n")
 }
 
-#[tactic(auto, using(base::proofs::Text::front_fits, listing::proofs::Pieces::second_fits, listing::proofs::Pieces::put_two), unfolding(crate::specs::Printed::counts_line, base::specs::Text::text))]
+#[tactic(auto, unfolding(crate::specs::Printed::counts_line, base::specs::Text::text))]
 fn put_counts(out: &mut [u8], counts: &Numbers) -> usize
     requires { length (counts_line counts.now) ≤ length out.old }
     ensures { Put (counts_line counts.now) out.old out.new result }
@@ -41,7 +41,7 @@ fn put_counts(out: &mut [u8], counts: &Numbers) -> usize
 }
 
 // Of segment `i`.
-#[tactic(auto, using(base::proofs::Text::front_fits, listing::proofs::Pieces::second_fits, listing::proofs::Pieces::put_two), unfolding(crate::specs::Printed::segment_line))]
+#[tactic(auto, unfolding(crate::specs::Printed::segment_line))]
 fn put_segment(out: &mut [u8], i: usize, numbers: &Numbers) -> usize
     requires { length (segment_line (λ _. numbers.now) i) ≤ length out.old }
     ensures { Put (segment_line (λ _. numbers.now) i) out.old out.new result }
@@ -62,7 +62,6 @@ fn put_segments(out: &mut [u8], segments: &[Numbers]) -> usize
     at
 }
 
-#[tactic(auto, using(base::proofs::Text::front_fits, listing::proofs::Pieces::second_fits, listing::proofs::Pieces::put_two))]
 fn put_cards(out: &mut [u8], deck: &Deck) -> usize
     requires { length (held_lines deck.now) ≤ length out.old }
     ensures { Put (held_lines deck.now) out.old out.new result }
