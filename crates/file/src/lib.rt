@@ -3,7 +3,6 @@
 
 pub mod bytes;
 pub mod forms;
-mod ranges;
 pub mod reading;
 pub mod records;
 mod writing;
@@ -85,14 +84,6 @@ pub fn export(d: &District, buffer: &mut [u8]) -> Answer
     ensures { record { answer = answer_in result; buffer = buffer.new } ≡ exported (export_refusal d.now buffer.old) (encode d.now) buffer.old }
 {
     export_as(forms::form_of(d), d, buffer)
-}
-
-// Whether each number of the district is one that the file may hold.
-#[tactic(auto, using(base::proofs::Choice::picks), unfolding(rules::specs::File::in_range))]
-pub fn in_range(d: &District) -> bool
-    ensures { result ≡ in_range d.now }
-{
-    ranges::records_in_range(d)
 }
 
 // How many bytes the longest file has. The contract says of load and export what holds of every file and every district.

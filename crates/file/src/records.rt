@@ -8,11 +8,8 @@ ghost use Rattle.grammar.specs.Slots.{form_number, slot_in};
 
 use grammar::{Form, Slot};
 use rules::District;
-use rules::places::*;
-use rules::records::*;
 
-// A record, and where its numbers start. Its other methods, which read, write and test it, stand in `reading`, `writing` and
-// `ranges`.
+// A record, and where its numbers start. Its other methods, which read and write it, stand in `reading` and `writing`.
 #[derive(Clone, Copy)]
 pub struct Placed {
     pub slot: Slot,
@@ -30,22 +27,6 @@ impl Placed {
     }
 }
 
-// Where the numbers of the `n`-th record start. By the number, as its definition goes: by the slot's kind, it would have to be
-// shown again which number that is.
-fn start_of(n: usize) -> usize
-    requires { n < file_records }
-    ensures { result ≡ start_of n }
-{
-    match n {
-        0 => 0,
-        1 => LIMITS,
-        2 => GREATEST,
-        ..FIRST_PAVEMENT => STRATEGIES + PER_STRATEGY * (n - FIRST_STRATEGY),
-        ..FIRST_SEGMENT => PAVEMENTS + PER_PAVEMENT * (n - FIRST_PAVEMENT),
-        _ => SEGMENTS + PER_SEGMENT * (n - FIRST_SEGMENT),
-    }
-}
-
 // The `n`-th record of a file of the form, from 0.
 pub fn nth(form: Form, n: usize) -> Placed
     requires { n < file_records }
@@ -54,6 +35,6 @@ pub fn nth(form: Form, n: usize) -> Placed
 {
     Placed {
         slot: grammar::slot_at(form, n),
-        place: start_of(n),
+        place: grammar::start_of(n),
     }
 }

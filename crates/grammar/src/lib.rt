@@ -4,13 +4,16 @@
 
 ghost use Rattle.std.specs.Prelude.{◌≡◌, List, ℕ, ◌<◌, ◌-◌, ◌^◌, min};
 ghost use Rattle.base.specs.Choice.{pick};
-ghost use Rattle.rules.specs.Format.{number, absent, inside, slot_of, present, count_field, limit_field, greatest_field, rows_field, strategy_field, pavement_field, rating_field, leader_field, segment_field, kind_field, field_at, Slot as Record};
+ghost use Rattle.rules.specs.Format.{file_records, number, absent, inside, slot_of, present, count_field, limit_field, greatest_field, rows_field, strategy_field, pavement_field, rating_field, leader_field, segment_field, kind_field, field_at, Slot as Record};
 ghost use Rattle.rules.specs.District.{most_distresses, bars_at, pavements_of};
+ghost use Rattle.grammar.specs.Places.{start_of};
 ghost use Rattle.grammar.specs.Slots.{form_number, slot_in};
 
 mod kinds;
+mod ranges;
 
 pub use kinds::{Form, Kind, Slot};
+pub use ranges::in_range;
 use rules::{District, Field, places, records};
 
 // The `n`-th record of a file of the form, from 0.
@@ -43,6 +46,24 @@ pub fn slot_at(form: Form, n: usize) -> Slot
         kind,
         places,
         nth,
+    }
+}
+
+// Where the numbers of the `n`-th record start. By the number, as its definition goes: by the slot's kind, it would have to be
+// shown again which number that is.
+pub fn start_of(n: usize) -> usize
+    requires { n < file_records }
+    ensures { result ≡ start_of n }
+{
+    match n {
+        0 => 0,
+        1 => places::LIMITS,
+        2 => places::GREATEST,
+        ..records::FIRST_PAVEMENT => places::STRATEGIES
+            + places::PER_STRATEGY * (n - records::FIRST_STRATEGY),
+        ..records::FIRST_SEGMENT => places::PAVEMENTS
+            + places::PER_PAVEMENT * (n - records::FIRST_PAVEMENT),
+        _ => places::SEGMENTS + places::PER_SEGMENT * (n - records::FIRST_SEGMENT),
     }
 }
 

@@ -115,7 +115,7 @@ impl<'a> Ranged<'a> {
     pub fn of(d: &'a District) -> Option<Ranged<'a>>
         ensures { MatchOption result (in_range d.now ≡ false) (λ r. (r.district.now ≡ d.now) × (in_range d.now ≡ true)) }
     {
-        if !file::in_range(d) {
+        if !grammar::in_range(d) {
             return None;
         }
         Some(Ranged { district: d })

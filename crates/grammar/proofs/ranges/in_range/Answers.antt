@@ -1,15 +1,15 @@
--- `records_in_range` meets its contract: the records are tested in their order.
-use Rattle.std.proofs.Common.{ℕ, zero, suc, ◌+◌, ◌≡◌, Bool, refl, ◌∙◌, drop, arith, rules, tests}
+-- `in_range` meets its contract: the records are tested in their order.
+use Rattle.std.proofs.Common.{ℕ, zero, suc, ◌+◌, ◌≡◌, Bool, refl, ◌∙◌, length, drop, eq-eqb, arith, rules, tests}
 use Rattle.std.specs.List.{range_with_len, list_all}
 use Rattle.std.proofs.lemmas.Iterator.{YieldsList-from_range}
 use Rattle.std.proofs.lemmas.Iterator.Search.{all_from_yields_List}
 use lib.Seq.{drop-drop}
-use Rattle.rules.specs.District.{District}
-use Rattle.rules.specs.File.{numbers_in_range, records_in_range}
+use Rattle.rules.specs.District.{District, district_places}
+use Rattle.rules.specs.File.{numbers_in_range, records_in_range, in_range}
 use Rattle.rules.specs.Format.{leader_form, slot_of, file_records}
 use Rattle.grammar.specs.Places.{start_of}
 use Rattle.grammar.proofs.Slots.{start_next}
-use Rattle.file.proofs.ranges.records_in_range.Goals as goal
+use Rattle.grammar.proofs.ranges.in_range.Goals as goal
 
 module _ (d : District) where
   abbrev fits : ℕ → Bool
@@ -21,7 +21,10 @@ module _ (d : District) where
   listed (suc m) n = rw (listed m (n + 1), start_next leader_form n, drop-drop (slot_of leader_form n).places (start_of n) d)
 
 pub returns : goal.returns
+unfolding in_range
 returns c =
     let d = c.args.d.now in
-    all_from_yields_List (fits d) _ _ c.all.result c.all.ensures.ran (YieldsList-from_range 0 file_records file_records refl (omega arith)) (λ x b q k. search (rules, tests))
-    ∙ listed d file_records 0
+    let all : length d ≡ district_places = search rules in
+    rw (eq-eqb (length d) district_places all)
+    (all_from_yields_List (fits d) _ _ c.all.result c.all.ensures.ran (YieldsList-from_range 0 file_records file_records refl (omega arith)) (λ x b q k. search (rules, tests))
+    ∙ listed d file_records 0)

@@ -3,7 +3,7 @@ use Rattle.std.proofs.Common.{ℕ, ◌+◌, ◌-◌, ◌≡◌, sym, ap, ◌∙�
 use Rattle.rules.specs.Format.{first_strategy_record, first_pavement_record, first_segment_record}
 use Rattle.grammar.specs.Places.{start_of}
 use Rattle.grammar.proofs.Slots.{start_strategy, start_pavement, start_segment}
-use Rattle.file.proofs.records.start_of.Goals as goal
+use Rattle.grammar.proofs.start_of.Goals as goal
 
 -- the n-th record is one of those from the first on
 from : (first n p : ℕ) → first + (n - first) ≡ n → start_of (first + (n - first)) ≡ p → p ≡ start_of n
