@@ -3,10 +3,11 @@
 use Rattle.std.specs.Prelude.{ℕ, ◌≡◌, refl, true, List, [], ◌∷◌, ◌++◌, map, length, take, replicate, pos}
 use native.Mathlib.Omega.{arith}
 use Rattle.rules.specs.District.{limit_of}
+use Rattle.rules.specs.Plan.{no_programme}
 use Rattle.rules.specs.Lists.{Load, Alter, ExportTo, Show, AskWhy}
 use Rattle.rules.specs.Offices.{Held, Plan, Send, AskRoughness}
 use Rattle.rules.specs.Stations.{fresh_both, StationCall, call_of, without}
-use Rattle.rules.specs.StationDemands.{Got, got_by, throughout, leaves_tables, not_in_use, LeavingOut}
+use Rattle.rules.specs.StationDemands.{nothing_more, programme, Told, Got, got_by, throughout, leaves_tables, not_in_use, LeavingOut}
 use Rattle.rules.specs.Desks.{fresh_queues, arrival_refusal, arrival_of, taken, Desk, fresh_desk, step_of, Event, Arrive, Step, Ask, desk_by, answer_to, desk_from, desk_after, gathered, calls_at, calls_in, accepted_by, carried_by, accepted_from, carried_from, steps_in}
 use Rattle.rules.specs.DeskDemands.{further, NobodyStarves, CarriedInTime, Given, gives, all_given, given_to}
 use Rattle.rules.specs.Writer.{Roads, strategy, nothing_demanded, segment, barring, file_of, district_with_leaders}
@@ -225,8 +226,20 @@ pub given :
 unfolding returned_to
 given = refl
 
--- which is what the list of calls gets
-pub as_calls : gathered gives fresh_desk mixed ≡ all_given fresh_both (calls_in mixed)
+-- which is what the list of calls gets: no bytes, and of an edit its answer alone
+abbrev gave : ℕ → Answer → Told → Given
+gave office answer told = record { office = office; got = record { answer = answer; bytes = []; told = told } }
+
+pub as_calls :
+    gathered gives fresh_desk mixed ∷ all_given fresh_both (calls_in mixed) ∷ []
+    ≡ replicate 2
+    (gave 1 (Accepted 0) (programme no_programme)
+    ∷ gave 2 (Accepted 0) nothing_more
+    ∷ gave 2 (Refused 6) nothing_more
+    ∷ gave 1 (Accepted 0) nothing_more
+    ∷ gave 1 (Refused 6) nothing_more
+    ∷ gave 1 (Accepted 0) nothing_more
+    ∷ [])
 unfolding returned_to
 as_calls = refl
 

@@ -7,7 +7,7 @@ use Rattle.base.specs.Same.{same}
 use Rattle.rules.specs.District.{District, most_segments, most_strategies, most_distresses, most_pavements, most_resources, per_strategy, per_pavement, per_segment, district_places, is_shared, shared_from, shared_tables, same_tables}
 use Rattle.rules.specs.Plan.{no_programme}
 use Rattle.rules.specs.Meter.{magnitude_of, is_reading, reading_of, nothing_heard, sent_refusal, heard_with, hearing, sum_of, mean_reaches, mays_points, roughness_refusal, points_unless, roughness_of, points_at}
-use Rattle.rules.specs.Blocks.{choice_of}
+use Rattle.rules.specs.Blocks.{choice_of, no_blocks}
 use Rattle.rules.specs.Lists.{Load, Alter, ChooseBlocks, ExportTo, Show, AskWhy}
 use Rattle.rules.specs.Offices.{Held, OfficeCall, Plan, Send, AskRoughness, fresh_held, office_refusal, lent_bytes, office_outcome}
 use Rattle.rules.specs.Stations.{other, office_number, Both, StationCall, call_of, fresh_both, brings_tables, tables_refusal, refusal_beside, held_beside, station_refusal, concluded, station_outcome, station_from, station_after, districts_by, districts_from, choices_by, choices_from, choices_after, without}
@@ -18,6 +18,7 @@ use Rattle.rules.specs.declared.Edit.TheVariants.{Bar, SetLimit}
 use Rattle.rules.specs.declared.Sent.TheVariants.{Index, Marker}
 use Rattle.rules.specs.declared.Reason.TheVariants.{Barred}
 use Rattle.rules.specs.Answers.{Answer, Accepted, Refused}
+use Rattle.rules.specs.declared.Choice.{Choice}
 use Rattle.rules.specs.declared.Which.{Which}
 use Rattle.rules.specs.declared.Which.TheVariants.{First, Second}
 
@@ -229,16 +230,19 @@ pub kept_with_new_tables :
 unfolding answers_to
 kept_with_new_tables = refl
 
--- what the calls of both say that each has chosen, by the length of the row: over the other's load and over one of its own that gets 17, and after
--- an accepted one of its own
-abbrev chosen_in : List StationCall → List ℕ
-chosen_in cs = (choices_after cs).first.length ∷ (choices_after cs).second.length ∷ []
+-- what the calls of both say that each has chosen, by the length of the row: over one of its own loads that gets 17, since the other has loaded before;
+-- over the other's load, and after an accepted one of its own
+abbrev chosen_in : Both Choice → List ℕ
+chosen_in x = x.first.length ∷ x.second.length ∷ []
 
-abbrev loads_of_both : List StationCall
-loads_of_both =
-    load 1 (file_of north) ∷ load 2 (file_of south) ∷ choose 2 (1 ∷ 2 ∷ 9 ∷ []) ∷ load 1 (file_of south) ∷ load 2 (file_of longer) ∷ []
+abbrev chosen_by_second : Both Choice
+chosen_by_second = record { first = no_blocks; second = choice_of (1 ∷ 2 ∷ 9 ∷ []) }
 
-pub chosen_by_each : map chosen_in (loads_of_both ∷ (loads_of_both ++ load 2 (file_of north) ∷ []) ∷ []) ≡ (0 ∷ 3 ∷ []) ∷ (0 ∷ 0 ∷ []) ∷ []
+pub chosen_by_each :
+    chosen_in (choices_after (load 1 (file_of north) ∷ choose 2 (1 ∷ 2 ∷ 9 ∷ []) ∷ load 2 (file_of longer) ∷ []))
+    ∷ map (λ c. chosen_in (choices_from (record { first = district_of north; second = district_of south }) chosen_by_second (c ∷ [])))
+    (load 1 (file_of south) ∷ load 2 (file_of north) ∷ [])
+    ≡ (0 ∷ 3 ∷ []) ∷ (0 ∷ 3 ∷ []) ∷ (0 ∷ 0 ∷ []) ∷ []
 unfolding answers_to choices_by choices_from choices_after districts_by districts_from
 chosen_by_each = refl
 
