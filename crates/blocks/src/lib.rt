@@ -248,7 +248,6 @@ pub struct Blocks<'a> {
 
 impl<'a> Blocks<'a> {
     // None where the choice is not followed: the ordinary plan is made.
-    #[tactic(auto, using(crate::proofs::Rows::no_row))]
     pub fn of(ranged: Ranged<'a>, choice: &'a Choice) -> Option<Blocks<'a>>
         ensures { MatchOption result (followed choice.now ranged.entry.district.now ≡ false) (λ r. (followed choice.now ranged.entry.district.now ≡ true) × (r.choice.now ≡ choice.now) × (r.ranged.district.now ≡ ranged.entry.district.now)) }
     {
@@ -289,7 +288,6 @@ impl<'a> Blocks<'a> {
     }
 
     // The district of block b by itself: with its parts as limits, and every strategy barred on the segments outside.
-    #[tactic(auto, using(crate::proofs::BlockRanges::block_ranges))]
     pub fn district(&self, b: usize) -> District
         requires { (1 ≤ b) × (b ≤ blocks_in self.now.choice.now self.now.ranged.district.now) }
         ensures value { result ≡ block_district self.now.choice.now self.now.ranged.district.now b }
