@@ -19,6 +19,12 @@ below_is n slacks row r h =
       (λ g. h.1 (λ k under. let here : k + 1 - 1 ≡ k = omega arith in ltb-true _ _ (rw here at (g k under)))),
     )
 
+pub all-requires-clause-can : goal.all-requires-clause-can
+all-requires-clause-can c = tt
+
+pub all-requires-clause-finite : goal.all-requires-clause-finite
+all-requires-clause-finite c = tt
+
 pub returns-then-eq : goal.returns-then-eq
 returns-then-eq c =
     let pair = c.args.pair.now in

@@ -6,6 +6,12 @@ use Rattle.phase3.proofs.Chains.{first_mapped}
 use Rattle.phase3.proofs.ChangeSearch.{first_single_is}
 use Rattle.phase3.proofs.pass.Pass.first_one.Goals as goal
 
+pub find_map-requires-clause-can : goal.find_map-requires-clause-can
+find_map-requires-clause-can c = tt
+
+pub find_map-requires-clause-finite : goal.find_map-requires-clause-finite
+find_map-requires-clause-finite c = tt
+
 pub returns : goal.returns
 returns c =
     let p = c.args.self.now in
