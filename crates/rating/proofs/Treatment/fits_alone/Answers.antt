@@ -5,6 +5,12 @@ use Rattle.rules.specs.Rating.{fits_limit, fits_alone}
 use Rattle.rating.proofs.Chains.{all_from_1}
 use Rattle.rating.proofs.Treatment.fits_alone.Goals as goal
 
+pub all-requires-clause-can : goal.all-requires-clause-can
+all-requires-clause-can c = tt
+
+pub all-requires-clause-finite : goal.all-requires-clause-finite
+all-requires-clause-finite c = tt
+
 pub returns : goal.returns
 unfolding fits_limit fits_alone
 returns c =

@@ -5,6 +5,12 @@ use Rattle.rules.specs.Rating.{minimum_reached, years_reached}
 use Rattle.rating.proofs.Chains.{all_from_1}
 use Rattle.rating.proofs.Treatment.years_reached.Goals as goal
 
+pub all-requires-clause-can : goal.all-requires-clause-can
+all-requires-clause-can c = tt
+
+pub all-requires-clause-finite : goal.all-requires-clause-finite
+all-requires-clause-finite c = tt
+
 pub returns : goal.returns
 unfolding years_reached
 returns c =
