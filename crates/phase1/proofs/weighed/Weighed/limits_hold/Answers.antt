@@ -6,6 +6,12 @@ use Rattle.std.proofs.lemmas.Iterator.{cases_from_all, YieldsList-from_slice, Yi
 use Rattle.phase1.proofs.Pulls.{within_zip}
 use Rattle.phase1.proofs.weighed.Weighed.limits_hold.Goals as goal
 
+pub all-requires-clause-can : goal.all-requires-clause-can
+all-requires-clause-can c = (tt, tt)
+
+pub all-requires-clause-finite : goal.all-requires-clause-finite
+all-requires-clause-finite c = tt
+
 pub returns : goal.returns
 returns c =
     let p = c.args.self.now.planning.now in
