@@ -42,5 +42,9 @@ pub fn is_due(d: &District, s: Slot, n: usize) -> bool
 pub fn due_before(d: &District, s: Slot, n: usize) -> usize
     ensures { result ≡ due_before d.now (slot_in s) n }
 {
-    (0..n).map(|i| usize::from(is_due(d, s, i))).sum()
+    let mut due = 0;
+    for i in 0..n {
+        due += usize::from(is_due(d, s, i));
+    }
+    due
 }
