@@ -7,10 +7,16 @@ use Rattle.ceiling.specs.Views.{priced_in}
 use Rattle.ceiling.proofs.Rounds.{priced_up, priced_low, priced_down}
 use Rattle.ceiling.proofs.Search.price_one.Goals as goal
 
+pub try_price-requires : goal.try_price-requires
+try_price-requires c = c.requires.le_r.1
+
 pub returns-then-try_price-clause-prices_after : goal.returns-then-try_price-clause-prices_after
 returns-then-try_price-clause-prices_after c =
     let s = c.args.self.now in
     rw c.if-try_price.true at c.try_price.ensures.prices_after ∙ priced_up (priced_in s.table) c.args.step s.prices c.args.r (sym c.try_price.ensures.value ∙ c.if-try_price.true)
+
+pub try_price-requires-2 : goal.try_price-requires-2
+try_price-requires-2 c = rw c.try_price.ensures.same_table c.requires.le_r.1
 
 pub returns-in_default-clause-prices_after : goal.returns-in_default-clause-prices_after
 returns-in_default-clause-prices_after c =

@@ -7,6 +7,9 @@ use Rattle.rules.specs.District.{most_strategies}
 use Rattle.ceiling.proofs.candidates.Candidates.reprice_segment.Goals as goal
 use Rattle.ceiling.proofs.candidates.Candidates.reprice_segment.Goals.{then-self-at-gt0, else-self-at-gt0}
 
+pub cost_at-requires-clause-prices : goal.cost_at-requires-clause-prices
+cost_at-requires-clause-prices c = c.requires.prices
+
 pub cost_at-requires-clause-candidate : goal.cost_at-requires-clause-candidate
 cost_at-requires-clause-candidate c =
     (inside c.requires.le_i.0 c.requires.le_i.1 (omega arith), rw c.entry-at.ensures at c.if-self-at-gt0.true)

@@ -86,6 +86,9 @@ returns-then-body-size-clause-numbers c =
     let at = goal.at.returns-then-body-size-clause-numbers c in
     record_cut (take p.place c.args.d.now) (slot_in p.slot) c.args.file.now (there at.Else-not-is_present) (long at.After-number-kind) (due at.After-number-kind c.if-kind-due.false) (full at.After-number-kind c.if-length-size.false) (omega (arith, sized at.After-number-kind, c.in-Some.ensures.cases.4))
 
+pub payload-size-requires : goal.payload-size-requires
+payload-size-requires c = c.args.self.ready.few
+
 pub read_numbers-requires : goal.read_numbers-requires
 read_numbers-requires c = omega (arith, sized (goal.at.read_numbers-requires c).After-number-kind)
 
