@@ -91,7 +91,6 @@ fn limits_of(d: Ranged<'_>) -> [u64; MOST_RESOURCES]
 }
 
 // The share that the use at place n is of its limit, in ten-thousandths, rounded as the quotient is; none of a limit of 0.
-#[tactic(auto, unfolding(crate::specs::Lists::share_entry))]
 fn share<F: Fn(u64, u64) -> u64>(
     uses: UsageTable<'_>,
     limits: LimitList<'_>,

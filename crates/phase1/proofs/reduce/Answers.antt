@@ -23,6 +23,15 @@ invariant_of-to_step c =
     let running = l.planning.running in
     record { shares_are = held.shares; measured = held_measured running.bounded running.chosen held; sums_are = rw (l.invariant.0, l.invariant.1) l.invariant.3 }
 
+pub step-requires-clause-leaders : goal.step-requires-clause-leaders
+step-requires-clause-leaders c = rw c.loop-i.invariant.0 c.last_led-led.ensures
+
+pub step-requires-clause-held : goal.step-requires-clause-held
+step-requires-clause-held c = let inv = c.loop-i.invariant in rw (inv.0, inv.1) inv.2.held
+
+pub step-requires-clause-sums : goal.step-requires-clause-sums
+step-requires-clause-sums c = let inv = c.loop-i.invariant in rw (inv.0, inv.1) inv.3
+
 pub loop-i-smaller : goal.loop-i-smaller
 loop-i-smaller c =
     let l = c.loop-i in
