@@ -14,7 +14,7 @@ use queues::Queues;
 use rules::{Answer, Console, Edit, Sent, Waiting, Which};
 use station::Station;
 
-#[derive(Drop)]
+#[derive(Clone, Copy)]
 pub struct Desk {
     pub station: Station,
     pub queues: Queues,

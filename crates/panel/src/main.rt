@@ -41,7 +41,7 @@ const LINE_FEED: u8 = b'\n';
 // The desk, and the number of the office that calls name, as it was typed: each call reads it. That events led to the desk stands in the clauses that need it: a
 // ghost field has to be a proposition, which a list of events is not (tried). Truncated it would give demand 3 only after a
 // proof that demand 3 is one.
-#[derive(Drop)]
+#[derive(Clone, Copy)]
 pub struct Console {
     pub desk: Desk,
     pub office: usize,

@@ -8,8 +8,7 @@ use borrow.Author.Tests.{lt-ltb, le-ltb}
 use lib.Dec.{eqb-suc-zero}
 use lib.ListN.{length, get_or, set}
 use Rattle.std.proofs.lemmas.List.{set-get_or}
-use Rattle.std.specs.List.{slice_get, remove, find}
-use Rattle.arrayvec.specs.ArrayVec.{ArrayVec}
+use Rattle.std.specs.List.{find}
 use Rattle.base.specs.Search.{or_else}
 use Rattle.rules.specs.Answers.{no_such_console, queue_full, answer_of, accepting, Accepted, Refused}
 use Rattle.rules.specs.Desks as Desks
@@ -17,30 +16,31 @@ use Rattle.rules.specs.Desks.{console_number, next_to, queue_of, with_queue, wit
 use Rattle.rules.specs.declared.Console.{Console}
 use Rattle.rules.specs.declared.Console.TheVariants.{One, Two, Three, Four}
 use Rattle.rules.specs.declared.Waiting.{Waiting}
-use Rattle.queues.specs.Waits.{queues_in, Admits, round_from, waits}
+use Rattle.queues.specs.Waits.{waiting_in, queues_in, Admits, round_from, waits}
+use Rattle.queues.specs.declared.Queue.{Queue}
 use Rattle.queues.specs.declared.Queues.{Queues}
 
 -- ---- one queue of four
 
-module _ (a b c d : ArrayVec Waiting) (turn : Console) where
+module _ (a b c d : Queue) (turn : Console) where
   abbrev among : Queues
   among = record { waiting = a ∷ b ∷ c ∷ d ∷ []; turn = turn }
 
-  queue_among : (x : Console) (p : ℕ) (e : ArrayVec Waiting) → p + 1 ≡ console_number x → (get_or among.waiting p e).items ≡ queue_of x (queues_in among)
+  queue_among : (x : Console) (p : ℕ) (e : Queue) → p + 1 ≡ console_number x → waiting_in (get_or among.waiting p e) ≡ queue_of x (queues_in among)
   queue_among One p e h = let z : p ≡ 0 = omega arith in rw z
   queue_among Two p e h = let z : p ≡ 1 = omega arith in rw z
   queue_among Three p e h = let z : p ≡ 2 = omega arith in rw z
   queue_among Four p e h = let z : p ≡ 3 = omega arith in rw z
 
-  with_among : (x : Console) (p : ℕ) (v : ArrayVec Waiting) (t : Console) → p + 1 ≡ console_number x
-      → queues_in (record { waiting = set among.waiting p v; turn = t }) ≡ with_turn t (with_queue x v.items (queues_in among))
+  with_among : (x : Console) (p : ℕ) (v : Queue) (t : Console) → p + 1 ≡ console_number x
+      → queues_in (record { waiting = set among.waiting p v; turn = t }) ≡ with_turn t (with_queue x (waiting_in v) (queues_in among))
   with_among One p v t h = let z : p ≡ 0 = omega arith in rw z
   with_among Two p v t h = let z : p ≡ 1 = omega arith in rw z
   with_among Three p v t h = let z : p ≡ 2 = omega arith in rw z
   with_among Four p v t h = let z : p ≡ 3 = omega arith in rw z
 
 -- what holds of four holds of a list of that length
-four : (P : List (ArrayVec Waiting) → Type 0) → ((a b c d : ArrayVec Waiting) → P (a ∷ b ∷ c ∷ d ∷ [])) → (l : List (ArrayVec Waiting)) → length l ≡ 4 → P l
+four : (P : List Queue → Type 0) → ((a b c d : Queue) → P (a ∷ b ∷ c ∷ d ∷ [])) → (l : List Queue) → length l ≡ 4 → P l
 four P f (a ∷ b ∷ c ∷ d ∷ []) e = f a b c d
 four P f [] e = absurd (omega arith)
 four P f (a ∷ []) e = absurd (omega arith)
@@ -49,15 +49,15 @@ four P f (a ∷ b ∷ c ∷ []) e = absurd (omega arith)
 four P f (a ∷ b ∷ c ∷ d ∷ e' ∷ l) e = absurd (omega arith)
 
 module _ (q : Queues) (n : length q.waiting ≡ 4) (x : Console) (p : ℕ) (at : p + 1 ≡ console_number x) where
-  queue_is : (e : ArrayVec Waiting) → (get_or q.waiting p e).items ≡ queue_of x (queues_in q)
+  queue_is : (e : Queue) → waiting_in (get_or q.waiting p e) ≡ queue_of x (queues_in q)
   queue_is e =
-      four (λ l. (get_or l p e).items ≡ queue_of x (queues_in (record { waiting = l; turn = q.turn })))
+      four (λ l. waiting_in (get_or l p e) ≡ queue_of x (queues_in (record { waiting = l; turn = q.turn })))
       (λ a b c d. queue_among a b c d q.turn x p e at) q.waiting n
 
-  with_is : (v : ArrayVec Waiting) (t : Console)
-      → queues_in (record { waiting = set q.waiting p v; turn = t }) ≡ with_turn t (with_queue x v.items (queues_in q))
+  with_is : (v : Queue) (t : Console)
+      → queues_in (record { waiting = set q.waiting p v; turn = t }) ≡ with_turn t (with_queue x (waiting_in v) (queues_in q))
   with_is v t =
-      four (λ l. queues_in (record { waiting = set l p v; turn = t }) ≡ with_turn t (with_queue x v.items (queues_in (record { waiting = l; turn = q.turn }))))
+      four (λ l. queues_in (record { waiting = set l p v; turn = t }) ≡ with_turn t (with_queue x (waiting_in v) (queues_in (record { waiting = l; turn = q.turn }))))
       (λ a b c d. with_among a b c d q.turn x p v t at) q.waiting n
 
 -- ---- arrivals
@@ -75,9 +75,9 @@ same_turn Three ws q = refl
 same_turn Four ws q = refl
 
 -- d is what the code reads at the place, and new what it leaves there
-module _ (q : Queues) (w : Waiting) (n : length q.waiting ≡ 4) (x : Console) (p : ℕ) (at : p + 1 ≡ console_number x) (d new : ArrayVec Waiting) where
+module _ (q : Queues) (w : Waiting) (n : length q.waiting ≡ 4) (x : Console) (p : ℕ) (at : p + 1 ≡ console_number x) (d new : Queue) where
   -- there is a place free
-  pub admitted : length (get_or q.waiting p d).items < most_waiting → new.items ≡ (get_or q.waiting p d).items ++ (w ∷ [])
+  pub admitted : length (waiting_in (get_or q.waiting p d)) < most_waiting → waiting_in new ≡ waiting_in (get_or q.waiting p d) ++ (w ∷ [])
       → Admits q (Some x) w (record { answer = Accepted 0; queues = record { waiting = set q.waiting p new; turn = q.turn } })
   unfolding answer_of accepting
   admitted free e =
@@ -85,13 +85,13 @@ module _ (q : Queues) (w : Waiting) (n : length q.waiting ≡ 4) (x : Console) (
       record {
         settled =
             ap (λ (y : Desks.Queues). record { answer = Accepted 0; queues = y })
-            (with_is q n x p at new q.turn ∙ same_turn x new.items (queues_in q) ∙ ap (λ (ws : List Waiting). with_queue x ws (queues_in q)) (rw held at e))
+            (with_is q n x p at new q.turn ∙ same_turn x (waiting_in new) (queues_in q) ∙ ap (λ (ws : List Waiting). with_queue x ws (queues_in q)) (rw held at e))
             ∙ rw (lt-ltb (length (queue_of x (queues_in q))) most_waiting (omega (arith, ap length held)));
         refused = λ m not. cc;
       }
 
   -- there is none
-  pub not_admitted : length (get_or q.waiting p d).items ≡ most_waiting → new ≡ get_or q.waiting p d
+  pub not_admitted : length (waiting_in (get_or q.waiting p d)) ≡ most_waiting → new ≡ get_or q.waiting p d
       → Admits q (Some x) w (record { answer = Refused queue_full; queues = record { waiting = set q.waiting p new; turn = q.turn } })
   unfolding answer_of accepting
   not_admitted full same =
@@ -131,15 +131,13 @@ taken_is q c e =
     ∙ sym (among_found q (round_from q.turn))
     ∙ rw (or_none (oldest_at q (next_to (next_to (next_to q.turn)))))
 
-first_of : (ws vs : List Waiting) (w : Waiting) → Some w ≡ slice_get ws 0 → vs ≡ remove ws 0 → ws ≡ w ∷ vs
-first_of [] vs w e f = cc
-first_of (x ∷ xs) vs w e f = let z : w ≡ x = cc in rw (z, f)
-
--- its oldest edit is taken; d is what the code reads at the console's place
-module _ (q : Queues) (n : length q.waiting ≡ 4) (x : Console) (p : ℕ) (at : p + 1 ≡ console_number x) (d : ArrayVec Waiting) where
-  pub oldest_is : (new : ArrayVec Waiting) (w : Waiting) (t : Console) → Some w ≡ slice_get (get_or q.waiting p d).items 0
-      → new.items ≡ remove (get_or q.waiting p d).items 0
+-- its oldest edit is taken, where it has one; d is what the code reads at the console's place
+module _ (q : Queues) (n : length q.waiting ≡ 4) (x : Console) (p : ℕ) (at : p + 1 ≡ console_number x) (d : Queue) where
+  pub oldest_is : (new : Queue) (w : Waiting) (t : Console) → waiting_in (get_or q.waiting p d) ≡ w ∷ waiting_in new
       → t ≡ next_to x → Some record { console = x; waiting = w; queues = queues_in (record { waiting = set q.waiting p new; turn = t }) } ≡ oldest_at (queues_in q) x
-  oldest_is new w t e f g =
-      let ws : queue_of x (queues_in q) ≡ w ∷ new.items = sym (queue_is q n x p at d) ∙ first_of _ _ w e f in
+  oldest_is new w t e g =
+      let ws : queue_of x (queues_in q) ≡ w ∷ waiting_in new = sym (queue_is q n x p at d) ∙ e in
       rw (g, with_is q n x p at new (next_to x), ws)
+
+  pub none_is : waiting_in (get_or q.waiting p d) ≡ [] → None ≡ oldest_at (queues_in q) x
+  none_is e = let ws : queue_of x (queues_in q) ≡ [] = sym (queue_is q n x p at d) ∙ e in rw ws

@@ -1,18 +1,22 @@
 -- What the queues of this crate stand for, in any state: those of rules, specs/Desks.antt.
-use Rattle.std.specs.Prelude.{ℕ, ◌≡◌, Bool, not, nat_eq, List, [], ◌∷◌, length, get_or}
+use Rattle.std.specs.Prelude.{ℕ, ◌≡◌, Bool, not, nat_eq, List, [], ◌∷◌, length, get_or, take}
 use Rattle.std.specs.Prelude.{Option, None, Some, Result}
-use Rattle.arrayvec.specs.ArrayVec.{ArrayVec}
 use Rattle.rules.specs.Desks as Desks
 use Rattle.rules.specs.Desks.{queue_of, next_to, refusal_at, arrival_by}
 use Rattle.rules.specs.Answers.{Answer, Refused, answer_in}
 use Rattle.rules.specs.declared.Console.{Console}
 use Rattle.rules.specs.declared.Waiting.{Waiting}
 use Rattle.rules.specs.declared.refusals.Refusal.{Refusal}
+use Rattle.queues.specs.declared.Queue.{Queue}
 use Rattle.queues.specs.declared.Queues.{Queues}
 
--- the edits that wait in the queue at a place, counted from 0
-abbrev pub waiting_at : List (ArrayVec Waiting) → ℕ → List Waiting
-waiting_at queues place = (get_or queues place (record { items = [] })).items
+-- the edits that wait in a queue, the oldest first
+abbrev pub waiting_in : Queue → List Waiting
+waiting_in x = take x.count x.places
+
+-- those of the queue at a place, counted from 0
+abbrev pub waiting_at : List Queue → ℕ → List Waiting
+waiting_at queues place = waiting_in (get_or queues place (record { places = []; count = 0 }))
 
 abbrev pub queues_in : Queues → Desks.Queues
 queues_in q =

@@ -1,24 +1,77 @@
 // Four queues of edits, one for each console, and whose turn it is (rules, specs/Desks.antt). Nothing here knows of districts.
 #![tactic(auto)]
 
-ghost use Rattle.std.specs.Prelude.{◌≡◌, ◌+◌, ◌-◌, ◌<◌, IfNone};
-ghost use Rattle.rules.specs.Desks.{console_number, console_of, next_to, fresh_queues, taken};
-ghost use Rattle.queues.specs.Waits.{queues_in, arrival, Admits, taken_in, round_from, waits};
+ghost use Rattle.std.specs.Prelude.{◌≡◌, ◌+◌, ◌-◌, ◌<◌, [], ◌∷◌, ◌++◌, length, IfNone, IfSome, IfErr, OnOk, OnErr};
+ghost use Rattle.rules.specs.Desks.{console_number, console_of, next_to, fresh_queues, most_waiting, taken};
+ghost use Rattle.rules.specs.declared.refusals.Refusal.TheVariants.{QueueFull};
+ghost use Rattle.queues.specs.Waits.{waiting_in, queues_in, arrival, Admits, taken_in, round_from, waits};
 
-use arrayvec::ArrayVec;
 use rules::{Answer, Console, Refusal, Waiting};
-use std::array;
 
 pub const MOST_WAITING: usize = 8;
 
 pub const CONSOLES: usize = 4;
 
-// The edits of each console in order, the oldest first. They are lent and not copied: an ArrayVec is no Copy. That none has
-// more than eight is the type's, so it is asked of no caller.
-#[derive(Drop)]
+// The edits that wait at one console are the first `count`, the oldest at place 0. A count above the places stands for all of
+// them, so a bound is asked of no caller. An array and a count: the kit's ArrayVec is no Copy, and with it no queue, no desk and
+// no console is one.
+#[derive(Clone, Copy)]
+pub struct Queue {
+    pub places: [Waiting; MOST_WAITING],
+    pub count: usize,
+}
+
+// The edits of each console.
+#[derive(Clone, Copy)]
 pub struct Queues {
-    pub waiting: [ArrayVec<Waiting, MOST_WAITING>; CONSOLES],
+    pub waiting: [Queue; CONSOLES],
     pub turn: Console,
+}
+
+impl Queue {
+    fn empty() -> Queue
+        ensures { waiting_in result ≡ [] }
+    {
+        Queue {
+            places: [Waiting::default(); MOST_WAITING],
+            count: 0,
+        }
+    }
+
+    fn as_slice(&self) -> &[Waiting]
+        ensures { result.now ≡ waiting_in self.now }
+    {
+        &self.places[..self.count.min(MOST_WAITING)]
+    }
+
+    // With an edit more, the last, where a place is free.
+    fn try_push(&mut self, w: Waiting) -> Result<(), Refusal>
+        ensures pushed { OnOk result (waiting_in self.new ≡ waiting_in self.old ++ (w ∷ [])) }
+        ensures room { OnOk result (length (waiting_in self.old) < most_waiting) }
+        ensures full { OnErr result (length (waiting_in self.old) ≡ most_waiting) }
+        ensures kept { OnErr result (self.new ≡ self.old) }
+        ensures refused { IfErr result (λ refusal. refusal ≡ QueueFull) }
+    {
+        let count = self.as_slice().len();
+        if count == MOST_WAITING {
+            return Err(Refusal::QueueFull);
+        }
+        self.places[count] = w;
+        self.count = count + 1;
+        Ok(())
+    }
+
+    // Without the oldest; each of the others moves up a place.
+    fn pop(&mut self) -> Option<Waiting>
+        ensures oldest { IfSome result (λ w. waiting_in self.old ≡ w ∷ waiting_in self.new) }
+        ensures empty { IfNone result (waiting_in self.old ≡ []) }
+        ensures kept { IfNone result (self.new ≡ self.old) }
+    {
+        let waiting = *self.as_slice().first()?;
+        self.count = self.as_slice().len() - 1;
+        self.places.rotate_left(1);
+        Some(waiting)
+    }
 }
 
 // Before the first arrival; console 1 is first.
@@ -28,7 +81,7 @@ impl Default for Queues {
 
     fn default() -> Queues {
         Queues {
-            waiting: array::from_fn(|_| ArrayVec::new()),
+            waiting: [Queue::empty(); CONSOLES],
             turn: Console::One,
         }
     }
@@ -73,7 +126,7 @@ pub fn admit_at(q: &mut Queues, n: usize, w: Waiting) -> Answer
 {
     let console = Console::try_from(n)?;
     let queue = &mut q.waiting[place(console)];
-    queue.try_push(w).map_err(|_| Refusal::QueueFull)?;
+    queue.try_push(w)?;
     Ok(0)
 }
 
@@ -81,7 +134,7 @@ pub fn admit_at(q: &mut Queues, n: usize, w: Waiting) -> Answer
 fn waits(q: &Queues, console: Console) -> bool
     ensures { result ≡ waits (queues_in q.now) console }
 {
-    !q.waiting[place(console)].is_empty()
+    !q.waiting[place(console)].as_slice().is_empty()
 }
 
 // The oldest edit of the first console that has one, from the turn on; the turn is then the next one's.
@@ -91,7 +144,7 @@ pub fn take(q: &mut Queues) -> Option<(Console, Waiting)>
 {
     let order = round_from(q.turn);
     let console = *order.iter().find(|c| waits(q, **c))?;
-    let waiting = q.waiting[place(console)].pop_at(0)?;
+    let waiting = q.waiting[place(console)].pop()?;
     q.turn = next_to(console);
     Some((console, waiting))
 }

@@ -79,8 +79,7 @@ pub struct Waiting {
     pub edit: Edit,
 }
 
-// What stands in a place where no edit waits: its number is no office's. An ArrayVec asks for it, and an edit has no default from
-// which it could be derived.
+// What stands in a place where no edit waits: its number is no office's. An edit has no default from which it could be derived.
 impl Default for Waiting {
     ghost is_default = { λ w. w.office ≡ 0 };
 

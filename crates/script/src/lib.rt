@@ -236,7 +236,7 @@ impl<'a> Call<'a> {
 // ---- a list of calls
 
 // What the last call of a list is answered, the desk after it, and the office that it named.
-#[derive(Drop)]
+#[derive(Clone, Copy)]
 pub struct Ran {
     pub desk: Desk,
     pub answer: Answer,

@@ -5,7 +5,7 @@ use Rattle.std.proofs.lemmas.Iterator.{YieldsList-from_slice}
 use Rattle.std.proofs.lemmas.Iterator.Search.{find_from_yields_List}
 use Rattle.std.specs.List.{find}
 use Rattle.queues.specs.Waits.{queues_in, round_from, waits}
-use Rattle.queues.proofs.Turns.{taken_is, oldest_is}
+use Rattle.queues.proofs.Turns.{taken_is, oldest_is, none_is}
 use Rattle.queues.proofs.take.Goals as goal
 use Rattle.queues.proofs.take.Goals.{After-find}
 
@@ -17,13 +17,21 @@ returns-in_err-console-clause-taken c =
     let found = searched (goal.at.returns-in_err-console-clause-taken c).After-find in
     rw c.from_residual.ensures (taken_is (queues_in c.args.q.now) None (ap (option_map (λ x. x.now)) (sym c.in_err-console.was) ∙ found))
 
+pub returns-in_err-waiting-clause-taken : goal.returns-in_err-waiting-clause-taken
+returns-in_err-waiting-clause-taken c =
+    let q = c.args.q.now in
+    let x = c.in_ok-console.field-0.now in
+    let found = searched (goal.at.returns-in_err-waiting-clause-taken c).After-find in
+    rw c.from_residual-in_err-waiting.ensures
+    (none_is q (omega arith) x _ c.place.ensures.place _ c.in_err-waiting.ensures.empty
+    ∙ taken_is (queues_in q) (Some x) (ap (option_map (λ x. x.now)) (sym c.in_ok-console.was) ∙ found))
+
 pub returns-clause-taken : goal.returns-clause-taken
 returns-clause-taken c =
     let q = c.args.q.now in
     let x = c.in_ok-console.field-0.now in
     let found = searched (goal.at.returns-clause-taken c).After-find in
-    let popped = c.pop_at.ensures in
-    oldest_is q (omega arith) x _ c.place.ensures.place _ c.pop_at.new.self _ _ (sym c.in_ok-waiting.was ∙ popped.value) (rw c.in_ok-waiting.was at popped.items) c.next_to-q.ensures
+    oldest_is q (omega arith) x _ c.place.ensures.place _ c.pop.new.self _ _ c.in_ok-waiting.ensures.oldest c.next_to-q.ensures
     ∙ taken_is (queues_in q) (Some x) (ap (option_map (λ x. x.now)) (sym c.in_ok-console.was) ∙ found)
 
 pub find-requires-clause-can : goal.find-requires-clause-can
