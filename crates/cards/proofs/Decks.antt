@@ -1,11 +1,12 @@
 -- Laws of a deck: what is first refused, and one segment more.
-use Rattle.std.proofs.Common.{ℕ, zero, suc, ◌≡◌, ◌+◌, ◌≤◌, ◌<◌, true, false, List, [], ◌∷◌, ◌++◌, refl, sym, ap, ◌∙◌, add-one, arith}
+use Rattle.std.proofs.Common.{ℕ, zero, suc, ◌≡◌, ◌+◌, ◌≤◌, ◌<◌, true, false, List, ◌++◌, refl, sym, ap, ◌∙◌, add-one, drop, set, arith}
 use Rattle.base.proofs.Sums.{up_to}
-use Rattle.base.proofs.Listed.{listed_append}
+use Rattle.base.proofs.Listed.{fill_next}
 use Rattle.base.specs.Over.{listed_from}
 use Rattle.rules.specs.Answers.{wrong_line, or_later, first_refusal}
 use Rattle.rules.specs.Deck.{no_counts, rows_before_counts, rows_before_segment, numbers_on, line_at, is_line, card_refusal, title_refusal, counts_refusal, counts_in, segment_refusal, segment_in, deck_refusal}
 use Rattle.rules.specs.District.{most_segments, segments_of}
+use Rattle.cards.specs.Cards.{no_segments}
 use Rattle.cards.proofs.Ranges.{segments_few}
 
 -- ---- the first refusal
@@ -70,9 +71,9 @@ module _ (deck : List ℕ) where
     pub segment_good : first_refusal i (segment_refusal deck) ≡ 0 → 0 ≡ card_refusal counts (line_at deck (i + 2)) rows_before_segment → first_refusal (i + 1) (segment_refusal deck) ≡ 0
     segment_good none good = none_next i (segment_refusal deck) none (sym segment_refused ∙ sym good)
 
-    pub segment_held : {held next : List (List ℕ)} (numbers : List ℕ) → held ≡ listed_from i 1 (segment_in deck) → next ≡ held ++ numbers ∷ [] → numbers ≡ numbers_on counts (line_at deck (i + 2)) rows_before_segment
-        → next ≡ listed_from (i + 1) 1 (segment_in deck)
-    unfolding segment_in listed_from
-    segment_held numbers h n f =
+    pub segment_held : {held : List (List ℕ)} (numbers : List ℕ) → i < most_segments → held ≡ listed_from i 1 (segment_in deck) ++ drop i no_segments
+        → numbers ≡ numbers_on counts (line_at deck (i + 2)) rows_before_segment → set held i numbers ≡ listed_from (i + 1) 1 (segment_in deck) ++ drop (i + 1) no_segments
+    unfolding segment_in
+    segment_held numbers l h f =
         let q : i + 2 ≡ 1 + i + 1 = omega arith in
-        n ∙ rw (h, f, e, q) (listed_append (segment_in deck) i 1 1)
+        rw h (fill_next (segment_in deck) i 1 no_segments l (rw (f, e, q)))

@@ -1,7 +1,7 @@
 -- What the code's answers stand for.
-use Rattle.std.specs.Prelude.{ℕ, ◌+◌, ◌≡◌, List}
+use Rattle.std.specs.Prelude.{ℕ, ◌+◌, ◌≡◌, List, ◌++◌, drop, replicate}
 use Rattle.base.specs.Over.{listed}
-use Rattle.rules.specs.Deck.{no_counts, rows_before_counts, rows_before_segment, counts_in, segment_in}
+use Rattle.rules.specs.Deck.{per_card, no_counts, rows_before_counts, rows_before_segment, counts_in, segment_in}
 use Rattle.rules.specs.Deck as Rules
 use Rattle.rules.specs.District.{most_segments, segments_of}
 use Rattle.rules.specs.Format.{plain_form}
@@ -33,7 +33,11 @@ kind_of (Segment counts) = 6
 abbrev pub columns_in : Card → Columns → Rules.Columns
 columns_in card c = record { first = c.first; last = c.last; notation = c.notation; kind = kind_of card; place = c.place }
 
--- what is held of a deck that nothing refuses: its counts, and the numbers of each of its segments
+-- zeros in every segment's place
+abbrev pub no_segments : List (List ℕ)
+no_segments = replicate most_segments (replicate per_card 0)
+
+-- what is held of a deck that nothing refuses: its counts, and the numbers of each of its segments, with zeros behind the last
 pub record Says (deck : List ℕ) (d : Deck) : Type 0 where
   pub counts : d.counts ≡ counts_in deck
-  pub segments : d.segments.items ≡ listed (segments_of (counts_in deck)) (segment_in deck)
+  pub segments : d.segments ≡ listed (segments_of (counts_in deck)) (segment_in deck) ++ drop (segments_of (counts_in deck)) no_segments

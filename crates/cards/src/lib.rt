@@ -12,7 +12,6 @@ ghost use Rattle.rules.specs.Answers.{wrong_field, unless, refusal_in};
 ghost use Rattle.rules.specs.Deck.{per_card, only_inside, field_on, is_good, line_at, numbers_on, card_refusal, deck_refusal};
 ghost use Rattle.cards.specs.Cards.{most_lines, counts_with, rows_before, Says};
 
-use arrayvec::ArrayVec;
 use columns::Card;
 pub use columns::{Numbers, PER_CARD};
 use rules::places::{MOST_SEGMENTS, SEGMENT_COUNT};
@@ -21,11 +20,12 @@ use rules::{Field, Refusal};
 // The most bytes that are ever read: title, counts and segments, each with its line feed.
 pub const LONGEST_DECK: usize = (lines::PER_LINE + 1) * (MOST_SEGMENTS + 2);
 
-// The counts, and the numbers of each segment.
-#[derive(Drop)]
+// The counts, and the numbers of each segment, with zeros behind the last. An array: the kit's ArrayVec is no Copy, and with it
+// a deck is none.
+#[derive(Clone, Copy)]
 pub struct Deck {
     pub counts: Numbers,
-    pub segments: ArrayVec<Numbers, MOST_SEGMENTS>,
+    pub segments: [Numbers; MOST_SEGMENTS],
 }
 
 // The number, where it is in the range.
@@ -80,9 +80,9 @@ pub fn read(deck: &[u8]) -> Result<Deck, Refusal>
     let counts = read_card(Card::Counts, deck, 1)?;
     // By a loop: of a `collect` into a Result no clause says what it holds, and `try_collect` asks for an allocator, and that a
     // refusal can be made of its error.
-    let mut segments = ArrayVec::new();
+    let mut segments = [[0; PER_CARD]; MOST_SEGMENTS];
     for i in 0..counts[SEGMENT_COUNT] {
-        segments.push(read_card(Card::Segment(&counts), deck, i + 2)?);
+        segments[i] = read_card(Card::Segment(&counts), deck, i + 2)?;
     }
     Ok(Deck { counts, segments })
 }

@@ -3,10 +3,11 @@ use Prim.Native.Nat.{ℕ, zero, suc, ◌+◌, ◌-◌, ◌*◌, ◌≤◌, ◌<�
 use mathlib.Core.List.{List, [], ◌∷◌, ◌++◌}
 use mathlib.Core.Path.{◌≡◌, refl, sym, ap, ◌∙◌}
 use native.Mathlib.Omega.{arith}
-use lib.ListN.{length, get_or, take, drop, length-append, drop_of_length-le}
+use lib.ListN.{length, get_or, get_or-append, take, drop, length-append, length-take, drop_of_length-le}
+use Rattle.base.specs.Over.{listed}
 use Rattle.base.specs.Text.{text, most_digits, decimal}
 use Rattle.base.proofs.Listed.{listed_length, listed_entry}
-use Rattle.std.proofs.lemmas.List.{drop_more}
+use Rattle.std.proofs.lemmas.List.{drop_more, get_or-take}
 use Rattle.base.proofs.Text.{decimal_few}
 use Rattle.rules.specs.Deck.{per_card, counts_in, segment_in, numbers_on, deck_refusal, deck_bytes}
 use Rattle.rules.specs.District.{most_segments, segments_of}
@@ -15,7 +16,7 @@ use Rattle.listing.proofs.Lengths.{named_few}
 use Rattle.listing.proofs.Lines.{lines_few, lines_alike}
 use Rattle.rules.specs.Answers.{refusal_number}
 use Rattle.rules.specs.declared.refusals.Refusal.{Refusal}
-use Rattle.cards.specs.Cards.{Says}
+use Rattle.cards.specs.Cards.{no_segments, Says}
 use Rattle.cards.specs.declared.Deck.{Deck}
 use Rattle.rules.proofs.RefusalNumbers.{numbered}
 use Rattle.cards.proofs.Ranges.{segments_few}
@@ -75,18 +76,32 @@ cards_alike counts f g h =
 
 -- ---- what the code holds
 
-module _ (deck : List ℕ) {d : Deck} (h : Says deck d) where
-  numbers_held : (k : ℕ) → 1 ≤ k → k < 1 + segments_of (counts_in deck) → numbers_at d.segments.items k ≡ segment_in deck k
-  numbers_held k l u =
-      let q : 1 + (k - 1) ≡ k = omega arith in
-      ap (λ s. get_or s (k - 1) []) h.segments ∙ listed_entry (segments_of (counts_in deck)) 1 (k - 1) (segment_in deck) [] (omega arith) ∙ ap (segment_in deck) q
+-- the lines of the segments that there are, and not of the zeros behind them
+pub held_are : (d : Deck) → segments_of d.counts ≤ length d.segments → counts_line d.counts ++ lines_from (length (take (segments_of d.counts) d.segments)) 1 (segment_line (numbers_at (take (segments_of d.counts) d.segments))) ≡ held_lines d
+unfolding card_lines segment_line
+held_are d few =
+    let n = segments_of d.counts in
+    let many : length (take n d.segments) ≡ n = omega (arith, length-take n d.segments, few) in
+    rw many
+    (ap (λ (l : List ℕ). counts_line d.counts ++ l)
+    (lines_alike n 1 (segment_line (numbers_at (take n d.segments))) (segment_line (numbers_at d.segments))
+    (λ k l u. ap (λ (ns : List ℕ). decimal k ++ numbers_line ns) (get_or-take n d.segments (k - 1) [] (omega arith)))))
 
-  many : length d.segments.items ≡ segments_of (counts_in deck)
-  many = ap length h.segments ∙ listed_length (segment_in deck) (segments_of (counts_in deck)) 1
+module _ (deck : List ℕ) {d : Deck} (h : Says deck d) where
+  numbers_held : (k : ℕ) → 1 ≤ k → k < 1 + segments_of (counts_in deck) → numbers_at d.segments k ≡ segment_in deck k
+  numbers_held k l u =
+      let n = segments_of (counts_in deck) in
+      let q : 1 + (k - 1) ≡ k = omega arith in
+      ap (λ s. get_or s (k - 1) []) h.segments
+      ∙ get_or-append (listed n (segment_in deck)) (drop n no_segments) [] (k - 1) (omega (arith, listed_length (segment_in deck) n 1))
+      ∙ listed_entry n 1 (k - 1) (segment_in deck) [] (omega arith)
+      ∙ ap (segment_in deck) q
+
+  pub few : segments_of d.counts ≤ most_segments
+  few = rw h.counts (segments_few deck)
 
   lines_are : held_lines d ≡ card_lines (counts_in deck) (segment_in deck)
-  unfolding card_lines
-  lines_are = rw (h.counts, many) (cards_alike (counts_in deck) (numbers_at d.segments.items) (segment_in deck) numbers_held)
+  lines_are = rw h.counts (cards_alike (counts_in deck) (numbers_at d.segments) (segment_in deck) numbers_held)
 
   pub printed_cards : 0 ≡ deck_refusal deck → printed deck ≡ held_lines d
   unfolding printed or_refusal

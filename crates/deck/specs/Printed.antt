@@ -1,5 +1,5 @@
 -- What deck prints for the bytes that it reads.
-use Rattle.std.specs.Prelude.{ℕ, ◌+◌, ◌-◌, ◌*◌, ◌≤◌, List, [], ◌∷◌, ◌++◌, ◌≡◌, length, get_or, take}
+use Rattle.std.specs.Prelude.{ℕ, ◌+◌, ◌-◌, ◌*◌, ◌≤◌, List, [], ◌∷◌, ◌++◌, ◌≡◌, get_or, take}
 use Rattle.base.specs.Text.{text, most_digits, decimal}
 use Rattle.rules.specs.Deck.{per_card, counts_in, segment_in, deck_refusal, deck_bytes, longest_deck}
 use Rattle.rules.specs.District.{most_segments, segments_of}
@@ -46,4 +46,4 @@ abbrev pub numbers_at : List (List ℕ) → ℕ → List ℕ
 numbers_at segments i = get_or segments (i - 1) []
 
 abbrev pub held_lines : Deck → List ℕ
-held_lines d = counts_line d.counts ++ lines_from (length d.segments.items) 1 (segment_line (numbers_at d.segments.items))
+held_lines d = card_lines d.counts (numbers_at d.segments)

@@ -7,10 +7,11 @@ ghost use Rattle.base.specs.Text.{Put};
 ghost use Rattle.input.specs.Reading.{Prints};
 ghost use Rattle.listing.specs.Listing.{lines_from};
 ghost use Rattle.rules.specs.Deck.{longest_deck};
+ghost use Rattle.rules.specs.District.{most_segments, segments_of};
 ghost use Rattle.deck.specs.Printed.{numbers_line, counts_line, segment_line, numbers_at, held_lines, printed, NotRead, longest_printed};
 
 use cards::{Deck, LONGEST_DECK, Numbers};
-use rules::places::MOST_SEGMENTS;
+use rules::places::{MOST_SEGMENTS, SEGMENT_COUNT};
 use std::io;
 use std::io::{Read, Write};
 
@@ -63,11 +64,12 @@ fn put_segments(out: &mut [u8], segments: &[Numbers]) -> usize
 }
 
 fn put_cards(out: &mut [u8], deck: &Deck) -> usize
-    requires { length (held_lines deck.now) ≤ length out.old }
+    requires few { segments_of deck.now.counts ≤ most_segments }
+    requires room { length (held_lines deck.now) ≤ length out.old }
     ensures { Put (held_lines deck.now) out.old out.new result }
 {
     let at = put_counts(out, &deck.counts);
-    at + put_segments(&mut out[at..], deck.segments.as_slice())
+    at + put_segments(&mut out[at..], &deck.segments[..deck.counts[SEGMENT_COUNT]])
 }
 
 // What is printed for a deck, to the front of `out`.
