@@ -1,9 +1,9 @@
 -- `office::alter` meets its contract.
 use Rattle.std.proofs.Common.{refl}
 use Rattle.rules.specs.Lists.{outcome_of}
-use Rattle.office.proofs.Planned.{planned}
+use Rattle.office.proofs.Planned.{planned_reply}
 use Rattle.office.proofs.alter.Goals as goal
 
 pub returns : goal.returns
 unfolding outcome_of
-returns c = planned _ _ _ _ refl c.alter.ensures refl
+returns c = planned_reply _ _ _ _ refl c.alter.ensures refl
