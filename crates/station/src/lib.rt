@@ -12,8 +12,9 @@ ghost use Rattle.rules.specs.Lists.{Load, Alter, ChooseBlocks, ExportTo, PageTo,
 ghost use Rattle.rules.specs.Offices.{Held, AskRoughness};
 ghost use Rattle.rules.specs.StationDemands.{EveryStationAnswer, EveryStationFile, EveryStation, TablesAgree, LeavingOut};
 ghost use Rattle.rules.specs.Stations.{Both, other, office_number, office_of, fresh_both, call_of};
+ghost use Rattle.rules.specs.declared.Which.{Which};
 ghost use Rattle.demands.specs.stations.EachOffice.{EachOffice};
-ghost use Rattle.station.specs.Kept.{office_in, reply, KeepsBoth, RepliesTo, units_in, PlansBoth, Lends, KeepsNamed, SendsBoth};
+ghost use Rattle.station.specs.Kept.{is_office, office_in, reply, KeepsBoth, RepliesTo, units_in, PlansBoth, Lends, KeepsNamed, SendsBoth};
 ghost use Rattle.station.specs.Lending.{LendsOffice};
 ghost use Rattle.station.specs.Questions.{shown_for, why_for, roughness_for, without_value};
 
@@ -73,6 +74,24 @@ fn own_mut(s: &mut Station, w: Which) -> &mut Office
     match w {
         Which::First => &mut s.first,
         Which::Second => &mut s.second,
+    }
+}
+
+// Whether an office has the number, for a caller who wants no refusal.
+#[tactic(auto, unfolding(crate::specs::Kept::is_office))]
+pub fn is_office(n: usize) -> bool
+    ensures { result ≡ is_office n }
+{
+    Which::try_from(n).is_ok()
+}
+
+// The office of that number. One that no office has is answered as 2, so that nothing is asked of a number.
+pub fn own_of(s: &Station, n: usize) -> &Office
+    ensures { (w : Which) → n ≡ office_number w → result.now ≡ office_in w s.now }
+{
+    match Which::try_from(n) {
+        Ok(w) => own(s, w),
+        Err(_) => &s.second,
     }
 }
 
