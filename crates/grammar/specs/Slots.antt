@@ -6,6 +6,7 @@ use Rattle.grammar.specs.declared.kinds.Form.TheVariants.{Plain, Leaders}
 use Rattle.grammar.specs.declared.kinds.Kind.{Kind}
 use Rattle.grammar.specs.declared.kinds.Kind.TheVariants.{Counts, Limits, Greatest, Strategy, Pavement, Segment, End}
 use Rattle.grammar.specs.declared.kinds.Slot.{Slot as Record}
+use Rattle.grammar.specs.declared.numbered.Slot.{Slot as Numbered}
 
 abbrev pub form_number : Form → ℕ
 form_number Plain = plain_form
@@ -23,3 +24,7 @@ kind_number form End = 7
 
 abbrev pub slot_in : Record → Slot
 slot_in s = slot (form_number s.form) (kind_number s.form s.kind) s.places s.nth
+
+-- a record whose form and kind are numbers in the code too
+abbrev pub numbered_in : Numbered → Slot
+numbered_in s = slot s.form s.kind s.places s.nth

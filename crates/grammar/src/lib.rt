@@ -10,6 +10,7 @@ ghost use Rattle.grammar.specs.Places.{start_of};
 ghost use Rattle.grammar.specs.Slots.{form_number, slot_in};
 
 mod kinds;
+pub mod numbered;
 mod ranges;
 
 pub use kinds::{Form, Kind, Slot};
