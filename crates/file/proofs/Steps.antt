@@ -110,10 +110,18 @@ numbers_step m d s n place f h e =
     let q : place + (n + 1) ≡ place + n + 1 = omega arith in
     rw (less m n h, e, q)
 
--- a record less to write
-pub records_step : (form : ℕ) (d : District) (n place : ℕ) (s : Slot) → n < file_records → s ≡ slot_of form n → place ≡ start_of n → records_bytes form (file_records - n) d n (start_of n) ≡ record_bytes d s place ++ records_bytes form (file_records - (n + 1)) d (n + 1) (start_of (n + 1))
+-- a record less to write, wherever its numbers stand
+pub records_step : (form : ℕ) (d : District) (n place : ℕ) (s : Slot) → n < file_records → s ≡ slot_of form n → records_bytes form (file_records - n) d n place ≡ record_bytes d s place ++ records_bytes form (file_records - (n + 1)) d (n + 1) (place + s.places)
 unfolding records_bytes
-records_step form d n place s h e p = rw (less file_records n h, e, p, start_next form n)
+records_step form d n place s h e = rw (less file_records n h, e)
+
+-- where they stand after those of the records before, the next record's do too
+pub placed_step : (form : ℕ) (d : District) (n place : ℕ) (s : Slot) → n < file_records → s ≡ slot_of form n → place ≡ start_of n → records_bytes form (file_records - n) d n (start_of n) ≡ record_bytes d s place ++ records_bytes form (file_records - (n + 1)) d (n + 1) (start_of (n + 1))
+placed_step form d n place s h e p =
+    let end : place + s.places ≡ start_of (n + 1) = omega (arith, p, ap (λ (t : Slot). t.places) e, start_next form n) in
+    ap (λ (q : ℕ). records_bytes form (file_records - n) d n q) (sym p)
+    ∙ records_step form d n place s h e
+    ∙ ap (λ (q : ℕ). record_bytes d s place ++ records_bytes form (file_records - (n + 1)) d (n + 1) q) end
 
 -- the bytes of m records of a form, from the n-th on
 unfoldable pub total : ℕ → ℕ → District → ℕ → ℕ

@@ -9,7 +9,7 @@ use Rattle.rules.specs.File.{record_bytes, records_bytes, encode_as}
 use Rattle.rules.specs.Format.{file_records}
 use Rattle.grammar.specs.Places.{start_of}
 use Rattle.grammar.specs.Slots.{form_number, slot_in}
-use Rattle.file.proofs.Steps.{records_step}
+use Rattle.file.proofs.Steps.{placed_step}
 use Rattle.file.proofs.writing.write_file.Goals as goal
 use Rattle.file.proofs.writing.write_file.Goals.{After-nth}
 
@@ -17,7 +17,7 @@ use Rattle.file.proofs.writing.write_file.Goals.{After-nth}
 now : (c : After-nth) → let l = c.loop-n in let form = form_number c.args.form in let p = c.nth.result in let d = c.args.d.now in Written c.args.out.now (encode_as form d) (record_bytes d (slot_in p.slot) p.place ++ records_bytes form (file_records - (l.n + 1)) d (l.n + 1) (start_of (l.n + 1))) l.at l.out
 now c =
     let p = c.nth.result in
-    rw (records_step (form_number c.args.form) c.args.d.now c.loop-n.n p.place (slot_in p.slot) (omega arith) c.nth.ensures.slot c.nth.ensures.place) at c.loop-n.invariant
+    rw (placed_step (form_number c.args.form) c.args.d.now c.loop-n.n p.place (slot_in p.slot) (omega arith) c.nth.ensures.slot c.nth.ensures.place) at c.loop-n.invariant
 
 pub loop-n-init : goal.loop-n-init
 unfolding encode_as
