@@ -2,11 +2,13 @@
 use Prim.Native.Nat.{ℕ, zero, suc, ◌+◌, ◌-◌, ◌*◌, ◌≤◌, ◌<◌}
 use mathlib.Core.Path.{◌≡◌, refl, sym, ap, ◌∙◌}
 use mathlib.Core.Bool.{true, false}
-use mathlib.Core.List.{List, [], ◌∷◌, ◌++◌, append-nil}
+use mathlib.Core.List.{List, [], ◌∷◌, ◌++◌, map, append-nil}
 use native.Mathlib.Numerals.{add-one}
 use native.Mathlib.Omega.{arith}
 use lib.ListN.{length, get_or, take, drop, set, replicate, length-append, length-drop}
 use lib.Seq.{append_snoc, get_or-drop, take-suc, take_all, take-add, take-suc-set, drop-set-add}
+use Rattle.std.specs.List.{sum, range_with_len}
+use Rattle.std.proofs.lemmas.List.Sums.{sum_by-cons}
 use Rattle.base.proofs.Bytes.{length_bytes}
 use Rattle.base.proofs.Choice.{picks, pick_yes, pick_no, pick_all}
 use Rattle.base.specs.Bytes.{bytes_of, number_of}
@@ -30,6 +32,15 @@ widths_step m d s n f h e = rw (less m n h, e)
 pub widths_small : (m : ℕ) (d : District) (s : Slot) (n : ℕ) → widths m d s n ≤ 4 * m
 widths_small zero d s n = omega arith
 widths_small (suc m) d s n = omega (arith, width_small d s n, widths_small m d s (n + 1))
+
+-- they are added up in their order
+module _ (d : District) (s : Slot) where
+  abbrev pub width : ℕ → ℕ
+  width i = (field_at d s i).width
+
+  pub widths_listed : (m n : ℕ) → sum (map width (range_with_len n m)) ≡ widths m d s n
+  widths_listed zero n = refl
+  widths_listed (suc m) n = sum_by-cons (λ x. x) (width n) (map width (range_with_len (n + 1) m)) ∙ ap (λ k. width n + k) (widths_listed m (n + 1))
 
 -- a record that is not there has no bytes
 pub widths_none : (m : ℕ) (d : District) (s : Slot) (n : ℕ) → present d s ≡ false → widths m d s n ≡ 0
@@ -122,6 +133,20 @@ placed_step form d n place s h e p =
     ap (λ (q : ℕ). records_bytes form (file_records - n) d n q) (sym p)
     ∙ records_step form d n place s h e
     ∙ ap (λ (q : ℕ). record_bytes d s place ++ records_bytes form (file_records - (n + 1)) d (n + 1) q) end
+
+-- the lengths of the records are added up in their order
+module _ (form : ℕ) (d : District) where
+  abbrev pub long : ℕ → ℕ
+  long n = length (record_bytes d (slot_of form n) (start_of n))
+
+  pub records_listed : (m n : ℕ) → sum (map long (range_with_len n m)) ≡ length (records_bytes form m d n (start_of n))
+  unfolding records_bytes
+  records_listed zero n = refl
+  records_listed (suc m) n =
+      sum_by-cons (λ x. x) (long n) (map long (range_with_len (n + 1) m))
+      ∙ ap (λ k. long n + k) (records_listed m (n + 1))
+      ∙ sym (length-append (record_bytes d (slot_of form n) (start_of n)) (records_bytes form m d (n + 1) (start_of (n + 1))))
+      ∙ rw (start_next form n) refl
 
 -- the bytes of m records of a form, from the n-th on
 unfoldable pub total : ℕ → ℕ → District → ℕ → ℕ

@@ -3,6 +3,7 @@
 
 pub mod bytes;
 pub mod forms;
+pub mod numbered;
 pub mod reading;
 pub mod records;
 mod writing;
