@@ -1,6 +1,6 @@
 -- Shares, surpluses and pulls that arrays hold, and the weakest segment by them.
 use Prim.Native.Nat.{ℕ, ◌+◌, ◌-◌, ◌*◌, ◌^◌, ◌≤◌, ◌<◌}
-use mathlib.Core.Path.{◌≡◌, refl, ap, sym, ◌∙◌}
+use mathlib.Core.Path.{◌≡◌, refl, ap, ap₂, sym, ◌∙◌}
 use mathlib.Core.Bool.{Bool, true, false}
 use mathlib.Core.List.{List, [], map}
 use Rattle.std.proofs.Common.{IsTrue, ◌↔◌}
@@ -14,6 +14,8 @@ use Rattle.std.specs.List.{zip, AllWithin, HoldsAt, sum_by, sum as list_sum}
 use Rattle.std.proofs.lemmas.List.{take_all, get_or_default}
 use Rattle.std.proofs.lemmas.List.Sums.{sum-map}
 use Rattle.std.proofs.lemmas.Slice.Zip.{length-zip, get_or-zip}
+use lib.Dec.{leb}
+use Rattle.base.specs.Choice.{pick}
 use Rattle.base.specs.Over.{sum}
 use Rattle.base.proofs.Choice.{pick_all}
 use Rattle.base.proofs.Sums.{sum_part, sum_bound, sum_cong}
@@ -195,6 +197,29 @@ module _ {z : Size} {b u l s c : List ℕ} (shares : Shares z b u l s) (measured
   surplus_le =
       pick_all (λ (n : ℕ). n ≤ 640_000) (holds (tables z b u l) c r) 0 (sum z.segments (chosen_share (tables z b u l) c r) - 10_000) (omega arith)
       (omega (arith, sums_le measured r lr hr, chosen_shares_are shares measured.chosen r lr hr))
+
+-- ---- a segment's pull, whatever the uses are that have these shares and sums
+
+module _ {z : Size} {b l s c sums : List ℕ} {u v : List ℕ} (shares : Shares z b u l s) (running : Running z u c sums) (shares₂ : Shares z b v l s) (running₂ : Running z v c sums) where
+  module _ (r : ℕ) (lr : 1 ≤ r) (hr : r ≤ z.resources) where
+    share_same : (i : ℕ) → 1 ≤ i → i ≤ z.segments → chosen_share (tables z b u l) c r i ≡ chosen_share (tables z b v l) c r i
+    share_same i li hi = sym (share_is shares running.chosen i r li hi lr hr) ∙ share_is shares₂ running₂.chosen i r li hi lr hr
+
+    holds_same : holds (tables z b u l) c r ≡ holds (tables z b v l) c r
+    unfolding holds
+    holds_same = ap (λ (n : ℕ). leb n (limit_at l r)) (sym (running.sums_are b l r lr hr) ∙ running₂.sums_are b l r lr hr)
+
+    surplus_same : surplus (tables z b u l) c r ≡ surplus (tables z b v l) c r
+    unfolding surplus
+    surplus_same =
+        ap₂ (λ (h : Bool) (n : ℕ). pick h 0 (n - 10_000)) holds_same
+        (sum_cong z.segments (chosen_share (tables z b u l) c r) (chosen_share (tables z b v l) c r) share_same)
+
+  pub pull_same : (i : ℕ) → 1 ≤ i → i ≤ z.segments → pull (tables z b u l) c i ≡ pull (tables z b v l) c i
+  unfolding pull pull_by
+  pull_same i li hi =
+      sum_cong z.resources (pull_by (tables z b u l) c i) (pull_by (tables z b v l) c i)
+      (λ r lr hr. ap₂ ◌*◌ (share_same r lr hr i li hi) (surplus_same r lr hr))
 
 -- ---- the sums of shares, step by step
 

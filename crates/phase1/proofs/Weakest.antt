@@ -1,6 +1,6 @@
 -- The weakest segment: of the ratios, each with its segment's number, the least.
 use Prim.Native.Nat.{ℕ, zero, suc, ◌+◌, ◌*◌, ◌/◌, ◌≤◌, ◌<◌}
-use mathlib.Core.Path.{◌≡◌, refl, ap, sym, ◌∙◌}
+use mathlib.Core.Path.{◌≡◌, refl, ap, ap₂, sym, ◌∙◌}
 use mathlib.Core.Bool.{Bool, true, false}
 use mathlib.Core.List.{List}
 use Rattle.std.specs.Prelude.{Option, None, Some}
@@ -13,10 +13,14 @@ use native.Mathlib.Omega.{arith}
 use borrow.Author.Tests.{lt-ltb, le-ltb, ltb-true, ltb-false}
 use lib.Dec.{ltb}
 use Rattle.base.specs.Choice.{pick}
-use Rattle.base.specs.Over.{best}
+use Rattle.base.specs.Over.{best, better_of}
+use Rattle.base.proofs.Best.{best_le}
 use Rattle.rules.specs.Table.{Table}
 use Rattle.rules.specs.Phases.{chosen_benefit, pull, pulls, ratio, lesser_ratio, weakest}
-use Rattle.phase1.specs.Reduce.{segment_in, ratio_at}
+use Rattle.tables.specs.declared.Size.{Size}
+use Rattle.tables.specs.Arrays.{tables, Running}
+use Rattle.phase1.specs.Reduce.{Shares, segment_in, ratio_at}
+use Rattle.phase1.proofs.Pulls.{pull_same}
 use Rattle.phase1.proofs.Reduced.{reduced}
 
 -- ---- the lesser of two, by the ratio and then by the number
@@ -88,3 +92,29 @@ module _ (t : Table) (c : List ℕ) where
       let least : reduce lesser (ratios t.segments) ≡ weak_at (best t.segments (pulls t c) (lesser_ratio t c)) =
       reduced (pulls t c) (lesser_ratio t c) (λ i. (ratio t c i, i)) lesser turn t.segments in
       ap (option_map (λ (q : ℕ × ℕ). q.1)) (e ∙ least) ∙ segment_of (best t.segments (pulls t c) (lesser_ratio t c))
+
+-- ---- the weakest segment, whatever the uses are that have these shares and sums
+
+best_cong : (n : ℕ) (p q : ℕ → Bool) (f g : ℕ → ℕ → Bool) → ((k : ℕ) → 1 ≤ k → k ≤ n → p k ≡ q k)
+    → ((a b : ℕ) → 1 ≤ a → a ≤ n → 1 ≤ b → b ≤ n → f a b ≡ g a b) → best n p f ≡ best n q g
+unfolding best better_of
+best_cong zero p q f g h e = refl
+best_cong (suc n) p q f g h e =
+    ap (λ (b : ℕ). better_of p f b (suc n)) (best_cong n p q f g (λ k l m. h k l (omega arith)) (λ a b l m l₂ m₂. e a b l (omega arith) l₂ (omega arith)))
+    ∙ go (best n q g) (best_le n q g)
+  where
+    go : (b : ℕ) → b ≤ n → better_of p f b (suc n) ≡ better_of q g b (suc n)
+    go zero m = rw (h (suc n) (omega arith) (omega arith)) refl
+    go (suc b) m = rw (h (suc n) (omega arith) (omega arith), e (suc n) (suc b) (omega arith) (omega arith) (omega arith) (omega arith)) refl
+
+module _ {z : Size} {b l s c sums : List ℕ} {u v : List ℕ} (shares : Shares z b u l s) (running : Running z u c sums) (shares₂ : Shares z b v l s) (running₂ : Running z v c sums) where
+  ratio_same : (i : ℕ) → 1 ≤ i → i ≤ z.segments → ratio (tables z b u l) c i ≡ ratio (tables z b v l) c i
+  unfolding ratio chosen_benefit
+  ratio_same i li hi = ap (λ (n : ℕ). chosen_benefit (tables z b u l) c i * 1_000_000 / n) (pull_same shares running shares₂ running₂ i li hi)
+
+  pub weakest_same : weakest (tables z b u l) c ≡ weakest (tables z b v l) c
+  unfolding weakest pulls lesser_ratio
+  weakest_same =
+      best_cong z.segments (pulls (tables z b u l) c) (pulls (tables z b v l) c) (lesser_ratio (tables z b u l) c) (lesser_ratio (tables z b v l) c)
+      (λ i li hi. ap (ltb 0) (pull_same shares running shares₂ running₂ i li hi))
+      (λ i k li hi lk hk. ap₂ ltb (ratio_same i li hi) (ratio_same k lk hk))

@@ -1,10 +1,11 @@
 // A programme weighed against the limits: surpluses, pulls, and the weakest segment.
-ghost use Rattle.std.specs.Prelude.{◌≡◌, ℕ, ◌-◌, ◌*◌, ◌/◌, ◌^◌, ◌<◌, ◌≤◌, get_or, length};
+ghost use Rattle.std.specs.Prelude.{◌≡◌, List, ℕ, ◌-◌, ◌*◌, ◌/◌, ◌^◌, ◌<◌, ◌≤◌, get_or, length};
 ghost use Rattle.base.specs.Over.{sum};
 ghost use Rattle.rules.specs.District.{most_resources};
 ghost use Rattle.rules.specs.Phases.{within, surplus, pull, weakest};
+ghost use Rattle.tables.specs.Arrays.{tables, Running};
 ghost use Rattle.tables.specs.Views.{table_in, leaders_in};
-ghost use Rattle.phase1.specs.Reduce.{ShareSums, Measured, Surpluses, ToStep, ratio_at, row_pull, segment_in};
+ghost use Rattle.phase1.specs.Reduce.{Shares, ShareSums, Measured, Surpluses, ToStep, ratio_at, row_pull, segment_in};
 ghost use Rattle.phase1.specs.Views.{SharesIn};
 
 use crate::shares::Summed;
@@ -78,9 +79,11 @@ impl Weighed<'_> {
         Some((ratio_of(benefit, pulled), i))
     }
 
-    // Of the segments that pull the one of least ratio, of equals the lowest.
+    // Of the segments that pull the one of least ratio, of equals the lowest. It reads no uses, so it is the weakest segment of every
+    // table, whatever its uses are, whose shares and sums they are.
     fn weakest(&self) -> Option<usize>
-        ensures { result ≡ segment_in (weakest (table_in self.now.planning.now.t) self.now.planning.now.draft.choice) }
+        ensures segment { result ≡ segment_in (weakest (table_in self.now.planning.now.t) self.now.planning.now.draft.choice) }
+        ensures any_uses { let p = self.now.planning.now in let t = p.t in let b = t.benefits.entries.now in let l = t.limits.entries.now in (u : List ℕ) → Shares t.size b u l self.now.summed.now.shares.now → Running t.size u p.draft.choice p.draft.sums → result ≡ segment_in (weakest (tables t.size b u l) p.draft.choice) }
     {
         let over = self.surpluses();
         (0..self.planning.t.size.segments)

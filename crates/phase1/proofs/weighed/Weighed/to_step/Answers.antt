@@ -7,4 +7,4 @@ pub returns-then-limits_hold : goal.returns-then-limits_hold
 returns-then-limits_hold c = found_within _ _ _ (sym c.if-limits_hold.true ∙ c.limits_hold.ensures)
 
 pub returns : goal.returns
-returns c = found_weakest _ _ _ (sym c.if-limits_hold.false ∙ c.limits_hold.ensures) c.weakest.ensures
+returns c = found_weakest _ _ _ (sym c.if-limits_hold.false ∙ c.limits_hold.ensures) c.weakest.ensures.segment

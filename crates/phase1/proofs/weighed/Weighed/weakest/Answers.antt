@@ -1,12 +1,13 @@
 -- `phase1::Weighed::weakest` meets its contract: the least of the ratios has the rules' segment.
-use Rattle.std.proofs.Common.{rules, ◌≡◌, ◌+◌, arith}
+use Rattle.std.proofs.Common.{rules, ◌≡◌, ◌+◌, arith, ap, ◌∙◌}
 use Rattle.std.specs.List.{reduce}
 use Rattle.std.proofs.lemmas.Grind.{common_steps}
 use Rattle.std.proofs.lemmas.Iterator.{YieldsList-from_range}
 use Rattle.std.proofs.lemmas.Iterator.Consumers.{YieldsList-from_filter_map, reduce_from_yields_List}
 use Rattle.tables.specs.Views.{table_in}
-use Rattle.phase1.specs.Reduce.{ratio_at}
-use Rattle.phase1.proofs.Weakest.{lesser, ratios, weakest_is}
+use Rattle.rules.specs.Phases.{weakest}
+use Rattle.phase1.specs.Reduce.{ratio_at, segment_in}
+use Rattle.phase1.proofs.Weakest.{lesser, ratios, weakest_is, weakest_same}
 use Rattle.phase1.proofs.weighed.Weighed.weakest.Goals as goal
 
 pub returns : goal.returns
@@ -19,4 +20,8 @@ returns c =
     (YieldsList-from_filter_map _ (λ k. ratio_at t p.draft.choice (k + 1)) (YieldsList-from_range 0 n n c.filter_map.ensures.source (omega arith)) c.filter_map.ensures.closure
     (λ x r q k. search rules)) in
     let e = weakest_is t p.draft.choice least in
-    grind (arith, common_steps)
+    let is : c.map.result ≡ segment_in (weakest t p.draft.choice) = grind (arith, common_steps) in
+    record {
+      segment = is;
+      any_uses = λ u shares running. is ∙ ap segment_in (weakest_same c.args.self.now.shares_are p.running shares running);
+    }
