@@ -55,17 +55,15 @@ module _ (i k : ℕ) (low : 1 ≤ i) (above : i < k) (high : k ≤ most_segments
       go (inr h) (inr g) = (omega (arith, h, g, first, second), omega (arith, h, g, first, second))
 
 -- rows that hold for none
-pub remembers_start : (t : Table) (leader : ℕ → ℕ) (row : Row) → row.holds_for ≡ None → t.segments ≤ most_segments
-    → Remembers t leader (replicate half (replicate most_segments row))
-remembers_start t leader row none many =
-    let line : (i : ℕ) → i < half → get_or (replicate half (replicate most_segments row)) i [] ≡ replicate most_segments row =
-    λ i l. get_or-replicate half i (replicate most_segments row) [] l in
+pub remembers_start : (t : Table) (leader : ℕ → ℕ) (row : Row) {rows : List (List Row)} → row.holds_for ≡ None → t.segments ≤ most_segments
+    → length rows ≡ half → ((i : ℕ) → i < half → get_or rows i [] ≡ replicate most_segments row) → Remembers t leader rows
+remembers_start t leader row {rows} none many long line =
     record {
-      places = length-replicate half (replicate most_segments row);
+      places = long;
       places_of = λ i l. rw (line i l) (length-replicate most_segments row);
       each = λ i k low above high x y m.
           let room = place_room i k low above (omega (arith, many)) in
-          let z : (row_of (replicate half (replicate most_segments row)) i k).holds_for ≡ None =
+          let z : (row_of rows i k).holds_for ≡ None =
           rw (line (place i k).0 room.0, get_or-replicate most_segments (place i k).1 row unused room.1) none in
           cc;
     }

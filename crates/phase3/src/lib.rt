@@ -19,9 +19,9 @@ mod tops;
 mod trial;
 
 use change::Change;
-use memory::{HALF, Memory, Row};
+use memory::Memory;
 use pass::{Pass, slacks_of};
-use rules::places::{MOST_RESOURCES, MOST_SEGMENTS};
+use rules::places::MOST_SEGMENTS;
 use tables::Planning;
 use tops::tops_of;
 
@@ -59,14 +59,7 @@ pub fn improve(planning: &mut Planning<'_>) -> u64
     ensures value { let p = planning.old in result ≡ (phase3 (table_in p.t) (leaders_in p.t) p.draft.choice).count }
 {
     let tops = tops_of(planning.t);
-    let unused = Row {
-        holds_for: None,
-        excesses: [0; MOST_RESOURCES],
-    };
-    let mut memory = Memory {
-        rows: [[unused; MOST_SEGMENTS]; HALF],
-        asked: 0,
-    };
+    let mut memory = Memory::new();
     let mut changes: u64 = 0;
     while let Some(next) = next_change(planning, &tops, &mut memory) {
         next.make(planning);

@@ -1,12 +1,14 @@
 // What phase 3 remembers of the pairs of segments that it looked at (specs/Memory.antt).
-ghost use Rattle.std.specs.Prelude.{◌≡◌, ◌≤◌, ◌<◌, None, true};
-ghost use Rattle.rules.specs.District.{most_segments};
-ghost use Rattle.phase3.specs.Memory.{place, row_of};
+ghost use Rattle.std.specs.Prelude.{◌≡◌, ◌≤◌, ◌<◌, ℕ, None, true, replicate};
+ghost use Rattle.rules.specs.District.{most_segments, most_resources};
+ghost use Rattle.rules.specs.Table.{Table};
+ghost use Rattle.phase3.specs.Memory.{place, row_of, Remembers};
 ghost use Rattle.phase3.specs.Views.{holds_still, FoundAt, Kept};
 
 use crate::change::Change;
 use crate::pair::Pair;
 use rules::places::{MOST_RESOURCES, MOST_SEGMENTS};
+use std::array;
 
 // Half of the segments.
 pub const HALF: usize = MOST_SEGMENTS / 2;
@@ -56,6 +58,25 @@ fn place(i: usize, k: usize) -> (usize, usize)
 }
 
 impl Memory {
+    // Nothing is remembered: every row holds for none. By from_fn, which makes each line in its place: an array of arrays of one
+    // row is made beside and copied.
+    pub fn new() -> Memory
+        ensures { (t : Table) (leader : ℕ → ℕ) → t.segments ≤ most_segments → Remembers t leader result.rows }
+    {
+        let unused = |_|
+            ensures { result ≡ replicate most_segments (record { holds_for = None; excesses = replicate most_resources 0 }) }
+        {
+            [Row {
+                holds_for: None,
+                excesses: [0; MOST_RESOURCES],
+            }; MOST_SEGMENTS]
+        };
+        Memory {
+            rows: array::from_fn(unused),
+            asked: 0,
+        }
+    }
+
     // The pair's row still holds, so none of its changes counts.
     pub fn rules_out(&self, pair: &Pair<'_>) -> bool
         requires { Kept pair.now.pass.now self.now }

@@ -4,13 +4,12 @@ use native.Mathlib.Omega.{arith}
 use Rattle.phase3.proofs.ChangeSearch.{under_start, under_next, under_small, under_end}
 use Rattle.tables.specs.declared.view.TableView.{TableView}
 use Rattle.tables.specs.Views.{Drafted}
-use Rattle.phase3.proofs.Rows.{remembers_start}
 use Rattle.phase3.proofs.improve.Goals as goal
 
 pub loop-next-init : goal.loop-next-init
 loop-next-init c =
     let p = c.args.planning.now in
-    (refl, under_start _ _ _ _ p.running, remembers_start _ _ _ refl p.running.bounded.segments)
+    (refl, under_start _ _ _ _ p.running, c.new-memory.ensures _ _ p.running.bounded.segments)
 
 pub next_change-requires-clause-tops : goal.next_change-requires-clause-tops
 next_change-requires-clause-tops c = rw c.loop-next.invariant.0 c.tops_of-tops.ensures
