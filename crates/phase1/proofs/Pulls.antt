@@ -74,14 +74,14 @@ module _ (row over : List ℕ) (n : ℕ) (few : n ≤ most_resources) (row_long 
   weight_at = pair_at row over n (omega arith) (omega arith)
 
   pub weight_small : ((r : ℕ) → 1 ≤ r → r ≤ n → get_or row (r - 1) 0 ≤ 10_000) → ((r : ℕ) → 1 ≤ r → r ≤ n → get_or over (r - 1) 0 ≤ 640_000)
-      → (k : ℕ) (p : ℕ × ℕ) → k < length weights → p ≡ get_or weights k p → p.0 * p.1 ≤ 6_400_000_000
+      → (k : ℕ) (p : ℕ × ℕ) → k < length weights → p ≡ get_or weights k p → (p.0 ≤ 10_000) × (p.1 ≤ 640_000) × (p.0 * p.1 ≤ 6_400_000_000)
   weight_small small surplus-small k p h e =
       let at : k + 1 - 1 ≡ k = omega arith in
       let inside : k < n = omega (arith, weights_long) in
       let is : p ≡ (get_or row k 0, get_or over k 0) = e ∙ get_or_default weights k p (0, 0) h ∙ weight_at k (0, 0) inside in
       let first : p.0 ≤ 10_000 = omega (arith, ap (λ (q : ℕ × ℕ). q.0) is, rw at at (small (k + 1) (omega arith) (omega arith))) in
       let second : p.1 ≤ 640_000 = omega (arith, ap (λ (q : ℕ × ℕ). q.1) is, rw at at (surplus-small (k + 1) (omega arith) (omega arith))) in
-      mul-le-mul {n₁ = p.0} {m₁ = p.1} {n₂ = 10_000} {m₂ = 640_000} first second
+      (first, second, mul-le-mul {n₁ = p.0} {m₁ = p.1} {n₂ = 10_000} {m₂ = 640_000} first second)
 
   pub weights_sum : list_sum (map (λ (p : ℕ × ℕ). p.0 * p.1) weights) ≡ sum n (row_pull row over)
   weights_sum =

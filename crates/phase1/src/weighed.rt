@@ -103,7 +103,8 @@ impl Weighed<'_> {
     }
 }
 
-// A row of shares times the surpluses.
+// A row of shares times the surpluses. Both are taken as numbers of 32 bits, which they fit: two products of such are one
+// instruction, and two of 64 bits are ten.
 fn pull_by(resources: usize, row: &[u64; MOST_RESOURCES], over: &[u64; MOST_RESOURCES]) -> u64
     requires resources_le_most_resources { resources ≤ most_resources }
     requires by_index { ((r : ℕ) → 1 ≤ r → r ≤ resources → get_or row.now (r - 1) 0 ≤ 10_000) × ((r : ℕ) → 1 ≤ r → r ≤ resources → get_or over.now (r - 1) 0 ≤ 640_000) }
@@ -112,7 +113,7 @@ fn pull_by(resources: usize, row: &[u64; MOST_RESOURCES], over: &[u64; MOST_RESO
     row[..resources]
         .iter()
         .zip(over)
-        .map(|(share, beyond)| share * beyond)
+        .map(|(share, beyond)| u64::from(*share as u32) * u64::from(*beyond as u32))
         .sum()
 }
 
